@@ -1,0 +1,151 @@
+//! Messages: all that processes, servers and kernels say to each other.
+#![tactic(auto)]
+
+use arrayvec::ArrayVec;
+use dm_link::{Addr, Link, Pid};
+
+/// The name of a message: who sent it, how many that sender had sent before, and whether it is a kernel's answer to
+/// the message of that name.
+#[derive(Clone, Copy, Debug, PartialEq, Eq, PartialOrd, Ord, Hash)]
+pub struct MsgId {
+    pub from: Pid,
+    pub n: u32,
+    pub answer: bool,
+}
+
+/// The bytes of a message, at most 256 (64 in format 1).
+pub type Body = ArrayVec<u8, 256>;
+
+/// The links that a user message encloses, at most 4.
+pub type Enclosed = ArrayVec<Link, 4>;
+
+/// A message, with the addresses of its receiver and its sender.
+#[derive(Drop)]
+pub struct Message {
+    pub id: MsgId,
+    pub to: Addr,
+    pub sender: Addr,
+    pub what: What,
+}
+
+/// Who waits to hear how a requested move ended: the request's number, and the asker's address.
+#[derive(Clone, Copy, Debug, PartialEq, Eq)]
+pub struct Asker {
+    pub n: u32,
+    pub addr: Addr,
+}
+
+/// What a message says.
+#[derive(Drop)]
+pub enum What {
+    /// Sent by a process or a server over a link, whose code and channel it carries.
+    User {
+        code: u32,
+        channel: u8,
+        body: Body,
+        links: Enclosed,
+    },
+    /// The process is stopped, goes on, or ends.
+    Stop,
+    Resume,
+    Kill,
+    /// A piece of a data move is asked for, or comes: `base` is an address in the owner's memory.
+    Read {
+        base: u32,
+        len: u16,
+    },
+    Write {
+        base: u32,
+        bytes: Body,
+    },
+    /// The answers to a piece: the bytes read, that they are written, that the owner has ended.
+    Block {
+        bytes: Body,
+    },
+    Written,
+    Gone,
+    /// A process is to be made of an image, with up to 3 links; the answers.
+    Create {
+        image: u16,
+        links: ArrayVec<Link, 3>,
+    },
+    Created {
+        pid: Pid,
+    },
+    NoRoom,
+    /// The process is to move to a machine.
+    Migrate {
+        machine: u8,
+    },
+    /// Where a process has gone, for who sent to its old address.
+    Update {
+        about: Addr,
+    },
+    /// A process of so many blocks and state bytes wants to come; nothing but a server has no blocks.
+    Ask {
+        pid: Pid,
+        blocks: u16,
+        moves: u32,
+        size: u32,
+        asker: Option<Asker>,
+    },
+    /// It may not come: what is free.
+    Refuse {
+        pid: Pid,
+        free_slots: u8,
+        free_blocks: u16,
+    },
+    /// Parts of the state and of the memory are asked for, and come.
+    PullState {
+        pid: Pid,
+        chunk: u32,
+    },
+    State {
+        pid: Pid,
+        chunk: u32,
+        last: bool,
+        bytes: ArrayVec<u8, 512>,
+    },
+    PullBlock {
+        pid: Pid,
+        block: u8,
+    },
+    Memory {
+        pid: Pid,
+        block: u8,
+        bytes: [u8; 256],
+    },
+    /// All has come; the process may go on there.
+    AllTaken {
+        pid: Pid,
+    },
+    Restart {
+        pid: Pid,
+    },
+    /// The process is to move to a machine, and the manager hears how that ended.
+    Move {
+        machine: u8,
+    },
+    Moved {
+        outcome: Outcome,
+    },
+    /// A migration is called off.
+    CallOff {
+        pid: Pid,
+    },
+    /// What is known of an ended process may be forgotten.
+    Bury {
+        pid: Pid,
+    },
+}
+
+/// How a requested move ended.
+#[derive(Clone, Copy, Debug, PartialEq, Eq)]
+pub enum Outcome {
+    /// The process is there.
+    Done,
+    /// There was no room.
+    NoRoom,
+    /// The process had ended.
+    Ended,
+}
