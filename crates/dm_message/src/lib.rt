@@ -1,8 +1,11 @@
 //! Messages: all that processes, servers and kernels say to each other.
 #![tactic(auto)]
 
+pub mod kind;
+
 use arrayvec::ArrayVec;
 use dm_link::{Addr, Link, Pid};
+pub use kind::MessageKind;
 
 /// The name of a message: who sent it, how many that sender had sent before, and whether it is a kernel's answer to
 /// the message of that name.
