@@ -1,2 +1,4 @@
 pub mod Names
+pub mod Places
 pub mod Plain
+pub mod Lawful

@@ -1,8 +1,10 @@
 //! A list that grows at its back and shrinks at its front.
-ghost use Rattle.std.specs.Prelude.{List, [], ◌∷◌, ◌++◌, MatchOption, OnErr, OnOk, length, option_map, remove, slice_get, ◌≡◌, ◌<◌};
+ghost use Rattle.std.specs.Prelude.{List, [], ◌∷◌, ◌++◌, IfErr, MatchOption, OnErr, OnOk, length, option_map, remove, slice_get, ◌≡◌, ◌<◌};
+ghost use Rattle.std.specs.Fn.{CalledAt};
+ghost use Rattle.std.specs.List.Retain.{IsFiltered};
 ghost use Rattle.std.specs.Option.{option_copied};
 
-use std::alloc::{AllocError, Global};
+use std::alloc::{AllocError, AllocFailed, Global};
 use std::collections::VecDeque;
 use std::marker::Model;
 
@@ -44,6 +46,18 @@ impl<T> Queue<T> {
         Ok(())
     }
 
+    /// Adds a value at the back, or hands it back where there is no memory.
+    pub fn push_or_return(&mut self, item: T) -> Result<(), T>
+        ensures ok { OnOk result (self.new ≡ self.old ++ item ∷ []) }
+        ensures err { OnErr result (self.new ≡ self.old) }
+        ensures returned { IfErr result (λ back. back ≡ item) }
+    {
+        match self.items.push_back(item) {
+            Ok(()) => Ok(()),
+            Err(AllocFailed { value, .. }) => Err(value),
+        }
+    }
+
     /// Takes the value at the front.
     pub fn pop(&mut self) -> Option<T>
         ensures { MatchOption result ((self.old ≡ []) × (self.new ≡ [])) (λ x. self.old ≡ x ∷ self.new) }
@@ -58,6 +72,16 @@ impl<T> Queue<T> {
         ensures rest { self.new ≡ remove self.old place }
     {
         self.items.remove(place).unwrap()
+    }
+
+    /// Keeps those that pass the test, in their order. It takes no memory.
+    pub fn retain<F: FnMut(&T) -> bool>(&mut self, keep: F)
+    where
+        T: Drop,
+        requires { F.IsAlwaysCallable keep }
+        ensures { IsFiltered (CalledAt F.FnMut) keep self.old self.new }
+    {
+        self.items.retain(keep);
     }
 
     /// The value at a place.

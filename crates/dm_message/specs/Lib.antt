@@ -1,3 +1,4 @@
 pub mod Ids
 pub mod Plain
 pub mod Kinds
+pub mod Lawful

@@ -1,10 +1,17 @@
 //! Messages: all that processes, servers and kernels say to each other.
 #![tactic(auto)]
 
+ghost use Rattle.std.specs.Prelude.{◌≡◌, is_some};
+ghost use Rattle.dm_link.specs.Places.{relocated};
+ghost use Rattle.dm_message.specs.Kinds.{kind_of};
+ghost use Rattle.dm_message.specs.Lawful.{is_answer};
+ghost use Rattle.dm_message.specs.Plain.{plain_message, plain_what};
+
+mod copies;
 pub mod kind;
 
 use arrayvec::ArrayVec;
-use dm_link::{Addr, Link, Pid};
+use dm_link::{Addr, Link, Pid, Placeless};
 pub use kind::MessageKind;
 
 /// The name of a message: who sent it, how many that sender had sent before, and whether it is a kernel's answer to
@@ -152,3 +159,56 @@ pub enum Outcome {
     /// The process had ended.
     Ended,
 }
+
+impl MessageKind {
+    /// Whether the kernel without machines has this kind too: 1 to 12, 23 and 24.
+    pub fn is_plain(self) -> bool
+        ensures { (w : _) → kind_of w ≡ self → result ≡ is_some (plain_what w) }
+    {
+        matches!(self.number(), 1..=12 | 23 | 24)
+    }
+
+    /// Whether a message of this kind answers a request, under its name.
+    pub fn is_answer(self) -> bool
+        ensures { result ≡ is_answer self }
+    {
+        matches!(
+            self,
+            MessageKind::Block
+                | MessageKind::Written
+                | MessageKind::Gone
+                | MessageKind::Created
+                | MessageKind::NoRoom
+                | MessageKind::Moved
+        )
+    }
+}
+
+impl What {
+    /// Whether the kernel without machines has this message too: kinds 1 to 12, 23 and 24.
+    pub fn is_plain(&self) -> bool
+        ensures { result ≡ is_some (plain_what self.now) }
+    {
+        self.kind().is_plain()
+    }
+}
+
+impl Placeless for Message {
+    ghost use Rattle.std.specs.Prelude.{◌≡◌, Option};
+    ghost use Rattle.dm_link.specs.Places.{relocated};
+    ghost use Rattle.dm_message.specs.Plain.{PlainMessage, plain_message};
+
+    ghost Plain = { Option PlainMessage };
+
+    ghost plain = { plain_message };
+
+    fn relocate(&mut self, at: u8, moves: u32)
+        ensures place { self.new ≡ record self.old { to = relocated at moves self.old.to } }
+        ensures plain { plain_message self.new ≡ plain_message self.old }
+    {
+        self.to.relocate(at, moves);
+    }
+}
+
+#[cfg(test)]
+mod tests;

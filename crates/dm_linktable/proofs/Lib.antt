@@ -1,0 +1,10 @@
+pub mod Bits
+pub mod Names
+pub mod Entries
+pub mod Search
+pub mod Edits
+pub mod Room
+pub mod Plain
+pub mod Places
+pub mod Followed
+pub mod Tables

@@ -1,0 +1,49 @@
+-- A table as the list of its slots, each empty or with a link.
+use Rattle.std.specs.Prelude.{ℕ, Bool, false, List, slice_index_or}
+use Rattle.std.specs.declared.option.Option.{Option}
+use Rattle.std.specs.declared.option.Option.TheVariants.{None, Some}
+use Rattle.std.specs.declared.result.Result.{Result}
+use Rattle.std.specs.declared.result.Result.TheVariants.{Ok, Err}
+use Rattle.std.specs.Option.{is_none, option_map}
+use Rattle.std.specs.List.{position}
+use Rattle.dm_link.specs.declared.Pid.{Pid}
+use Rattle.dm_link.specs.declared.Kind.{Kind}
+use Rattle.dm_link.specs.declared.Kind.TheVariants.{General, Reply}
+use Rattle.dm_link.specs.declared.Link.{Link}
+use Rattle.dm_link.specs.Places.{is_behind, retargeted_link}
+use Rattle.dm_link.specs.Plain.{PlainLink, plain_link}
+use Rattle.dm_linktable.specs.declared.NoCopy.{NoCopy}
+use Rattle.dm_linktable.specs.declared.NoCopy.TheVariants as no
+
+-- what slot n holds: nothing where it is empty, or where there is no such slot
+abbrev pub link_at : {L : Type 0} → List (Option L) → ℕ → Option L
+link_at slots n = slice_index_or slots n None
+
+-- the lowest empty slot
+abbrev pub first_empty : {L : Type 0} → List (Option L) → Option ℕ
+first_empty slots = position is_none slots
+
+abbrev pub copy_of_kind : Kind → Option ℕ → Result ℕ NoCopy
+copy_of_kind Reply empty = Err no.ReplyLink
+copy_of_kind General None = Err no.Full
+copy_of_kind General (Some n) = Ok n
+
+abbrev pub copy_of_link : Option Link → Option ℕ → Result ℕ NoCopy
+copy_of_link None empty = Err no.Empty
+copy_of_link (Some l) empty = copy_of_kind l.kind empty
+
+-- the slot that a copy of slot n's link goes into, or why there is none
+abbrev pub copy_of : List (Option Link) → ℕ → Result ℕ NoCopy
+copy_of slots n = copy_of_link (link_at slots n) (first_empty slots)
+
+-- a link of this process that knows fewer moves of it
+abbrev pub slot_is_behind : Pid → ℕ → Option Link → Bool
+slot_is_behind about moves None = false
+slot_is_behind about moves (Some l) = is_behind about moves l.addr
+
+-- each slot's link where they are told that the process is at another place
+abbrev pub retargeted_slot : Pid → ℕ → ℕ → Option Link → Option Link
+retargeted_slot about at moves s = option_map (retargeted_link about at moves) s
+
+abbrev pub plain_slot : Option Link → Option PlainLink
+plain_slot s = option_map plain_link s

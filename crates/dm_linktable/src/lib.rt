@@ -1,0 +1,149 @@
+//! The links that a process holds, each in a slot of its table, by whose number the process names it (1977).
+#![tactic(auto)]
+
+ghost use Rattle.std.specs.Prelude.{◌≡◌, ℕ, ◌⊎◌, List, length, map, count_by, slice_set, IfOk, IfErr, MatchResult, option_copied, Some, None};
+ghost use Rattle.std.proofs.Math.ListN.{replicate};
+ghost use Rattle.std.specs.Option.{is_none};
+ghost use Rattle.dm_linktable.specs.Slots.{copy_of, first_empty, link_at, plain_slot, retargeted_slot, slot_is_behind};
+
+mod index;
+mod slots;
+
+use arrayvec::ArrayVec;
+use dm_link::{Kind, Link, Pid};
+use index::Index;
+use slots::{count_free, empty_slots, first_free, retarget_slots};
+use std::marker::Model;
+
+/// A table of 32 or 128 slots, each empty or with a link.
+///
+/// Its model is the list of its slots.
+#[derive(Drop)]
+pub struct Table {
+    slots: ArrayVec<Option<Link>, 128>,
+    /// Which slots lead to which process, so that `retarget` visits those alone.
+    index: Index,
+}
+
+impl Model for Table {
+    ghost use Rattle.std.specs.Prelude.{List};
+    ghost use Rattle.std.specs.declared.option.Option.{Option};
+    ghost use Rattle.dm_link.specs.declared.Link.{Link};
+
+    ghost Value = { List (Option Link) };
+
+    ghost use Rattle.dm_linktable.specs.Index.{IsTable};
+
+    ghost view = { λ t. t.slots.items };
+
+    ghost invariant = { λ t. IsTable t.slots.items t.index.items };
+}
+
+/// Why a link isn't copied.
+#[derive(Clone, Copy, Debug, PartialEq, Eq)]
+pub enum NoCopy {
+    /// There is no link in that slot, or no such slot.
+    Empty,
+    /// A reply link serves for one message, and is never copied (1977).
+    ReplyLink,
+    /// No slot is empty.
+    Full,
+}
+
+impl Table {
+    /// An empty table of 32 or 128 slots.
+    pub fn new(cap: u8) -> Self
+        requires { (cap ≡ 32) ⊎ (cap ≡ 128) }
+        ensures { result ≡ replicate cap None }
+    {
+        Table {
+            slots: empty_slots(cap),
+            index: ArrayVec::new(),
+        }
+    }
+
+    /// How many slots.
+    pub fn cap(&self) -> u8
+        ensures cap { result ≡ length self.now }
+        ensures known { (result ≡ 32) ⊎ (result ≡ 128) }
+    {
+        self.slots.len() as u8
+    }
+
+    /// How many slots are empty.
+    pub fn free(&self) -> u8
+        ensures { result ≡ count_by is_none self.now }
+    {
+        count_free(&self.slots)
+    }
+
+    /// The link in a slot.
+    pub fn get(&self, slot: u8) -> Option<&Link>
+        ensures { option_copied result ≡ link_at self.now slot }
+    {
+        match self.slots.get(slot as usize) {
+            Some(Some(link)) => Some(link),
+            _ => None,
+        }
+    }
+
+    /// Puts a link into the lowest empty slot, or hands it back.
+    #[tactic(auto, using(crate::proofs::Places::first_empty_within))]
+    pub fn put(&mut self, link: Link) -> Result<u8, Link>
+        ensures slot { IfOk result (λ slot. first_empty self.old ≡ Some slot) }
+        ensures full { IfErr result (λ back. (first_empty self.old ≡ None) × (back ≡ link)) }
+        ensures after { MatchResult result (λ slot. self.new ≡ slice_set self.old slot (Some link)) (λ _. self.new ≡ self.old) }
+    {
+        match first_free(&self.slots) {
+            Some(slot) => {
+                let slot = slot as u8;
+                index::add(&mut self.index, link.addr.pid, slot);
+                self.slots[slot as usize] = Some(link);
+                Ok(slot)
+            },
+            None => Err(link),
+        }
+    }
+
+    /// Takes the link out of a slot.
+    pub fn take(&mut self, slot: u8) -> Option<Link>
+        ensures link { result ≡ link_at self.old slot }
+        ensures after { self.new ≡ slice_set self.old slot None }
+    {
+        let link = *self.get(slot)?;
+        index::remove(&mut self.index, link.addr.pid, slot);
+        self.slots[slot as usize] = None;
+        Some(link)
+    }
+
+    /// Copies a general link into the lowest empty slot.
+    pub fn copy(&mut self, slot: u8) -> Result<u8, NoCopy>
+        ensures answer { result ≡ copy_of self.old slot }
+        ensures after { MatchResult result (λ new. self.new ≡ slice_set self.old new (link_at self.old slot)) (λ _. self.new ≡ self.old) }
+    {
+        let link = match self.get(slot) {
+            Some(link) => *link,
+            None => return Err(NoCopy::Empty),
+        };
+        if link.kind == Kind::Reply {
+            return Err(NoCopy::ReplyLink);
+        }
+        match self.put(link) {
+            Ok(new) => Ok(new),
+            Err(_) => Err(NoCopy::Full),
+        }
+    }
+
+    /// Sets the links to a process that know fewer moves of it than these to where it is; answers how many changed.
+    pub fn retarget(&mut self, about: Pid, at: u8, moves: u32) -> u8
+        ensures links { self.new ≡ map (retargeted_slot about at moves) self.old }
+        ensures changed { result ≡ count_by (slot_is_behind about moves) self.old }
+        ensures plain { map plain_slot self.new ≡ map plain_slot self.old }
+    {
+        let slots = index::slots_of(&self.index, about);
+        retarget_slots(&mut self.slots, slots, about, at, moves)
+    }
+}
+
+#[cfg(test)]
+mod tests;

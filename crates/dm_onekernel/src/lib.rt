@@ -1,6 +1,0 @@
-//! The kernel without machines: its definitions, and the types that they share with the program.
-#![tactic(auto)]
-
-pub mod boot;
-
-pub use boot::{Boot, BootImage, BootMachine, BootProcess, Format};
