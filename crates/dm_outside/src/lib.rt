@@ -1,0 +1,65 @@
+//! The outside of the program: a shelf of named files that it reads, and a sink of bytes that it
+//! writes. Both count their faults, so that a status that blames the outside has its cause.
+#![tactic(auto)]
+
+ghost use Rattle.std.specs.Prelude.{◌≡◌, ◌<◌, ◌≤◌, ℕ, List, length, take, IfOk, OnErr};
+ghost use Rattle.std.specs.declared.option.Option.{Option};
+ghost use Rattle.dm_outside.specs.Outside.{RoseOrFull, ReadsTold, appended};
+
+mod limit;
+pub mod mem_shelf;
+pub mod mem_sink;
+pub mod real_shelf;
+pub mod real_sink;
+
+pub use mem_shelf::MemShelf;
+pub use mem_sink::MemSink;
+pub use real_shelf::RealShelf;
+pub use real_sink::RealSink;
+
+/// A read or a write that moved nothing, and was counted as a fault.
+#[derive(Clone, Copy, Debug, PartialEq, Eq)]
+pub struct Failed;
+
+/// No memory was left.
+#[derive(Clone, Copy, Debug, PartialEq, Eq)]
+pub struct NoMemory;
+
+/// Named files that can be read from any place on.
+pub trait Shelf {
+    // The bytes of each file by its name, None for a missing one, where the shelf tells them.
+    ghost told: { Self → Option (List ℕ → Option (List ℕ)) };
+
+    // How many calls failed so far.
+    ghost faults: { Self → ℕ };
+
+    /// Reads bytes of a file, from the byte at `from` on, and says how many. None are left
+    /// where it says 0 and there was room.
+    fn read(&mut self, name: &str, from: u64, into: &mut [u8]) -> Result<usize, Failed>
+        ensures same { told self.new ≡ told self.old }
+        ensures within { IfOk result (λ n. n ≤ length into.old) }
+        ensures bytes { ReadsTold (told self.old) name.now from result into.new }
+        ensures failed { OnErr result (RoseOrFull (faults self.old) (faults self.new)) }
+        ensures counts { faults self.old ≤ faults self.new };
+}
+
+/// Where bytes go, one after the other.
+pub trait Sink {
+    // The bytes that it took so far, where the sink tells them.
+    ghost told: { Self → Option (List ℕ) };
+
+    // How many calls failed so far.
+    ghost faults: { Self → ℕ };
+
+    /// Takes the first bytes of a piece, and says how many: at least one of a piece that isn't empty.
+    fn write(&mut self, from: &[u8]) -> Result<usize, Failed>
+        ensures within { IfOk result (λ n. n ≤ length from.now) }
+        ensures takes { IfOk result (λ n. told self.new ≡ appended (told self.old) (take n from.now)) }
+        ensures moves { IfOk result (λ n. 0 < length from.now → 0 < n) }
+        ensures same { OnErr result (told self.new ≡ told self.old) }
+        ensures failed { OnErr result (RoseOrFull (faults self.old) (faults self.new)) }
+        ensures counts { faults self.old ≤ faults self.new };
+}
+
+#[cfg(test)]
+mod tests;

@@ -1,0 +1,112 @@
+//! A sink in memory, for tests.
+ghost use Rattle.std.specs.Prelude.{◌≡◌, ◌≤◌, ◌<◌, ◌++◌, [], length, take, IfOk, OnErr, Some, None, is_err};
+ghost use Rattle.std.specs.Result.{result_ok};
+ghost use Rattle.dm_outside.specs.Outside.{RoseOrFull, appended};
+ghost use Rattle.dm_outside.specs.Memory.{write_count, after_write};
+
+use crate::limit::{is_to_fail, within};
+use crate::{Failed, NoMemory, Sink};
+use std::alloc::Global;
+use std::marker::Model;
+
+/// Bytes in memory. A write fails exactly at a listed call, counted from 1, or, with a piece that
+/// isn't empty, where the room is full.
+#[derive(Drop)]
+pub struct MemSink {
+    bytes: Vec<u8>,
+    room: usize,
+    fails: Vec<u64>,
+    limit: Option<usize>,
+    calls: u64,
+    faults: u64,
+}
+
+impl Model for MemSink {
+    ghost use Rattle.std.specs.Prelude.{◌≤◌, vec_len, vec_capacity};
+    ghost use Rattle.dm_outside.specs.Memory.{SinkState, LetsPass};
+
+    ghost Value = { SinkState };
+
+    ghost view = { λ s. record { bytes = s.bytes.items; room = s.room; fails = s.fails.items; limit = s.limit; calls = s.calls; faults = s.faults } };
+
+    ghost invariant = { λ s. LetsPass s.limit × (vec_len s.bytes ≤ s.room) × (s.room ≤ vec_capacity s.bytes) };
+}
+
+impl MemSink {
+    /// An empty sink with room for so many bytes, and the numbers of the calls that are to fail.
+    pub fn new(alloc: Global, room: usize, fails: Vec<u64>) -> Result<Self, NoMemory>
+        ensures { IfOk result (λ s. s ≡ record { bytes = []; room = room; fails = fails.items; limit = None; calls = 0; faults = 0 }) }
+    {
+        match Vec::with_capacity(alloc, room) {
+            Ok(bytes) => Ok(MemSink {
+                bytes,
+                room,
+                fails,
+                limit: None,
+                calls: 0,
+                faults: 0,
+            }),
+            Err(_) => Err(NoMemory),
+        }
+    }
+
+    /// Lets each later write take at most `n` bytes.
+    pub fn cut(&mut self, n: usize)
+        requires { 0 < n }
+        ensures { self.new ≡ record self.old { limit = Some n } }
+    {
+        self.limit = Some(n);
+    }
+
+    /// The bytes that were taken.
+    pub fn bytes(&self) -> &[u8]
+        ensures { result.now ≡ self.now.bytes }
+    {
+        self.bytes.as_slice()
+    }
+
+    /// How many writes were made.
+    pub fn calls(&self) -> u64
+        ensures { result ≡ self.now.calls }
+    {
+        self.calls
+    }
+
+    /// How many writes failed.
+    pub fn faults(&self) -> u64
+        ensures { result ≡ self.now.faults }
+    {
+        self.faults
+    }
+}
+
+impl Sink for MemSink {
+    ghost use Rattle.std.specs.Prelude.{Some};
+
+    ghost told = { λ s. Some s.bytes };
+
+    ghost faults = { λ s. s.faults };
+
+    fn write(&mut self, from: &[u8]) -> Result<usize, Failed>
+        ensures within { IfOk result (λ n. n ≤ length from.now) }
+        ensures takes { IfOk result (λ n. Some self.new.bytes ≡ Some (self.old.bytes ++ take n from.now)) }
+        ensures moves { IfOk result (λ n. 0 < length from.now → 0 < n) }
+        ensures same { OnErr result (Some self.new.bytes ≡ Some self.old.bytes) }
+        ensures failed { OnErr result (RoseOrFull self.old.faults self.new.faults) }
+        ensures counts { self.old.faults ≤ self.new.faults }
+        ensures count { result_ok result ≡ write_count self.old (length from.now) }
+        ensures after { self.new ≡ after_write self.old (result_ok result) from.now }
+    {
+        self.calls = self.calls.saturating_add(1);
+        let free = self.room - self.bytes.len();
+        if is_to_fail(&self.fails, self.calls) || (free == 0 && !from.is_empty()) {
+            self.faults = self.faults.saturating_add(1);
+            return Err(Failed);
+        }
+        let n = within(self.limit, free.min(from.len()));
+        match self.bytes.extend_from_slice(&from[..n]) {
+            Ok(()) => Ok(n),
+            Err(_) => unreachable!(),
+        }
+    }
+}
