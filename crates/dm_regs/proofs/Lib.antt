@@ -1,0 +1,5 @@
+pub mod Concat
+pub mod Copies
+pub mod Lengths
+pub mod Ranges
+pub mod Words

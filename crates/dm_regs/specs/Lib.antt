@@ -1,0 +1,5 @@
+pub mod Faults
+pub mod Instructions
+pub mod Kept
+pub mod Opcodes
+pub mod WholeBlocks

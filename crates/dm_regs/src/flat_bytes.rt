@@ -1,0 +1,70 @@
+//! A memory in one piece.
+ghost use Rattle.std.specs.Prelude.{◌≡◌, ◌+◌, ◌-◌, ◌*◌, ◌≤◌, ◌++◌, IfOk, drop, length, replicate, take};
+
+use crate::storage::{Cells, NoMemory};
+use std::alloc::Global;
+use std::marker::Model;
+
+/// A memory of 1 to 256 times 256 bytes, in one piece.
+#[derive(Drop)]
+pub struct Flat {
+    bytes: Vec<u8>,
+}
+
+impl Model for Flat {
+    ghost use Rattle.std.specs.Prelude.{List, ℕ, ◌≤◌, length};
+
+    ghost Value = { List ℕ };
+
+    ghost view = { λ m. m.bytes.items };
+
+    ghost invariant = { λ m. length m.bytes.items ≤ 65536 };
+}
+
+impl Flat {
+    /// An image, and zeros up to so many times 256 bytes.
+    pub fn from_image(alloc: Global, image: &[u8], blocks: u16) -> Result<Flat, NoMemory>
+        requires most { blocks ≤ 256 }
+        requires fits { length image.now ≤ 256 * blocks }
+        ensures ok { IfOk result (λ m. m ≡ image.now ++ replicate (256 * blocks - length image.now) 0) }
+    {
+        let mut bytes = Vec::from_elem(alloc, 0, 256 * usize::from(blocks))?;
+        write_at(&mut bytes, 0, image);
+        Ok(Flat { bytes })
+    }
+}
+
+impl Cells for Flat {
+    ghost use Rattle.std.specs.Prelude.{ℕ};
+
+    ghost bytes = { λ m. m };
+
+    fn len(&self) -> u32 {
+        self.bytes.len() as u32
+    }
+
+    fn byte(&self, at: u32) -> u8 {
+        self.bytes[at as usize]
+    }
+
+    fn set_byte(&mut self, at: u32, value: u8) {
+        self.bytes[at as usize] = value;
+    }
+
+    fn copy_out(&self, at: u32, into: &mut [u8]) {
+        let at = at as usize;
+        into.copy_from_slice(&self.bytes[at..at + into.len()]);
+    }
+
+    fn copy_in(&mut self, at: u32, from: &[u8]) {
+        write_at(&mut self.bytes, at as usize, from);
+    }
+}
+
+/// Copies all of a slice to a place in another.
+pub fn write_at(bytes: &mut [u8], at: usize, from: &[u8])
+    requires { at + length from.now ≤ length bytes.old }
+    ensures { bytes.new ≡ take at bytes.old ++ from.now ++ drop (at + length from.now) bytes.old }
+{
+    bytes[at..at + from.len()].copy_from_slice(from);
+}

@@ -1,0 +1,22 @@
+//! The register machine that every process runs on: sixteen registers, a program counter and a
+//! memory of bytes.
+#![tactic(auto)]
+
+mod blocks;
+mod flat_bytes;
+mod laws;
+mod machine;
+mod opcodes;
+mod operations;
+mod registers;
+mod storage;
+#[cfg(test)]
+mod tests;
+
+pub use blocks::Memory;
+pub use flat_bytes::Flat;
+pub use laws::{instructions_keep_lengths, instructions_keep_ranges, words_spell_their_bytes};
+pub use machine::step;
+pub use opcodes::Opcode;
+pub use registers::{Fault, Regs, Stepped};
+pub use storage::{Cells, NoMemory};
