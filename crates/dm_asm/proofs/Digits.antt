@@ -1,0 +1,38 @@
+-- Numbers that are not told apart from 2^32 on.
+use Rattle.std.proofs.Common.{ℕ, Bool, true, false, ◌≡◌, ◌+◌, ◌*◌, ◌^◌, ◌<◌, List, [], ◌∷◌, length, drop, get_or, min, refl, ap, sym, ◌∙◌, add-one, drop-cons, arith}
+use Rattle.std.specs.Prelude.{Option, Some, None, option_map}
+use Rattle.std.specs.Option.{option_and_then}
+use Rattle.dm_asm.specs.Numbers.{base, digit, going_on}
+
+-- a number, at most 2^32
+abbrev pub capped : Option ℕ → Option ℕ
+capped n = option_map (λ x. min x (2 ^ 32)) n
+
+-- two numbers that are not told apart, with one digit more
+alike-digit : (hex : Bool) (x y d : ℕ) → min x (2 ^ 32) ≡ min y (2 ^ 32) → min (x * base hex + d) (2 ^ 32) ≡ min (y * base hex + d) (2 ^ 32)
+alike-digit true x y d h = omega arith
+alike-digit false x y d h = omega arith
+
+-- the same, behind a digit
+alike-next : (hex : Bool) (x y : ℕ) (cs : List ℕ) (o : Option ℕ) → ((d : ℕ) → capped (going_on hex (x * base hex + d) cs) ≡ capped (going_on hex (y * base hex + d) cs)) → capped (option_and_then (λ d. going_on hex (x * base hex + d) cs) o) ≡ capped (option_and_then (λ d. going_on hex (y * base hex + d) cs) o)
+alike-next hex x y cs None h = refl
+alike-next hex x y cs (Some d) h = h d
+
+-- two numbers that are not told apart go on alike
+alike : (hex : Bool) (x y : ℕ) (cs : List ℕ) → min x (2 ^ 32) ≡ min y (2 ^ 32) → capped (going_on hex x cs) ≡ capped (going_on hex y cs)
+alike hex x y [] h = ap Some h
+alike hex x y (c ∷ cs) h =
+    alike-next hex x y cs (digit hex c) (λ d. alike hex (x * base hex + d) (y * base hex + d) cs (alike-digit hex x y d h))
+
+-- one digit is read
+pub digit-read : (hex : Bool) (v new d i : ℕ) (xs : List ℕ) → i < length xs → Some d ≡ digit hex (get_or xs i 0) → new ≡ min (v * base hex + d) (2 ^ 32) → capped (going_on hex new (drop (i + 1) xs)) ≡ capped (going_on hex v (drop i xs))
+digit-read hex v new d i xs h e f =
+    let a : capped (going_on hex new (drop (i + 1) xs)) ≡ capped (going_on hex (v * base hex + d) (drop (i + 1) xs)) = alike hex new (v * base hex + d) (drop (i + 1) xs) (omega arith) in
+    let b : drop i xs ≡ get_or xs i 0 ∷ drop (i + 1) xs = drop-cons xs i 0 h ∙ ap (λ (k : ℕ). get_or xs i 0 ∷ drop k xs) (sym (add-one i)) in
+    a ∙ sym (rw (b, ← e) refl)
+
+-- what is no digit ends all
+pub digit-missing : (hex : Bool) (v i : ℕ) (xs : List ℕ) → i < length xs → None ≡ digit hex (get_or xs i 0) → capped (going_on hex v (drop i xs)) ≡ None
+digit-missing hex v i xs h e =
+    let b : drop i xs ≡ get_or xs i 0 ∷ drop (i + 1) xs = drop-cons xs i 0 h ∙ ap (λ (k : ℕ). get_or xs i 0 ∷ drop k xs) (sym (add-one i)) in
+    rw (b, ← e) refl

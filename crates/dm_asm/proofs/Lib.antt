@@ -1,0 +1,4 @@
+pub mod Cuts
+pub mod Defined
+pub mod Digits
+pub mod Meant

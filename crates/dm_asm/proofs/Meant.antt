@@ -1,0 +1,48 @@
+-- What the loops leave is what a text means.
+use Rattle.std.proofs.Common.{ℕ, List, [], ◌∷◌, ◌++◌, ◌≡◌, refl, ap, sym, ◌∙◌, append_assoc}
+use Rattle.std.specs.Prelude.{Result, Ok, Err}
+use Rattle.std.proofs.lemmas.List.{append-nil}
+use Rattle.dm_asm.specs.declared.labels.Labels.{Labels}
+use Rattle.dm_asm.specs.declared.refusals.Why.{Why}
+use Rattle.dm_asm.specs.declared.refusals.AsmNo.{AsmNo}
+use Rattle.dm_asm.specs.declared.refusals.AsmNo.TheVariants.{Fault, NoMemory}
+use Rattle.dm_asm.specs.Assembled.{Answers, assembled, places_of, with_lines}
+use Rattle.dm_asm.specs.Labels.{place_in}
+use Rattle.dm_asm.specs.Lines.{lines}
+use Rattle.dm_asm.specs.Numbers.{number_of}
+use Rattle.dm_asm.specs.Operands.{wanted_number}
+use Rattle.dm_asm.specs.Places.{place_from}
+use Rattle.dm_asm.specs.Refusals.{◌>>=◌, behind}
+use Rattle.dm_asm.specs.Statements.{listed_bytes}
+
+-- with the table of its labels, the lines of a text give what it means
+pub meant : (labels : Labels) (text : List ℕ) → ((q : List ℕ) → place_in labels q ≡ place_from 1 0 (lines text) q) → with_lines (place_in labels) 1 [] (lines text) ≡ assembled text
+unfolding assembled places_of
+meant labels text h =
+    let same : place_in labels ≡ places_of text = λ i q. h q i in
+    ap (λ places. with_lines places 1 [] (lines text)) same
+
+-- a refusal of what is the same
+pub refused_alike : {A B : Type 0} (f : A → List ℕ) (g : B → List ℕ) (no : AsmNo) (m n : Result (List ℕ) (ℕ × Why)) → m ≡ n → Answers f (Err no) m → Answers g (Err no) n
+refused_alike f g (Fault line why) m n e h = sym e ∙ h
+refused_alike f g NoMemory m n e h = tt
+
+-- one listed byte behind an image
+behind-cons : (image : List ℕ) (n : ℕ) (r : Result (List ℕ) Why) → behind (image ++ n ∷ []) r ≡ behind image (r >>= λ others. Ok (n ∷ others))
+behind-cons image n (Ok bytes) = ap Ok (append_assoc image (n ∷ []) bytes)
+behind-cons image n (Err why) = refl
+
+-- one listed byte more
+pub listed-more : (image word : List ℕ) (ws : List (List ℕ)) (n : ℕ) → Ok n ≡ wanted_number 255 (number_of word) → behind (image ++ n ∷ []) (listed_bytes ws) ≡ behind image (listed_bytes (word ∷ ws))
+unfolding listed_bytes
+listed-more image word ws n e = rw (← e) (behind-cons image n (listed_bytes ws))
+
+-- a listed byte that is refused
+pub listed-refused : (image word : List ℕ) (ws : List (List ℕ)) (why : Why) → Err why ≡ wanted_number 255 (number_of word) → behind image (listed_bytes (word ∷ ws)) ≡ Err why
+unfolding listed_bytes
+listed-refused image word ws why e = rw (← e) refl
+
+-- no more listed bytes
+pub listed-none : (image : List ℕ) → behind image (listed_bytes []) ≡ Ok image
+unfolding listed_bytes
+listed-none image = ap Ok (append-nil image)

@@ -1,0 +1,13 @@
+-- No lines are left.
+use Rattle.std.proofs.Common.{◌≡◌, ◌∙◌, ap, sym, length, arith}
+use Rattle.std.proofs.lemmas.Bool.Decides.{nat_tests}
+use Rattle.dm_asm.specs.Assembled.{with_lines}
+use Rattle.dm_asm.specs.Labels.{place_in}
+use Rattle.dm_asm.proofs.Cuts.{lines-none}
+use Rattle.dm_asm.proofs.assembler.all_lines.Goals as goal
+
+pub returns-clause-exact : goal.returns-clause-exact
+returns-clause-exact c =
+    let none : length c.loop-rest.rest.now ≡ 0 = grind (arith, nat_tests) in
+    sym c.loop-rest.invariant.all
+    ∙ ap (λ ls. with_lines (place_in c.args.labels.now) c.loop-rest.number c.loop-rest.image.items ls) (lines-none c.loop-rest.rest.now none)

@@ -1,0 +1,16 @@
+-- The image so far, and behind it the lines that are left, are all.
+use Rattle.std.proofs.Common.{◌≡◌, ◌+◌, ◌≤◌, [], length}
+use Rattle.dm_asm.specs.Assembled.{with_lines}
+use Rattle.dm_asm.specs.Labels.{place_in}
+use Rattle.dm_asm.specs.Lines.{lines}
+use Rattle.dm_asm.proofs.assembler.all_lines.Given as goal
+
+abbrev pub invariant-loop-rest : goal.invariant-loop-rest
+invariant-loop-rest l = record {
+  few : l.number + length l.rest ≤ length l.text + 1;
+  most : length l.image.items ≤ 65536;
+  all : with_lines (place_in l.labels) l.number l.image.items (lines l.rest) ≡ with_lines (place_in l.labels) 1 [] (lines l.text);
+}
+
+abbrev pub decreases-loop-rest : goal.decreases-loop-rest
+decreases-loop-rest l = length l.rest

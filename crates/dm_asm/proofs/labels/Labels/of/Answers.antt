@@ -1,0 +1,18 @@
+-- No lines are left.
+use Rattle.std.proofs.Common.{◌≡◌, ◌∙◌, ap, sym, length, arith}
+use Rattle.std.proofs.lemmas.Bool.Decides.{nat_tests}
+use Rattle.dm_asm.specs.Labels.{place_in}
+use Rattle.dm_asm.specs.Places.{first_of, place_from}
+use Rattle.dm_asm.proofs.Cuts.{lines-none}
+use Rattle.dm_asm.proofs.Defined.{first_of-None}
+use Rattle.dm_asm.proofs.labels.Labels.of.Goals as goal
+
+pub returns : goal.returns
+returns c =
+    let none : length c.loop-rest.rest.now ≡ 0 = grind (arith, nat_tests) in
+    record {
+      ok = λ q.
+          sym (first_of-None (place_in c.loop-rest.labels q))
+          ∙ ap (λ ls. first_of (place_in c.loop-rest.labels q) (place_from c.loop-rest.place.line c.loop-rest.place.address ls q)) (sym (lines-none c.loop-rest.rest.now none))
+          ∙ c.loop-rest.invariant.all q;
+    }

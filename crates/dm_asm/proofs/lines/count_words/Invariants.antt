@@ -1,0 +1,10 @@
+-- The words so far and the words that are left are all.
+use Rattle.std.proofs.Common.{◌≡◌, ◌+◌, ◌≤◌, length}
+use Rattle.dm_asm.specs.Lines.{words}
+use Rattle.dm_asm.proofs.lines.count_words.Given as goal
+
+abbrev pub invariant-loop-behind : goal.invariant-loop-behind
+invariant-loop-behind l = record { all : l.count + length (words l.rest) ≡ length (words l.line); few : l.count + length l.rest ≤ length l.line }
+
+abbrev pub decreases-loop-behind : goal.decreases-loop-behind
+decreases-loop-behind l = length l.rest

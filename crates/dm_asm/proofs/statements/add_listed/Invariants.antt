@@ -1,0 +1,12 @@
+-- The bytes so far, and behind them those that are left, are all.
+use Rattle.std.proofs.Common.{◌≡◌, length}
+use Rattle.dm_asm.specs.Lines.{words}
+use Rattle.dm_asm.specs.Refusals.{behind}
+use Rattle.dm_asm.specs.Statements.{listed_bytes}
+use Rattle.dm_asm.proofs.statements.add_listed.Given as goal
+
+abbrev pub invariant-loop-word : goal.invariant-loop-word
+invariant-loop-word l = behind l.image.items (listed_bytes (words l.rest)) ≡ behind l.fn.image.items (listed_bytes (words l.operands))
+
+abbrev pub decreases-loop-word : goal.decreases-loop-word
+decreases-loop-word l = length l.rest

@@ -1,0 +1,53 @@
+-- The image of a text.
+use Rattle.std.specs.Prelude.{ℕ, ◌≡◌, nat_le, ◌+◌, if◌then◌else◌, Option, Result, Ok, Err, List, [], ◌∷◌, length}
+use Rattle.dm_asm.specs.declared.labels.Place.{Place}
+use Rattle.dm_asm.specs.declared.refusals.Why.{Why}
+use Rattle.dm_asm.specs.declared.refusals.Why.TheVariants.{TooLong}
+use Rattle.dm_asm.specs.declared.refusals.AsmNo.{AsmNo}
+use Rattle.dm_asm.specs.declared.refusals.AsmNo.TheVariants.{Fault, NoMemory}
+use Rattle.dm_asm.specs.declared.refusals.Stop.{Stop}
+use Rattle.dm_asm.specs.declared.refusals.Stop.TheVariants as stops
+use Rattle.dm_asm.specs.Lines.{lines}
+use Rattle.dm_asm.specs.Places.{place_from}
+use Rattle.dm_asm.specs.Refusals.{◌>>=◌, behind}
+use Rattle.dm_asm.specs.Statements.{line_bytes}
+
+-- an image that is not too long
+abbrev pub not_too_long : List ℕ → Result (List ℕ) Why
+not_too_long image = if nat_le (length image) 65536 then Ok image else Err TooLong
+
+-- an image with a line, by its number
+unfoldable pub with_line : (List ℕ → Option Place) → ℕ → List ℕ → List ℕ → Result (List ℕ) Why
+with_line places number image line = do
+  longer ← behind image (line_bytes places number (length image) line)
+  not_too_long longer
+
+-- what follows an image, or the line with its reason
+abbrev pub from_line : ℕ → Result (List ℕ) Why → (List ℕ → Result (List ℕ) (ℕ × Why)) → Result (List ℕ) (ℕ × Why)
+from_line number (Ok image) more = more image
+from_line number (Err why) more = Err (number, why)
+
+-- an image with lines, or the first line that is refused
+abbrev pub with_lines : (List ℕ → Option Place) → ℕ → List ℕ → List (List ℕ) → Result (List ℕ) (ℕ × Why)
+with_lines places number image [] = Ok image
+with_lines places number image (l ∷ ls) =
+    from_line number (with_line places number image l) (λ new. with_lines places (number + 1) new ls)
+
+-- the first line of a text with a label, and its address
+unfoldable pub places_of : List ℕ → List ℕ → Option Place
+places_of text name = place_from 1 0 (lines text) name
+
+-- the image that a text means, or the first line that is refused, with the reason
+unfoldable pub assembled : List ℕ → Result (List ℕ) (ℕ × Why)
+assembled text = with_lines (places_of text) 1 [] (lines text)
+
+-- an answer, seen as an image, is what is meant, unless memory is wanting
+abbrev pub Answers : {A : Type 0} → (A → List ℕ) → Result A AsmNo → Result (List ℕ) (ℕ × Why) → Type 0
+Answers seen (Ok x) meant = meant ≡ Ok (seen x)
+Answers seen (Err (Fault line why)) meant = meant ≡ Err (line, why)
+Answers seen (Err NoMemory) meant = Unit {0}
+
+-- why a line stops all
+abbrev pub at_line : ℕ → Stop → AsmNo
+at_line line (stops.Fault why) = Fault line why
+at_line line stops.NoMemory = NoMemory

@@ -1,0 +1,10 @@
+pub mod Assembled
+pub mod Forms
+pub mod Labels
+pub mod Lines
+pub mod Seen
+pub mod Numbers
+pub mod Operands
+pub mod Places
+pub mod Refusals
+pub mod Statements

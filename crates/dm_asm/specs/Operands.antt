@@ -1,0 +1,104 @@
+-- The values of operands, one after the other.
+use Rattle.std.specs.Prelude.{ℕ, ◌==◌, ◌&&◌, nat_lt, nat_le, ◌+◌, ◌-◌, ◌/◌, ◌%◌, if◌then◌else◌, Option, Some, None, Result, Ok, Err, List, [], ◌∷◌}
+use Rattle.dm_asm.specs.declared.forms.Shape.{Shape}
+use Rattle.dm_asm.specs.declared.forms.Shape.TheVariants.{RegisterValue, TwoRegisters, ThreeRegisters, Access, Jump, Branch, Call}
+use Rattle.dm_asm.specs.declared.labels.Place.{Place}
+use Rattle.dm_asm.specs.declared.refusals.Why.{Why}
+use Rattle.dm_asm.specs.declared.refusals.Why.TheVariants.{BadRegister, BadNumber, OutOfRange, UnknownLabel, OperandCount}
+use Rattle.dm_asm.specs.Numbers.{begins_name, number_of, register_of}
+use Rattle.dm_asm.specs.Refusals.{◌>>=◌}
+
+-- a register that must be there
+abbrev pub wanted_register : Option ℕ → Result ℕ Why
+wanted_register None = Err BadRegister
+wanted_register (Some r) = Ok r
+
+-- a number that is at most so large
+abbrev pub at_most : ℕ → ℕ → Result ℕ Why
+at_most most n = if nat_le n most then Ok n else Err OutOfRange
+
+-- a number that must be there, and at most so large
+abbrev pub wanted_number : ℕ → Option ℕ → Result ℕ Why
+wanted_number most None = Err BadNumber
+wanted_number most (Some n) = at_most most n
+
+-- the value of a label that must be there, at most so large
+abbrev pub wanted_label : ℕ → Option Place → Result ℕ Why
+wanted_label most None = Err UnknownLabel
+wanted_label most (Some place) = at_most most place.address
+
+-- a number or a label
+unfoldable pub value_of : (List ℕ → Option Place) → ℕ → List ℕ → Result ℕ Why
+value_of places most word =
+    if begins_name word then wanted_label most (places word) else wanted_number most (number_of word)
+
+-- how many words it is from behind an instruction to a target, as a byte: -128 to 127
+abbrev pub distance : ℕ → ℕ → Result ℕ Why
+distance at target =
+    if nat_le (at + 4) target
+    then (if ((target - (at + 4)) % 4 == 0) && nat_lt (target - (at + 4)) 512 then Ok ((target - (at + 4)) / 4) else Err OutOfRange)
+    else (if ((at + 4 - target) % 4 == 0) && nat_le (at + 4 - target) 512 then Ok (256 - (at + 4 - target) / 4) else Err OutOfRange)
+
+-- the distance to a label that must be there
+abbrev pub wanted_distance : ℕ → Option Place → Result ℕ Why
+wanted_distance at None = Err UnknownLabel
+wanted_distance at (Some place) = distance at place.address
+
+-- the distance to a label
+unfoldable pub distance_of : (List ℕ → Option Place) → ℕ → List ℕ → Result ℕ Why
+distance_of places at word = if begins_name word then wanted_distance at (places word) else Err BadNumber
+
+-- the value of the next word, and the words behind it
+abbrev pub next : (List ℕ → Result ℕ Why) → List (List ℕ) → Result (ℕ × List (List ℕ)) Why
+next value [] = Err OperandCount
+next value (w ∷ ws) = do
+  v ← value w
+  Ok (v, ws)
+
+-- a register
+unfoldable pub register : List (List ℕ) → Result (ℕ × List (List ℕ)) Why
+register ws = next (λ w. wanted_register (register_of w)) ws
+
+-- a number that is at most so large
+unfoldable pub number : ℕ → List (List ℕ) → Result (ℕ × List (List ℕ)) Why
+number most ws = next (λ w. wanted_number most (number_of w)) ws
+
+-- a number or a label that is at most so large
+unfoldable pub value : (List ℕ → Option Place) → ℕ → List (List ℕ) → Result (ℕ × List (List ℕ)) Why
+value places most ws = next (value_of places most) ws
+
+-- the distance to a label
+unfoldable pub target : (List ℕ → Option Place) → ℕ → List (List ℕ) → Result (ℕ × List (List ℕ)) Why
+target places at ws = next (distance_of places at) ws
+
+-- the three last bytes of an instruction at an address
+unfoldable pub fields : (List ℕ → Option Place) → ℕ → Shape → List (List ℕ) → Result (List ℕ) Why
+fields places at RegisterValue ws = do
+  a ← register ws
+  v ← value places 65535 a.1
+  Ok (a.0 ∷ v.0 / 256 ∷ v.0 % 256 ∷ [])
+fields places at TwoRegisters ws = do
+  a ← register ws
+  b ← register a.1
+  Ok (a.0 ∷ b.0 ∷ 0 ∷ [])
+fields places at ThreeRegisters ws = do
+  a ← register ws
+  b ← register a.1
+  c ← register b.1
+  Ok (a.0 ∷ b.0 ∷ c.0 ∷ [])
+fields places at Access ws = do
+  a ← register ws
+  b ← register a.1
+  c ← number 255 b.1
+  Ok (a.0 ∷ b.0 ∷ c.0 ∷ [])
+fields places at Jump ws = do
+  v ← value places 65535 ws
+  Ok (0 ∷ v.0 / 256 ∷ v.0 % 256 ∷ [])
+fields places at Branch ws = do
+  a ← register ws
+  b ← register a.1
+  d ← target places at b.1
+  Ok (a.0 ∷ b.0 ∷ d.0 ∷ [])
+fields places at Call ws = do
+  n ← number 255 ws
+  Ok (0 ∷ 0 ∷ n.0 ∷ [])

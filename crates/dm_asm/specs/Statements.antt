@@ -1,0 +1,76 @@
+-- The bytes of a line.
+use Rattle.std.specs.Prelude.{ℕ, Bool, false, ◌==◌, not, nat_lt, ◌^◌, ◌-◌, if◌then◌else◌, Option, Some, None, Result, Ok, Err, List, [], ◌∷◌, length, replicate}
+use Rattle.dm_regs.specs.declared.opcodes.Opcode.{Opcode}
+use Rattle.dm_regs.specs.Opcodes.{opcode_number}
+use Rattle.dm_regs.specs.Instructions.{word_bytes}
+use Rattle.dm_asm.specs.declared.forms.Form.{Form}
+use Rattle.dm_asm.specs.declared.forms.Form.TheVariants.{Instruction, Word, Byte, Zero}
+use Rattle.dm_asm.specs.declared.labels.Place.{Place}
+use Rattle.dm_asm.specs.declared.refusals.Why.{Why}
+use Rattle.dm_asm.specs.declared.refusals.Why.TheVariants.{UnknownWord, LabelTwice, OperandCount}
+use Rattle.dm_asm.specs.Forms.{form_of, operand_count, shape_of}
+use Rattle.dm_asm.specs.Lines.{words, without_comment}
+use Rattle.dm_asm.specs.Numbers.{number_of}
+use Rattle.dm_asm.specs.Operands.{fields, number, value, wanted_number}
+use Rattle.dm_asm.specs.Places.{behind_label, label_of}
+use Rattle.dm_asm.specs.Refusals.{◌>>=◌}
+
+-- the four bytes of an instruction
+abbrev pub instruction_bytes : (List ℕ → Option Place) → ℕ → Opcode → List (List ℕ) → Result (List ℕ) Why
+instruction_bytes places at op ws = do
+  last ← fields places at (shape_of op) ws
+  Ok (opcode_number op ∷ last)
+
+-- the bytes that .byte lists
+unfoldable pub listed_bytes : List (List ℕ) → Result (List ℕ) Why
+listed_bytes [] = Ok []
+listed_bytes (w ∷ ws) = do
+  first ← wanted_number 255 (number_of w)
+  others ← listed_bytes ws
+  Ok (first ∷ others)
+
+-- the bytes of an instruction or directive
+abbrev pub form_bytes : (List ℕ → Option Place) → ℕ → Form → List (List ℕ) → Result (List ℕ) Why
+form_bytes places at (Instruction op) ws = instruction_bytes places at op ws
+form_bytes places at Word ws = do
+  w ← value places (2 ^ 32 - 1) ws
+  Ok (word_bytes w.0)
+form_bytes places at Byte ws = listed_bytes ws
+form_bytes places at Zero ws = do
+  n ← number 65536 ws
+  Ok (replicate n.0 0)
+
+-- whether an instruction or directive can have so many operands
+abbrev pub takes : Form → ℕ → Bool
+takes (Instruction op) n = n == operand_count (shape_of op)
+takes Word n = n == 1
+takes Byte n = nat_lt 0 n
+takes Zero n = n == 1
+
+-- the bytes of what a word and its operands say
+abbrev pub named_bytes : (List ℕ → Option Place) → ℕ → Bool → Option Form → List (List ℕ) → Result (List ℕ) Why
+named_bytes places at twice None ws = Err UnknownWord
+named_bytes places at twice (Some form) ws =
+    if twice then Err LabelTwice
+    else (if takes form (length ws) then form_bytes places at form ws else Err OperandCount)
+
+-- the bytes of what stands behind a label, if any; the label may be defined before
+unfoldable pub statement_bytes : (List ℕ → Option Place) → ℕ → Bool → List (List ℕ) → Result (List ℕ) Why
+statement_bytes places at twice [] = if twice then Err LabelTwice else Ok []
+statement_bytes places at twice (w ∷ ws) = named_bytes places at twice (form_of w) ws
+
+-- whether the first line with a label is another than this
+abbrev pub is_elsewhere : ℕ → Option Place → Bool
+is_elsewhere line None = false
+is_elsewhere line (Some place) = not (place.line == line)
+
+-- whether a line's label, if any, is defined before
+abbrev pub is_twice : (List ℕ → Option Place) → ℕ → Option (List ℕ) → Bool
+is_twice places line None = false
+is_twice places line (Some name) = is_elsewhere line (places name)
+
+-- the bytes of a line at an address
+unfoldable pub line_bytes : (List ℕ → Option Place) → ℕ → ℕ → List ℕ → Result (List ℕ) Why
+line_bytes places line at text =
+    let ws = words (without_comment text) in
+    statement_bytes places at (is_twice places line (label_of ws)) (behind_label ws)

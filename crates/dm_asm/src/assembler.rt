@@ -1,0 +1,88 @@
+//! Assembling a text, line by line.
+ghost use Rattle.std.specs.Prelude.{◌≡◌, ◌≤◌, [], IfOk, OnOk, length};
+ghost use Rattle.std.specs.Option.{option_copied};
+ghost use Rattle.dm_asm.specs.Assembled.{Answers, assembled, at_line, with_line, with_lines};
+ghost use Rattle.dm_asm.specs.Labels.{place_in};
+ghost use Rattle.dm_asm.specs.Lines.{lines, without_comment, words};
+ghost use Rattle.dm_asm.specs.Places.{label_of};
+ghost use Rattle.dm_asm.specs.Refusals.{Gives};
+ghost use Rattle.dm_asm.specs.Statements.{is_twice, line_bytes};
+
+use crate::image::Image;
+use crate::labels::{Labels, split_label};
+use crate::lines::{first_line, uncommented};
+use crate::refusals::{AsmNo, Stop, Why};
+use crate::statements::{add_statement, stands_elsewhere};
+use std::alloc::Global;
+
+/// The most bytes of an image.
+const MOST: usize = 65_536;
+
+/// Whether the label of a line, if any, is defined before.
+fn defined_before(labels: &Labels, line: usize, label: Option<&[u8]>) -> bool
+    ensures { result ≡ is_twice (place_in labels.now) line (option_copied label.entry) }
+{
+    match label {
+        None => false,
+        Some(name) => stands_elsewhere(line, labels.place(name)),
+    }
+}
+
+/// Adds a line, by its number.
+#[tactic(auto, unfolding(crate::specs::Assembled::with_line, crate::specs::Statements::line_bytes))]
+fn add_line(labels: &Labels, image: &mut Vec<u8>, number: usize, line: &[u8]) -> Result<(), Stop>
+    ensures exact { Gives (λ _. image.new.items) result (with_line (place_in labels.now) number image.old.items line.now) }
+    ensures most { OnOk result (length image.new.items ≤ 65536) }
+{
+    let (label, statement) = split_label(uncommented(line));
+    let twice = defined_before(labels, number, label);
+    add_statement(labels, image, twice, statement)?;
+    if image.len() > MOST {
+        return Err(Stop::Fault(Why::TooLong));
+    }
+    Ok(())
+}
+
+/// Why a line stops all.
+fn stopped(line: usize, stop: Stop) -> AsmNo
+    ensures { result ≡ at_line line stop }
+{
+    match stop {
+        Stop::Fault(why) => AsmNo::Fault { line, why },
+        Stop::NoMemory => AsmNo::NoMemory,
+    }
+}
+
+/// The bytes of all lines.
+fn all_lines(alloc: Global, labels: &Labels, text: &[u8]) -> Result<Vec<u8>, AsmNo>
+    ensures exact { Answers (λ image. image.items) result (with_lines (place_in labels.now) 1 [] (lines text.now)) }
+    ensures most { IfOk result (λ image. length image.items ≤ 65536) }
+{
+    let mut image = Vec::new(alloc);
+    let mut rest = text;
+    let mut number = 1;
+    while !rest.is_empty() {
+        let (line, others) = first_line(rest);
+        if let Err(stop) = add_line(labels, &mut image, number, line) {
+            return Err(stopped(number, stop));
+        }
+        number += 1;
+        rest = others;
+    }
+    Ok(image)
+}
+
+/// Assembles a text: the image that it means, or the first line that is refused. It reads the text
+/// twice, first for the labels.
+pub fn assemble(alloc: Global, text: &str) -> Result<Image, AsmNo>
+    ensures exact { Answers (λ image. image) result (assembled text.now) }
+{
+    let text = text.as_bytes();
+    let Ok(labels) = Labels::of(alloc, text) else {
+        return Err(AsmNo::NoMemory);
+    };
+    match all_lines(alloc, &labels, text) {
+        Ok(bytes) => Ok(Image::new(bytes)),
+        Err(no) => Err(no),
+    }
+}

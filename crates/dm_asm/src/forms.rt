@@ -1,0 +1,141 @@
+//! Instructions and directives by their words.
+ghost use Rattle.std.specs.Prelude.{◌≡◌};
+ghost use Rattle.dm_asm.specs.Forms.{form_of, opcode_named, opcode_word, operand_count, shape_of};
+
+use dm_regs::Opcode;
+
+/// An instruction, or a directive.
+#[derive(Clone, Copy, Debug, PartialEq, Eq)]
+pub enum Form {
+    Instruction(Opcode),
+    /// `.word`: one word.
+    Word,
+    /// `.byte`: bytes.
+    Byte,
+    /// `.zero`: zeros.
+    Zero,
+}
+
+/// What the operands of an instruction are.
+#[derive(Clone, Copy, Debug, PartialEq, Eq)]
+pub enum Shape {
+    RegisterValue,
+    TwoRegisters,
+    ThreeRegisters,
+    Access,
+    Jump,
+    Branch,
+    Call,
+}
+
+/// Every instruction, in order of the numbers.
+const OPCODES: [Opcode; 20] = [
+    Opcode::Li,
+    Opcode::Lih,
+    Opcode::Mov,
+    Opcode::Add,
+    Opcode::Sub,
+    Opcode::Mul,
+    Opcode::And,
+    Opcode::Or,
+    Opcode::Xor,
+    Opcode::Shl,
+    Opcode::Shr,
+    Opcode::Lw,
+    Opcode::Sw,
+    Opcode::Lb,
+    Opcode::Sb,
+    Opcode::Jmp,
+    Opcode::Beq,
+    Opcode::Bne,
+    Opcode::Bltu,
+    Opcode::Sys,
+];
+
+/// The word of an instruction.
+fn word_of(op: Opcode) -> &'static [u8]
+    ensures { result.now ≡ opcode_word op }
+{
+    match op {
+        Opcode::Li => b"li",
+        Opcode::Lih => b"lih",
+        Opcode::Mov => b"mov",
+        Opcode::Add => b"add",
+        Opcode::Sub => b"sub",
+        Opcode::Mul => b"mul",
+        Opcode::And => b"and",
+        Opcode::Or => b"or",
+        Opcode::Xor => b"xor",
+        Opcode::Shl => b"shl",
+        Opcode::Shr => b"shr",
+        Opcode::Lw => b"lw",
+        Opcode::Sw => b"sw",
+        Opcode::Lb => b"lb",
+        Opcode::Sb => b"sb",
+        Opcode::Jmp => b"jmp",
+        Opcode::Beq => b"beq",
+        Opcode::Bne => b"bne",
+        Opcode::Bltu => b"bltu",
+        Opcode::Sys => b"sys",
+    }
+}
+
+/// The instruction that a word names.
+fn opcode_named(word: &[u8]) -> Option<Opcode>
+    ensures { result ≡ opcode_named word.now }
+{
+    OPCODES.iter().copied().find(|op| word == word_of(*op))
+}
+
+impl Form {
+    /// The instruction or directive that a word names.
+    #[tactic(auto, unfolding(crate::specs::Forms::form_of))]
+    pub fn from_word(word: &[u8]) -> Option<Form>
+        ensures { result ≡ form_of word.now }
+    {
+        if word == b".word".as_slice() {
+            Some(Form::Word)
+        } else if word == b".byte".as_slice() {
+            Some(Form::Byte)
+        } else if word == b".zero".as_slice() {
+            Some(Form::Zero)
+        } else {
+            opcode_named(word).map(Form::Instruction)
+        }
+    }
+}
+
+impl Shape {
+    /// What the operands of an instruction are.
+    pub fn of(op: Opcode) -> Shape
+        ensures { result ≡ shape_of op }
+    {
+        match op {
+            Opcode::Li | Opcode::Lih => Shape::RegisterValue,
+            Opcode::Mov => Shape::TwoRegisters,
+            Opcode::Add
+            | Opcode::Sub
+            | Opcode::Mul
+            | Opcode::And
+            | Opcode::Or
+            | Opcode::Xor
+            | Opcode::Shl
+            | Opcode::Shr => Shape::ThreeRegisters,
+            Opcode::Lw | Opcode::Sw | Opcode::Lb | Opcode::Sb => Shape::Access,
+            Opcode::Jmp => Shape::Jump,
+            Opcode::Beq | Opcode::Bne | Opcode::Bltu => Shape::Branch,
+            Opcode::Sys => Shape::Call,
+        }
+    }
+
+    /// How many operands there are: 1 to 3.
+    pub fn operands(self) -> usize
+        ensures { result ≡ operand_count self }
+    {
+        match self {
+            Shape::Jump | Shape::Call => 1,
+            Shape::RegisterValue | Shape::TwoRegisters => 2,
+            Shape::ThreeRegisters | Shape::Access | Shape::Branch => 3,
+        }
+    }
+}

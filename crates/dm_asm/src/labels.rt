@@ -1,0 +1,161 @@
+//! Where labels stand.
+ghost use Rattle.std.specs.Prelude.{◌≡◌, ◌+◌, ℕ, List, IfOk, None, OnOk, Some, if◌then◌else◌, length};
+ghost use Rattle.std.specs.Option.{option_copied};
+ghost use Rattle.std.specs.Str.{bytes_eq};
+ghost use Rattle.dm_asm.specs.Labels.{place_in};
+ghost use Rattle.dm_asm.specs.Lines.{lines, without_comment, words};
+ghost use Rattle.dm_asm.specs.Numbers.{number_of};
+ghost use Rattle.dm_asm.specs.Places.{behind_label, first_of, form_size, has_label, label_in, label_of, line_size, place_from, statement_size, zeros_size};
+
+use crate::forms::Form;
+use crate::lines::{count_words, first_line, next_word, uncommented};
+use crate::numbers::{is_label, number};
+use std::alloc::{AllocError, Global};
+use std::collections::BTreeMap;
+
+/// Where a label is defined: its line, from 1, and its byte address.
+#[derive(Clone, Copy, Debug, PartialEq, Eq)]
+pub struct Place {
+    pub line: usize,
+    pub address: u128,
+}
+
+/// The first places of all labels of a text.
+#[derive(Drop)]
+pub struct Labels<'t> {
+    map: BTreeMap<&'t [u8], Place>,
+}
+
+#[tactic(auto, unfolding(crate::specs::Labels::place_in))]
+impl<'t> Labels<'t> {
+    /// No labels.
+    fn new(alloc: Global) -> Self
+        ensures { (q : List ℕ) → place_in result q ≡ None }
+    {
+        Labels {
+            map: BTreeMap::new(alloc),
+        }
+    }
+
+    /// Where a label is defined first, if it is.
+    pub fn place(&self, name: &[u8]) -> Option<Place>
+        ensures { result ≡ place_in self.now name.now }
+    {
+        self.map.get(name).copied()
+    }
+
+    /// Defines a label, unless it is defined.
+    fn define(&mut self, name: &'t [u8], place: Place) -> Result<(), AllocError>
+        ensures ok { OnOk result ((q : List ℕ) → place_in self.new q ≡ first_of (place_in self.old q) (if bytes_eq q name.now then Some place else None)) }
+    {
+        if self.map.contains_key(name) {
+            return Ok(());
+        }
+        self.map.insert(name, place)?;
+        Ok(())
+    }
+}
+
+/// The label that a word is with its colon.
+fn label_of_word(word: &[u8]) -> Option<&[u8]>
+    ensures { option_copied result ≡ label_in word.now }
+{
+    if word.is_empty() {
+        return None;
+    }
+    let name = &word[..word.len() - 1];
+    if word[word.len() - 1] == b':' && is_label(name) {
+        Some(name)
+    } else {
+        None
+    }
+}
+
+/// The label of a line, and what stands behind it.
+pub fn split_label(line: &[u8]) -> (Option<&[u8]>, &[u8])
+    ensures label { option_copied result.0 ≡ label_of (words line.now) }
+    ensures rest { words result.1.now ≡ behind_label (words line.now) }
+{
+    match next_word(line) {
+        None => (None, line),
+        Some((word, rest)) => match label_of_word(word) {
+            Some(name) => (Some(name), rest),
+            None => (None, line),
+        },
+    }
+}
+
+/// How many zeros the operands of `.zero` ask for, if they are good.
+fn zeros_counted(operands: &[u8]) -> usize
+    ensures { result ≡ zeros_size (words operands.now) }
+{
+    if count_words(operands) != 1 {
+        return 0;
+    }
+    match next_word(operands) {
+        Some((word, _)) => match number(word) {
+            Some(n) if n <= 65_536 => n as usize,
+            _ => 0,
+        },
+        None => 0,
+    }
+}
+
+/// How many bytes a statement counts.
+fn statement_counted(statement: &[u8]) -> usize
+    ensures { result ≡ statement_size (words statement.now) }
+{
+    match next_word(statement) {
+        None => 0,
+        Some((word, operands)) => match Form::from_word(word) {
+            None => 0,
+            Some(Form::Instruction(_) | Form::Word) => 4,
+            Some(Form::Byte) => count_words(operands),
+            Some(Form::Zero) => zeros_counted(operands),
+        },
+    }
+}
+
+impl<'t> Labels<'t> {
+    /// Defines the label of a line, if it has one and that isn't defined.
+    #[tactic(auto, unfolding(crate::specs::Places::has_label))]
+    fn add_line(&mut self, line: &'t [u8], place: Place) -> Result<(), AllocError>
+        ensures ok { OnOk result ((q : List ℕ) → place_in self.new q ≡ first_of (place_in self.old q) (if has_label line.now q then Some place else None)) }
+    {
+        match split_label(uncommented(line)) {
+            (Some(name), _) => self.define(name, place),
+            (None, _) => Ok(()),
+        }
+    }
+
+    /// The labels of a text.
+    pub fn of(alloc: Global, text: &'t [u8]) -> Result<Labels<'t>, AllocError>
+        ensures ok { IfOk result (λ labels. (q : List ℕ) → place_in labels q ≡ place_from 1 0 (lines text.now) q) }
+    {
+        let mut labels = Labels::new(alloc);
+        let mut place = Place {
+            line: 1,
+            address: 0,
+        };
+        let mut rest = text;
+        while !rest.is_empty() {
+            let (line, behind) = first_line(rest);
+            labels.add_line(line, place)?;
+            place = Place {
+                line: place.line + 1,
+                address: place.address + line_counted(line) as u128,
+            };
+            rest = behind;
+        }
+        Ok(labels)
+    }
+}
+
+/// How many bytes a line counts.
+#[tactic(auto, unfolding(crate::specs::Places::line_size))]
+fn line_counted(line: &[u8]) -> usize
+    ensures { result ≡ line_size line.now }
+{
+    let (_, statement) = split_label(uncommented(line));
+    statement_counted(statement)
+}

@@ -1,0 +1,18 @@
+//! The assembler of the register machine.
+#![tactic(auto)]
+
+mod assembler;
+mod forms;
+mod image;
+mod labels;
+mod lines;
+mod numbers;
+mod operands;
+mod refusals;
+mod statements;
+#[cfg(test)]
+mod tests;
+
+pub use assembler::assemble;
+pub use image::Image;
+pub use refusals::{AsmNo, Why};

@@ -1,0 +1,193 @@
+//! The operands of an instruction or directive.
+ghost use Rattle.std.specs.Prelude.{◌≡◌, ◌<◌, ◌≤◌, ◌^◌, ◌/◌, ◌%◌, IfOk};
+ghost use Rattle.dm_asm.specs.Labels.{place_in};
+ghost use Rattle.dm_asm.specs.Lines.{words};
+ghost use Rattle.dm_asm.specs.Numbers.{number_of};
+ghost use Rattle.dm_asm.specs.Operands.{distance, distance_of, fields, number, register, target, value, value_of, wanted_number};
+ghost use Rattle.dm_asm.specs.Seen.{seen};
+
+use crate::forms::Shape;
+use crate::labels::Labels;
+use crate::lines::next_word;
+use crate::numbers::{looks_like_label, number, register};
+use crate::refusals::Why;
+
+/// A number that a word must be, at most so large.
+pub fn number_within(word: &[u8], most: u32) -> Result<u32, Why>
+    ensures value { result ≡ wanted_number most (number_of word.now) }
+    ensures small { IfOk result (λ n. n ≤ most) }
+{
+    match number(word) {
+        None => Err(Why::BadNumber),
+        Some(n) if n <= u64::from(most) => Ok(n as u32),
+        Some(_) => Err(Why::OutOfRange),
+    }
+}
+
+/// A number or a label's address that a word must be, at most so large.
+#[tactic(auto, unfolding(crate::specs::Operands::value_of))]
+fn value_within(labels: &Labels, word: &[u8], most: u32) -> Result<u32, Why>
+    ensures value { result ≡ value_of (place_in labels.now) most word.now }
+    ensures small { IfOk result (λ n. n ≤ most) }
+{
+    if !looks_like_label(word) {
+        return number_within(word, most);
+    }
+    match labels.place(word) {
+        None => Err(Why::UnknownLabel),
+        Some(place) if place.address <= u128::from(most) => Ok(place.address as u32),
+        Some(_) => Err(Why::OutOfRange),
+    }
+}
+
+/// How many words it is from behind the instruction at an address to a target, as a byte.
+fn words_between(at: u128, target: u128) -> Result<u8, Why>
+    requires { at < 2 ^ 64 }
+    ensures { result ≡ distance at target }
+{
+    let behind = at + 4;
+    if behind <= target {
+        let forward = target - behind;
+        if forward % 4 == 0 && forward < 512 {
+            Ok((forward / 4) as u8)
+        } else {
+            Err(Why::OutOfRange)
+        }
+    } else {
+        let back = behind - target;
+        if back % 4 == 0 && back <= 512 {
+            Ok((256 - back / 4) as u8)
+        } else {
+            Err(Why::OutOfRange)
+        }
+    }
+}
+
+/// The distance from the instruction at an address to the label that a word must be.
+#[tactic(auto, unfolding(crate::specs::Operands::distance_of))]
+fn distance_to(labels: &Labels, word: &[u8], at: usize) -> Result<u8, Why>
+    ensures { result ≡ distance_of (place_in labels.now) at word.now }
+{
+    if !looks_like_label(word) {
+        return Err(Why::BadNumber);
+    }
+    match labels.place(word) {
+        None => Err(Why::UnknownLabel),
+        Some(place) => words_between(at as u128, place.address),
+    }
+}
+
+/// The register that the next word must be, and what stands behind it.
+#[tactic(auto, unfolding(crate::specs::Operands::register))]
+pub fn next_register(rest: &[u8]) -> Result<(u8, &[u8]), Why>
+    ensures { seen result ≡ register (words rest.now) }
+{
+    match next_word(rest) {
+        None => Err(Why::OperandCount),
+        Some((word, behind)) => match register(word) {
+            None => Err(Why::BadRegister),
+            Some(r) => Ok((r, behind)),
+        },
+    }
+}
+
+/// The number that the next word must be, and what stands behind it.
+#[tactic(auto, unfolding(crate::specs::Operands::number))]
+pub fn next_number(rest: &[u8], most: u32) -> Result<(u32, &[u8]), Why>
+    ensures value { seen result ≡ number most (words rest.now) }
+    ensures small { IfOk result (λ x. x.0 ≤ most) }
+{
+    match next_word(rest) {
+        None => Err(Why::OperandCount),
+        Some((word, behind)) => match number_within(word, most) {
+            Err(why) => Err(why),
+            Ok(n) => Ok((n, behind)),
+        },
+    }
+}
+
+/// The number or label's address that the next word must be, and what stands behind it.
+#[tactic(auto, unfolding(crate::specs::Operands::value))]
+pub fn next_value<'r>(labels: &Labels, rest: &'r [u8], most: u32) -> Result<(u32, &'r [u8]), Why>
+    ensures value { seen result ≡ value (place_in labels.now) most (words rest.now) }
+    ensures small { IfOk result (λ x. x.0 ≤ most) }
+{
+    match next_word(rest) {
+        None => Err(Why::OperandCount),
+        Some((word, behind)) => match value_within(labels, word, most) {
+            Err(why) => Err(why),
+            Ok(n) => Ok((n, behind)),
+        },
+    }
+}
+
+/// The distance from the instruction at an address to the label that the next word must be, and what stands
+/// behind that.
+#[tactic(auto, unfolding(crate::specs::Operands::target))]
+fn next_target<'r>(labels: &Labels, rest: &'r [u8], at: usize) -> Result<(u8, &'r [u8]), Why>
+    ensures { seen result ≡ target (place_in labels.now) at (words rest.now) }
+{
+    match next_word(rest) {
+        None => Err(Why::OperandCount),
+        Some((word, behind)) => match distance_to(labels, word, at) {
+            Err(why) => Err(why),
+            Ok(d) => Ok((d, behind)),
+        },
+    }
+}
+
+/// The two bytes of a number below 65,536.
+fn two_bytes(n: u32) -> (u8, u8)
+    requires { n ≤ 65535 }
+    ensures high { result.0 ≡ n / 256 }
+    ensures low { result.1 ≡ n % 256 }
+{
+    ((n / 256) as u8, (n % 256) as u8)
+}
+
+/// The three last bytes of an instruction at an address.
+#[tactic(auto, unfolding(crate::specs::Operands::fields))]
+pub fn last_bytes(labels: &Labels, at: usize, shape: Shape, rest: &[u8]) -> Result<[u8; 3], Why>
+    ensures { result ≡ fields (place_in labels.now) at shape (words rest.now) }
+{
+    match shape {
+        Shape::RegisterValue => {
+            let (a, rest) = next_register(rest)?;
+            let (n, _) = next_value(labels, rest, 65_535)?;
+            let (high, low) = two_bytes(n);
+            Ok([a, high, low])
+        }
+        Shape::TwoRegisters => {
+            let (a, rest) = next_register(rest)?;
+            let (b, _) = next_register(rest)?;
+            Ok([a, b, 0])
+        }
+        Shape::ThreeRegisters => {
+            let (a, rest) = next_register(rest)?;
+            let (b, rest) = next_register(rest)?;
+            let (c, _) = next_register(rest)?;
+            Ok([a, b, c])
+        }
+        Shape::Access => {
+            let (a, rest) = next_register(rest)?;
+            let (b, rest) = next_register(rest)?;
+            let (n, _) = next_number(rest, 255)?;
+            Ok([a, b, n as u8])
+        }
+        Shape::Jump => {
+            let (n, _) = next_value(labels, rest, 65_535)?;
+            let (high, low) = two_bytes(n);
+            Ok([0, high, low])
+        }
+        Shape::Branch => {
+            let (a, rest) = next_register(rest)?;
+            let (b, rest) = next_register(rest)?;
+            let (d, _) = next_target(labels, rest, at)?;
+            Ok([a, b, d])
+        }
+        Shape::Call => {
+            let (n, _) = next_number(rest, 255)?;
+            Ok([0, 0, n as u8])
+        }
+    }
+}

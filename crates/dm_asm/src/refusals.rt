@@ -1,0 +1,87 @@
+//! Why a text is refused.
+ghost use Rattle.std.specs.Prelude.{◌≡◌};
+ghost use Rattle.dm_asm.specs.Refusals.{why_code};
+ghost use Rattle.dm_asm.specs.declared.refusals.Stop.TheVariants as stops;
+
+use std::alloc::{AllocError, AllocFailed};
+
+/// Why a line is refused.
+#[derive(Clone, Copy, Debug, PartialEq, Eq)]
+pub enum Why {
+    /// No instruction, directive or label is written so.
+    UnknownWord,
+    /// A register must stand here.
+    BadRegister,
+    /// A number must stand here, or a label.
+    BadNumber,
+    /// The number, the label's value or the distance doesn't fit.
+    OutOfRange,
+    /// No line has this label.
+    UnknownLabel,
+    /// An earlier line has this label.
+    LabelTwice,
+    /// The instruction or directive has more or fewer operands.
+    OperandCount,
+    /// The image is longer than 65,536 bytes with this line.
+    TooLong,
+}
+
+impl Why {
+    /// The number of the reason: 1 to 8.
+    pub fn code(self) -> u8
+        ensures { result ≡ why_code self }
+    {
+        match self {
+            Why::UnknownWord => 1,
+            Why::BadRegister => 2,
+            Why::BadNumber => 3,
+            Why::OutOfRange => 4,
+            Why::UnknownLabel => 5,
+            Why::LabelTwice => 6,
+            Why::OperandCount => 7,
+            Why::TooLong => 8,
+        }
+    }
+}
+
+/// Why there is no image.
+#[derive(Clone, Copy, Debug, PartialEq, Eq, Drop)]
+pub enum AsmNo {
+    /// A line is refused; lines count from 1.
+    Fault { line: usize, why: Why },
+    /// No memory was left.
+    NoMemory,
+}
+
+/// Why a line has no bytes.
+#[derive(Clone, Copy, Debug, PartialEq, Eq, Drop)]
+pub enum Stop {
+    /// It is refused.
+    Fault(Why),
+    /// No memory was left.
+    NoMemory,
+}
+
+impl From<Why> for Stop {
+    ghost from_gives = { λ why stop. stop ≡ stops.Fault why };
+
+    fn from(why: Why) -> Stop {
+        Stop::Fault(why)
+    }
+}
+
+impl From<AllocError> for Stop {
+    ghost from_gives = { λ _ stop. stop ≡ stops.NoMemory };
+
+    fn from(_: AllocError) -> Stop {
+        Stop::NoMemory
+    }
+}
+
+impl<T: Drop> From<AllocFailed<T>> for Stop {
+    ghost from_gives = { λ _ stop. stop ≡ stops.NoMemory };
+
+    fn from(_: AllocFailed<T>) -> Stop {
+        Stop::NoMemory
+    }
+}

@@ -1,0 +1,125 @@
+//! The bytes of statements.
+ghost use Rattle.std.specs.Prelude.{◌≡◌, length};
+ghost use Rattle.dm_asm.specs.Labels.{place_in};
+ghost use Rattle.dm_asm.specs.Lines.{words};
+ghost use Rattle.dm_asm.specs.Operands.{number, value};
+ghost use Rattle.dm_asm.specs.Refusals.{Gives, behind};
+ghost use Rattle.dm_asm.specs.Statements.{form_bytes, instruction_bytes, is_elsewhere, listed_bytes, named_bytes, statement_bytes, takes};
+ghost use Rattle.dm_asm.specs.declared.forms.Form.TheVariants.{Byte, Word, Zero};
+
+use crate::forms::{Form, Shape};
+use crate::labels::{Labels, Place};
+use crate::lines::{count_words, next_word};
+use crate::operands::{last_bytes, next_number, next_value, number_within};
+use crate::refusals::{Stop, Why};
+use byteorder::{BigEndian, ByteOrder};
+use dm_regs::Opcode;
+
+/// Adds an instruction.
+fn add_instruction(
+    labels: &Labels,
+    image: &mut Vec<u8>,
+    op: Opcode,
+    operands: &[u8],
+) -> Result<(), Stop>
+    ensures { Gives (λ _. image.new.items) result (behind image.old.items (instruction_bytes (place_in labels.now) (length image.old.items) op (words operands.now))) }
+{
+    let at = image.len();
+    let last = last_bytes(labels, at, Shape::of(op), operands)?;
+    let [a, b, c] = last;
+    image.extend_from_slice(&[op.code(), a, b, c])?;
+    Ok(())
+}
+
+/// Adds a word.
+fn add_word(labels: &Labels, image: &mut Vec<u8>, operands: &[u8]) -> Result<(), Stop>
+    ensures { Gives (λ _. image.new.items) result (behind image.old.items (form_bytes (place_in labels.now) (length image.old.items) Word (words operands.now))) }
+{
+    let (word, _) = next_value(labels, operands, u32::MAX)?;
+    let mut bytes = [0; 4];
+    BigEndian::write_u32(&mut bytes, word);
+    image.extend_from_slice(&bytes)?;
+    Ok(())
+}
+
+/// Adds listed bytes.
+fn add_listed(image: &mut Vec<u8>, operands: &[u8]) -> Result<(), Stop>
+    ensures { Gives (λ _. image.new.items) result (behind image.old.items (listed_bytes (words operands.now))) }
+{
+    let mut rest = operands;
+    while let Some((word, others)) = next_word(rest) {
+        match number_within(word, 255) {
+            Ok(byte) => image.push(byte as u8)?,
+            Err(why) => return Err(Stop::Fault(why)),
+        }
+        rest = others;
+    }
+    Ok(())
+}
+
+/// Adds zeros.
+fn add_zeros(labels: &Labels, image: &mut Vec<u8>, operands: &[u8]) -> Result<(), Stop>
+    ensures { Gives (λ _. image.new.items) result (behind image.old.items (form_bytes (place_in labels.now) (length image.old.items) Zero (words operands.now))) }
+{
+    let (n, _) = next_number(operands, 65_536)?;
+    let len = image.len();
+    image.resize(len + n as usize, 0)?;
+    Ok(())
+}
+
+/// Whether an instruction or directive can have so many operands.
+fn can_have(form: Form, operands: usize) -> bool
+    ensures { result ≡ takes form operands }
+{
+    match form {
+        Form::Instruction(op) => operands == Shape::of(op).operands(),
+        Form::Word | Form::Zero => operands == 1,
+        Form::Byte => operands > 0,
+    }
+}
+
+/// Adds what an instruction or directive with its operands is.
+fn add_form(labels: &Labels, image: &mut Vec<u8>, form: Form, operands: &[u8]) -> Result<(), Stop>
+    ensures { Gives (λ _. image.new.items) result (behind image.old.items (form_bytes (place_in labels.now) (length image.old.items) form (words operands.now))) }
+{
+    match form {
+        Form::Instruction(op) => add_instruction(labels, image, op, operands),
+        Form::Word => add_word(labels, image, operands),
+        Form::Byte => add_listed(image, operands),
+        Form::Zero => add_zeros(labels, image, operands),
+    }
+}
+
+/// Adds what stands behind a label, if any. The label may be defined before.
+#[tactic(auto, unfolding(crate::specs::Statements::statement_bytes))]
+pub fn add_statement(
+    labels: &Labels,
+    image: &mut Vec<u8>,
+    twice: bool,
+    statement: &[u8],
+) -> Result<(), Stop>
+    ensures { Gives (λ _. image.new.items) result (behind image.old.items (statement_bytes (place_in labels.now) (length image.old.items) twice (words statement.now))) }
+{
+    match next_word(statement) {
+        None if twice => Err(Stop::Fault(Why::LabelTwice)),
+        None => Ok(()),
+        Some((word, operands)) => match Form::from_word(word) {
+            None => Err(Stop::Fault(Why::UnknownWord)),
+            Some(_) if twice => Err(Stop::Fault(Why::LabelTwice)),
+            Some(form) if can_have(form, count_words(operands)) => {
+                add_form(labels, image, form, operands)
+            }
+            Some(_) => Err(Stop::Fault(Why::OperandCount)),
+        },
+    }
+}
+
+/// Whether the first line with a label is another than this.
+pub fn stands_elsewhere(line: usize, place: Option<Place>) -> bool
+    ensures { result ≡ is_elsewhere line place }
+{
+    match place {
+        None => false,
+        Some(place) => place.line != line,
+    }
+}
