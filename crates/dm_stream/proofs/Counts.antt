@@ -1,0 +1,55 @@
+-- The counts of a stream are in order, and what was sent has numbers within them.
+use Rattle.std.proofs.Common.{◌≡◌, ℕ, ◌+◌, ◌<◌, ◌≤◌, length, slice_get, Some, arith}
+use Rattle.std.proofs.lemmas.Bool.Decides.{nat_tests}
+use Rattle.std.proofs.lemmas.Grind.{common_steps}
+use Rattle.std.proofs.lemmas.Option.{slice_get_within}
+use Rattle.dm_stream.specs.Sending.{given_count, window}
+use Rattle.dm_stream.specs.Receiving.{place}
+use Rattle.dm_stream.specs.Stream.{Stream, Event, happens}
+use Rattle.dm_stream.proofs.Lists.{get-pushed}
+use Rattle.dm_stream.proofs.Places.{place-moved_up, place-kept_same, place-kept_other}
+
+module _ {M : Type 0} where
+  pub record Counts (w : Stream M) : Type 0 where
+    pub acked_taken : w.sender.acked ≤ w.receiver.count
+    pub taken_gone : w.receiver.count ≤ w.sender.gone
+    pub gone_given : w.sender.gone ≤ given_count w.sender
+    pub given_allowed : given_count w.sender ≤ w.sender.numbers
+    pub in_window : w.sender.gone ≤ w.sender.acked + window
+    pub given : given_count w.sender ≡ length w.given
+
+  -- all that is under way is within the counts
+  pub record Within (w : Stream M) : Type 0 where
+    pub packets : (k : ℕ) (p : ℕ × M) → slice_get w.packets k ≡ Some p → p.0 < w.sender.gone
+    pub acks : (k n : ℕ) → slice_get w.acks k ≡ Some n → n ≤ w.receiver.count
+    pub kept : (i : ℕ) (m : M) → place w.receiver.kept i ≡ Some m → w.receiver.count + i < w.sender.gone
+
+  pub acked_taken-happens : (w : Stream M) (e : Event M) → Within w → w.sender.acked ≤ w.receiver.count → (happens w e).sender.acked ≤ (happens w e).receiver.count
+  acked_taken-happens w e h le = grind (arith, nat_tests, h.acks)
+
+  pub taken_gone-happens : (w : Stream M) (e : Event M) → Within w → w.receiver.count ≤ w.sender.gone → (happens w e).receiver.count ≤ (happens w e).sender.gone
+  taken_gone-happens w e h le = grind (arith, nat_tests, h.packets, h.kept)
+
+  pub gone_given-happens : (w : Stream M) (e : Event M) → w.sender.gone ≤ given_count w.sender → w.sender.acked ≤ w.sender.gone → Within w → w.receiver.count ≤ w.sender.gone → (happens w e).sender.gone ≤ given_count (happens w e).sender
+  gone_given-happens w e le below h taken = grind (arith, nat_tests, common_steps, h.acks, slice_get_within)
+
+  pub given_allowed-happens : (w : Stream M) (e : Event M) → given_count w.sender ≤ w.sender.numbers → w.sender.gone ≤ given_count w.sender → w.sender.acked ≤ w.sender.gone → Within w → w.receiver.count ≤ w.sender.gone → given_count (happens w e).sender ≤ (happens w e).sender.numbers
+  given_allowed-happens w e le gone below h taken = grind (arith, nat_tests, common_steps, h.acks)
+
+  pub in_window-happens : (w : Stream M) (e : Event M) → w.sender.gone ≤ w.sender.acked + window → (happens w e).sender.gone ≤ (happens w e).sender.acked + window
+  in_window-happens w e le = grind (arith, nat_tests)
+
+  pub given-happens : (w : Stream M) (e : Event M) → given_count w.sender ≡ length w.given → w.sender.gone ≤ given_count w.sender → w.sender.acked ≤ w.sender.gone → Within w → w.receiver.count ≤ w.sender.gone → given_count (happens w e).sender ≡ length (happens w e).given
+  given-happens w e le gone below h taken = grind (arith, nat_tests, common_steps, h.acks)
+
+  pub packets-happens : (w : Stream M) (e : Event M) → Within w → (k : ℕ) (p : ℕ × M) → slice_get (happens w e).packets k ≡ Some p → p.0 < (happens w e).sender.gone
+  packets-happens w e h k p is = grind (arith, nat_tests, get-pushed, h.packets)
+
+  pub acks-happens : (w : Stream M) (e : Event M) → Within w → (k n : ℕ) → slice_get (happens w e).acks k ≡ Some n → n ≤ (happens w e).receiver.count
+  acks-happens w e h k n is = grind (arith, nat_tests, get-pushed, h.acks)
+
+  pub kept-happens : (w : Stream M) (e : Event M) → Within w → length w.receiver.kept ≡ 8 → w.sender.gone ≤ w.receiver.count + 8 → (i : ℕ) (m : M) → place (happens w e).receiver.kept i ≡ Some m → (happens w e).receiver.count + i < (happens w e).sender.gone
+  kept-happens w e h places near i m is = grind (arith, nat_tests, place-moved_up, place-kept_same, place-kept_other, h.packets, h.kept)
+
+  pub places-happens : (w : Stream M) (e : Event M) → length w.receiver.kept ≡ 8 → length (happens w e).receiver.kept ≡ 8
+  places-happens w e places = grind (arith, nat_tests, common_steps)

@@ -1,0 +1,40 @@
+-- Worked cases of the definitions: each computes.
+use Rattle.std.proofs.Common.{◌≡◌, ℕ, List, [], ◌∷◌, length, None, Some, refl}
+use Rattle.dm_stream.specs.Sending.{due, outstanding}
+use Rattle.dm_stream.specs.Receiving.{kept_under}
+use Rattle.dm_stream.specs.Stream.{Event, Give, GoOut, Arrive, TakeKept, Acknowledge, AckArrive, run, start}
+
+-- two messages, whose packets come as 1, 0, 1: the first is kept, the second lets both be taken, the third is old
+abbrev reordered : List (Event ℕ)
+reordered = Give 10 ∷ Give 11 ∷ GoOut ∷ GoOut ∷ Arrive 1 ∷ Acknowledge ∷ Arrive 0 ∷ TakeKept ∷ TakeKept ∷ Acknowledge ∷ Arrive 1 ∷ Acknowledge ∷ []
+
+reordered-taken : (run reordered (start 100)).taken ≡ 10 ∷ 11 ∷ []
+reordered-taken = refl
+
+reordered-acks : (run reordered (start 100)).acks ≡ 0 ∷ 2 ∷ 2 ∷ []
+reordered-acks = refl
+
+-- an early message stands under its number, before the first is taken
+early-kept : kept_under {M = ℕ} (run (Give 10 ∷ Give 11 ∷ GoOut ∷ GoOut ∷ Arrive 1 ∷ []) (start 100)).receiver 1 ≡ Some 11
+early-kept = refl
+
+-- nine messages: eight go out, and the ninth once one is acknowledged
+abbrev nine : List (Event ℕ)
+nine =
+    Give 0 ∷ Give 1 ∷ Give 2 ∷ Give 3 ∷ Give 4 ∷ Give 5 ∷ Give 6 ∷ Give 7 ∷ Give 8 ∷ GoOut ∷ GoOut ∷ GoOut ∷ GoOut ∷ GoOut ∷ GoOut ∷ GoOut ∷ GoOut ∷ GoOut ∷ []
+
+nine-packets : length (run nine (start 100)).packets ≡ 8
+nine-packets = refl
+
+nine-due : due (run nine (start 100)).sender ≡ None
+nine-due = refl
+
+nine-first : due (run (Arrive 0 ∷ Acknowledge ∷ AckArrive 0 ∷ []) (run nine (start 100))).sender ≡ Some (8, 8)
+nine-first = refl
+
+nine-outstanding : outstanding (run nine (start 100)).sender 7 ≡ Some (7, 7)
+nine-outstanding = refl
+
+-- three numbers: the fourth message isn't given
+worn : (run {M = ℕ} (Give 10 ∷ Give 11 ∷ Give 12 ∷ Give 13 ∷ []) (start 3)).given ≡ 10 ∷ 11 ∷ 12 ∷ []
+worn = refl

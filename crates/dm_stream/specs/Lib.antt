@@ -1,0 +1,4 @@
+pub mod Sending
+pub mod Receiving
+pub mod Stream
+pub mod Order

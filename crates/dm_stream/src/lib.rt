@@ -1,0 +1,12 @@
+//! A stream of numbered messages from one machine to another, over a network that may lose, repeat and reorder.
+#![tactic(auto)]
+
+mod law;
+mod receiver;
+mod sender;
+#[cfg(test)]
+mod tests;
+
+pub use law::any_schedule;
+pub use receiver::{Arrived, NoMemory, Receiver};
+pub use sender::{GiveNo, Sender};

@@ -1,0 +1,146 @@
+//! The receiving side of a stream.
+ghost use Rattle.std.specs.Prelude.{IfOk, OnSome, length, replicate, ◌+◌, ◌<◌, ◌≡◌};
+ghost use Rattle.circular_buffer.specs.Buffer.{buffer};
+ghost use Rattle.dm_stream.specs.Receiving.{kept_once, once};
+
+use circular_buffer::HeapCircularBuffer;
+use std::alloc::{AllocError, Global};
+use std::marker::Model;
+use thiserror::Error;
+
+/// Messages are kept from the next number on, as many as a sender may have outstanding.
+const PLACES: usize = 8;
+
+/// No memory was left.
+#[derive(Clone, Copy, Debug, PartialEq, Eq, Error)]
+#[error("out of memory")]
+pub struct NoMemory;
+
+impl From<AllocError> for NoMemory {
+    fn from(_error: AllocError) -> NoMemory {
+        NoMemory
+    }
+}
+
+/// What an arrival is.
+#[derive(Debug, Drop)]
+pub enum Arrived<M> {
+    /// The next message, which is handed back.
+    Taken(M),
+    /// A message that was taken before.
+    Old,
+    /// A message before which others are missing. It is kept.
+    Early,
+}
+
+/// Takes messages in the order of their numbers, from 0, and keeps those that come early.
+#[derive(Drop)]
+pub struct Receiver<M> {
+    count: u32,
+    early: HeapCircularBuffer<Option<M>>,
+}
+
+impl<M> Model for Receiver<M> {
+    ghost use Rattle.std.specs.Prelude.{◌≡◌};
+    ghost use Rattle.dm_stream.specs.Receiving.{IsReceiving, Receiving, receiving_code};
+
+    ghost Value = { Receiving M };
+
+    ghost coded = { receiving_code M.code };
+
+    ghost view = { λ r. record { count = r.count; kept = r.early.items } };
+
+    ghost invariant = { λ r. IsReceiving (record { count = r.count; kept = r.early.items }) × (r.early.capacity ≡ 8) };
+}
+
+/// A ring with all its places empty.
+fn empty_ring<M: Drop>(alloc: Global) -> Result<HeapCircularBuffer<Option<M>>, AllocError>
+    ensures { IfOk result (λ b. b ≡ buffer (replicate 8 None) 8) }
+{
+    let mut ring = HeapCircularBuffer::with_capacity(alloc, PLACES)?;
+    for _filled in 0..PLACES {
+        let _ = ring.push_back(None);
+    }
+    Ok(ring)
+}
+
+/// Keeps a message, unless one is kept already.
+fn put_once<M: Drop>(held: &mut Option<M>, message: M)
+    ensures { held.new ≡ once held.old message }
+{
+    if held.is_none() {
+        *held = Some(message);
+    }
+}
+
+/// Keeps a message at this place, unless one is kept there already.
+fn keep_once<M: Drop>(ring: &mut HeapCircularBuffer<Option<M>>, place: usize, message: M)
+    requires { place < length ring.old.items }
+    ensures { ring.new ≡ buffer (kept_once ring.old.items place message) ring.old.capacity }
+{
+    match ring.get_mut(place) {
+        Some(held) => put_once(held, message),
+        None => unreachable!(),
+    }
+}
+
+impl<M: Drop> Receiver<M> {
+    ghost use Rattle.dm_stream.specs.Receiving.{advanced, after_arrival, after_next, arrival, fresh_receiving, kept_count, next};
+
+    /// Nothing is taken, and nothing is kept.
+    pub fn new(alloc: Global) -> Result<Receiver<M>, NoMemory>
+        ensures { IfOk result (λ r. r ≡ fresh_receiving) }
+    {
+        Ok(Receiver {
+            count: 0,
+            early: empty_ring(alloc)?,
+        })
+    }
+
+    /// How many messages were taken: the number of the next.
+    pub fn count(&self) -> u32
+        ensures { result ≡ self.now.count }
+    {
+        self.count
+    }
+
+    /// A message has arrived: the next is taken, a lower number is old, a higher one is kept unless it is kept already.
+    pub fn arrive(&mut self, number: u32, message: M) -> Arrived<M>
+        requires in_window { number < self.old.count + 8 }
+        requires numbered { number < u32.MAX }
+        ensures value { result ≡ arrival self.old number message }
+        ensures after { self.new ≡ after_arrival self.old number message }
+    {
+        if number == self.count {
+            let _ = self.advance();
+            return Arrived::Taken(message);
+        }
+        if number < self.count {
+            return Arrived::Old;
+        }
+        keep_once(&mut self.early, (number - self.count) as usize, message);
+        Arrived::Early
+    }
+
+    /// Takes the kept message whose number is the count, if there is one. After a message was taken, ask until there is none.
+    pub fn next_kept(&mut self) -> Option<M>
+        ensures value { result ≡ next self.old }
+        ensures after { self.new ≡ after_next self.old }
+        ensures fewer { OnSome result (kept_count self.new < kept_count self.old) }
+    {
+        match self.early.front() {
+            Some(Some(_)) => self.advance(),
+            _ => None,
+        }
+    }
+
+    /// Counts one more message, and moves the places up by one. What was kept under that number is handed back.
+    fn advance(&mut self) -> Option<M>
+        requires { self.old.count < u32.MAX }
+        ensures value { result ≡ next self.old }
+        ensures after { self.new ≡ advanced self.old }
+    {
+        self.count += 1;
+        self.early.push_back(None).flatten()
+    }
+}

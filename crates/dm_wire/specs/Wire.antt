@@ -1,0 +1,19 @@
+-- The wires between sixteen machines, one for each ordered pair.
+use Rattle.std.specs.Prelude.{ℕ, ◌+◌, ◌*◌, nat_lt, Bool, ◌==◌, ◌&&◌, if◌then◌else◌, List, [], ◌∷◌, ◌++◌, slice_index_or}
+use Rattle.dm_wire.specs.declared.wire.Wire.{Wire}
+use Rattle.dm_wire.specs.Sent.{Sent, just_put, marked}
+
+-- all packets ever put on the wire from a to b, in order
+unfoldable pub packets_on : Wire → ℕ → ℕ → List Sent
+packets_on w a b = if nat_lt b 16 then slice_index_or w.pairs.items (16 * a + b) [] else []
+
+abbrev pub is_pair : ℕ → ℕ → ℕ → ℕ → Bool
+is_pair a b x y = (a == x) && (b == y)
+
+-- one more packet on the wire from a to b
+abbrev pub after_put : (ℕ → ℕ → List Sent) → ℕ → ℕ → List ℕ → ℕ → ℕ → List Sent
+after_put packets a b bytes x y = if is_pair a b x y then packets x y ++ just_put bytes ∷ [] else packets x y
+
+-- one more mark on the wire from a to b
+abbrev pub after_mark : (ℕ → ℕ → List Sent) → ℕ → ℕ → ℕ → ℕ → ℕ → List Sent
+after_mark packets a b k x y = if is_pair a b x y then marked (packets x y) k else packets x y

@@ -1,0 +1,9 @@
+//! The wires between machines: each packet that was ever put on one stays there, and may be delivered again.
+#![tactic(auto)]
+
+mod packets;
+#[cfg(test)]
+mod tests;
+mod wire;
+
+pub use wire::{NoMemory, Wire};

@@ -1,0 +1,116 @@
+//! The wires of all pairs of machines.
+ghost use Rattle.std.specs.Prelude.{IfOk, OnErr, OnOk, [], length, option_map, position, slice_index_or, vec_len, ◌*◌, ◌+◌, ◌<◌, ◌≡◌, ◌≤◌, ℕ};
+
+use crate::packets::Packets;
+use std::alloc::{AllocError, Global};
+use thiserror::Error;
+
+/// No memory was left.
+#[derive(Clone, Copy, Debug, PartialEq, Eq, Error)]
+#[error("out of memory")]
+pub struct NoMemory;
+
+impl From<AllocError> for NoMemory {
+    fn from(_error: AllocError) -> NoMemory {
+        NoMemory
+    }
+}
+
+/// Machines are numbered from 0, and there are at most so many.
+const MACHINES: u8 = 16;
+
+/// All packets ever put on the wire from one machine to another, for each ordered pair of sixteen machines, with
+/// a mark for each that was delivered. The pair from `a` to `b` stands at place `16 * a + b`; those past the end are empty.
+#[derive(Drop)]
+pub struct Wire {
+    pairs: Vec<Packets>,
+    alloc: Global,
+}
+
+/// The place of a pair.
+fn place(a: u8, b: u8) -> usize
+    ensures { result ≡ 16 * a + b }
+{
+    MACHINES as usize * a as usize + b as usize
+}
+
+/// Makes room for `len` pairs. New ones are empty.
+fn reach(pairs: &mut Vec<Packets>, alloc: Global, len: usize) -> Result<(), AllocError>
+    ensures ok { OnOk result (len ≤ vec_len pairs.new) }
+    ensures same { (q : ℕ) → slice_index_or pairs.new.items q [] ≡ slice_index_or pairs.old.items q [] }
+{
+    while pairs.len() < len {
+        pairs.push(Packets::new(alloc))?;
+    }
+    Ok(())
+}
+
+#[tactic(auto, unfolding(crate::specs::Wire::packets_on))]
+impl Wire {
+    ghost use Rattle.dm_wire.specs.Sent.{bytes_at, is_unseen};
+    ghost use Rattle.dm_wire.specs.Wire.{after_mark, after_put, packets_on};
+
+    /// Wires with nothing on them. It takes no memory.
+    pub fn new(alloc: Global) -> Wire
+        ensures { (a b : ℕ) → packets_on result a b ≡ [] }
+    {
+        Wire {
+            pairs: Vec::new(alloc),
+            alloc,
+        }
+    }
+
+    /// Puts a packet on the wire from `a` to `b`, and tells its number. Where memory lacks, the bytes are let go.
+    pub fn put(&mut self, a: u8, b: u8, bytes: Vec<u8>) -> Result<u64, NoMemory>
+        requires { (a < 16) × (b < 16) }
+        ensures ok { OnOk result ((x y : ℕ) → packets_on self.new x y ≡ after_put (packets_on self.old) a b bytes.items x y) }
+        ensures number { IfOk result (λ k. k ≡ length (packets_on self.old a b)) }
+        ensures err { OnErr result ((x y : ℕ) → packets_on self.new x y ≡ packets_on self.old x y) }
+    {
+        let place = place(a, b);
+        reach(&mut self.pairs, self.alloc, place + 1)?;
+        let number = self.pairs[place].put(bytes)?;
+        Ok(number)
+    }
+
+    /// How many packets were put on the wire from `a` to `b`.
+    pub fn count(&self, a: u8, b: u8) -> u64
+        requires { (a < 16) × (b < 16) }
+        ensures { result ≡ length (packets_on self.now a b) }
+    {
+        match self.pairs.get(place(a, b)) {
+            Some(packets) => packets.len(),
+            None => 0,
+        }
+    }
+
+    /// The bytes of the packet with this number on the wire from `a` to `b`.
+    pub fn packet(&self, a: u8, b: u8, number: u64) -> Option<&[u8]>
+        requires { (a < 16) × (b < 16) }
+        ensures { option_map (λ s. s.now) result ≡ bytes_at (packets_on self.now a b) number }
+    {
+        match self.pairs.get(place(a, b)) {
+            Some(packets) => packets.bytes(number),
+            None => None,
+        }
+    }
+
+    /// Marks the packet with this number on the wire from `a` to `b` as delivered.
+    pub fn mark(&mut self, a: u8, b: u8, number: u64)
+        requires { (a < 16) × (b < 16) × (number < length (packets_on self.old a b)) }
+        ensures { (x y : ℕ) → packets_on self.new x y ≡ after_mark (packets_on self.old) a b number x y }
+    {
+        self.pairs[place(a, b)].mark(number);
+    }
+
+    /// The least number on the wire from `a` to `b` that isn't marked. It looks at no packet that was delivered.
+    pub fn unseen(&self, a: u8, b: u8) -> Option<u64>
+        requires { (a < 16) × (b < 16) }
+        ensures { result ≡ position is_unseen (packets_on self.now a b) }
+    {
+        match self.pairs.get(place(a, b)) {
+            Some(packets) => packets.unseen(),
+            None => None,
+        }
+    }
+}
