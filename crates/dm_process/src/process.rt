@@ -1,0 +1,133 @@
+//! A process.
+ghost use Rattle.std.specs.Prelude.{◌≡◌, ◌*◌, ◌-◌, ◌≤◌, ◌<◌, ◌++◌, ◌∷◌, [], IfErr, IfOk, IfNone, IfSome, OnErr, OnOk, MatchOption, Some, None, length, remove, replicate, slice_get};
+ghost use Rattle.dm_process.specs.Begun.{begun};
+ghost use Rattle.dm_process.specs.Mail.{first_on, is_on, on_mask, what_is_on, without_first_on};
+ghost use Rattle.dm_process.specs.Process.{is_runnable};
+
+use dm_link::Pid;
+use dm_linktable::Table;
+use dm_lists::Queue;
+use dm_message::{Message, What};
+use dm_regs::{Memory, Regs};
+use std::alloc::Global;
+
+/// What a process does when it is served.
+#[derive(Clone, Copy, Debug, PartialEq, Eq)]
+pub enum Status {
+    /// It executes instructions.
+    Ready,
+    /// It takes a message on a channel of the mask into its buffer of `cap` bytes at `base`.
+    Waiting { mask: u32, base: u32, cap: u32 },
+}
+
+/// A process (1977), at home on any machine (1983).
+#[derive(Drop)]
+pub struct Process {
+    pub pid: Pid,
+    pub regs: Regs,
+    pub memory: Memory,
+    pub table: Table,
+    pub status: Status,
+    /// A stopped process isn't served.
+    pub stopped: bool,
+    /// How many messages it has sent.
+    pub sent: u32,
+    /// How often it has moved.
+    pub moves: u32,
+    /// The messages that it has not received yet, in the order in which they came.
+    pub queue: Queue<Message>,
+}
+
+/// No memory was left.
+#[derive(Clone, Copy, Debug, PartialEq, Eq, Drop)]
+pub struct NoMemory;
+
+impl From<dm_regs::NoMemory> for NoMemory {
+    fn from(_: dm_regs::NoMemory) -> NoMemory {
+        NoMemory
+    }
+}
+
+impl Process {
+    /// A process that hasn't executed anything yet: its memory is an image, then zeros up to so many blocks of 256
+    /// bytes.
+    pub fn new(
+        alloc: Global,
+        pid: Pid,
+        image: &[u8],
+        blocks: u16,
+        table: Table,
+    ) -> Result<Process, NoMemory>
+        requires least { 1 ≤ blocks }
+        requires most { blocks ≤ 256 }
+        requires fits { length image.now ≤ 256 * blocks }
+        ensures ok { IfOk result (λ p. p ≡ begun pid (image.now ++ replicate (256 * blocks - length image.now) 0) table) }
+    {
+        Ok(Process {
+            pid,
+            regs: Regs::new(),
+            memory: Memory::from_image(alloc, image, blocks)?,
+            table,
+            status: Status::Ready,
+            stopped: false,
+            sent: 0,
+            moves: 0,
+            queue: Queue::new(alloc),
+        })
+    }
+
+    /// Whether it can be served.
+    pub fn runnable(&self) -> bool
+        ensures { result ≡ is_runnable self.now }
+    {
+        !self.stopped
+            && match self.status {
+                Status::Ready => true,
+                Status::Waiting { mask, .. } => self.first_match(mask).is_some(),
+            }
+    }
+
+    /// Puts a message at the back of its queue, or hands it back.
+    pub fn enqueue(&mut self, message: Message) -> Result<(), (Message, NoMemory)>
+        ensures ok { OnOk result (self.new ≡ record self.old { queue = self.old.queue ++ message ∷ [] }) }
+        ensures err { OnErr result (self.new ≡ self.old) }
+        ensures returned { IfErr result (λ e. e.0 ≡ message) }
+    {
+        match self.queue.push_or_return(message) {
+            Ok(()) => Ok(()),
+            Err(message) => Err((message, NoMemory)),
+        }
+    }
+
+    /// The place of the first message of its queue that is on a channel of the mask.
+    pub fn first_match(&self, mask: u32) -> Option<usize>
+        ensures none { IfNone result (first_on mask self.now.queue ≡ None) }
+        ensures within { IfSome result (λ i. i < length self.now.queue) }
+        ensures first { IfSome result (λ i. slice_get self.now.queue i ≡ first_on mask self.now.queue) }
+        ensures rest { IfSome result (λ i. remove self.now.queue i ≡ without_first_on mask self.now.queue) }
+    {
+        for place in 0..self.queue.len() {
+            if is_on(self.queue.at(place), mask) {
+                return Some(place);
+            }
+        }
+        None
+    }
+}
+
+/// Whether a channel is one of the mask's.
+fn on_mask(mask: u32, channel: u8) -> bool
+    ensures { result ≡ on_mask mask channel }
+{
+    channel < 32 && (mask >> channel) % 2 == 1
+}
+
+/// Whether it is a user message on a channel of the mask.
+fn is_on(message: &Message, mask: u32) -> bool
+    ensures { result ≡ is_on mask message.now }
+{
+    match &message.what {
+        What::User { channel, .. } => on_mask(mask, *channel),
+        _ => false,
+    }
+}
