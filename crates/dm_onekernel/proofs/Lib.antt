@@ -1,0 +1,3 @@
+pub mod Equal
+pub mod Counted
+pub mod ReceivedOnce
