@@ -1,0 +1,11 @@
+pub mod Text
+pub mod WordsOf
+pub mod LinesOf
+pub mod View
+pub mod Addresses
+pub mod Places
+pub mod Point
+pub mod Group
+pub mod Good
+pub mod Quiet
+pub mod EndLines

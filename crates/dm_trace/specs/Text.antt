@@ -1,0 +1,78 @@
+-- The text of each line: words with one space between, and a line feed.
+use Rattle.std.specs.Prelude.{ℕ, Bool, true, false, codes, List, [], ◌∷◌, ◌++◌}
+use Rattle.std.specs.Fmt.{decimal}
+use Rattle.dm_link.specs.declared.Pid.{Pid}
+use Rattle.dm_message.specs.declared.MsgId.{MsgId}
+use Rattle.dm_message.specs.Kinds.{word_of}
+use Rattle.dm_process.specs.declared.process.Status.{Status}
+use Rattle.dm_process.specs.declared.process.Status.TheVariants as status
+use Rattle.dm_onekernel.specs.declared.label.Label.{Label}
+use Rattle.dm_onekernel.specs.declared.label.Label.TheVariants as label
+use Rattle.dm_onekernel.specs.Codes.{reply_code, why_code}
+use Rattle.dm_schedule.specs.declared.Step.{Step}
+use Rattle.dm_schedule.specs.declared.Step.TheVariants as step
+use Rattle.dm_trace.specs.declared.line.Line.{Line}
+use Rattle.dm_trace.specs.declared.line.Line.TheVariants as line
+use Rattle.dm_trace.specs.declared.line.EndLine.{EndLine}
+use Rattle.dm_trace.specs.declared.line.EndLine.TheVariants as end
+
+-- a process is written m.n
+abbrev pub pid_text : Pid → List ℕ
+pid_text p = decimal p.home ++ codes "." ++ decimal p.num
+
+abbrev pub mark_text : Bool → List ℕ
+mark_text true = codes "!"
+mark_text false = []
+
+-- a message is written m.n#k, and the answer to it m.n#k!
+abbrev pub id_text : MsgId → List ℕ
+id_text i = pid_text i.from ++ codes "#" ++ decimal i.n ++ mark_text i.answer
+
+abbrev pub step_text : Step → List ℕ
+step_text (step.Turn m) = codes "turn " ++ decimal m
+
+abbrev pub label_text : Label → List ℕ
+label_text (label.Ran p k) = codes "ran " ++ pid_text p ++ codes " " ++ decimal k
+label_text (label.Call p n c) = codes "call " ++ pid_text p ++ codes " " ++ decimal n ++ codes " " ++ decimal (reply_code c)
+label_text (label.Send p id) = codes "send " ++ pid_text p ++ codes " " ++ id_text id
+label_text (label.Wait p) = codes "wait " ++ pid_text p
+label_text (label.Out p w) = codes "out " ++ pid_text p ++ codes " " ++ decimal w
+label_text (label.End p y) = codes "end " ++ pid_text p ++ codes " " ++ decimal (why_code y)
+label_text (label.Receive p id) = codes "receive " ++ pid_text p ++ codes " " ++ id_text id
+label_text (label.Refuse p id c) = codes "refuse " ++ pid_text p ++ codes " " ++ id_text id ++ codes " " ++ decimal (reply_code c)
+label_text (label.Dropped id) = codes "dropped " ++ id_text id
+
+abbrev pub status_text : Status → List ℕ
+status_text status.Ready = codes "ready"
+status_text (status.Waiting mask base cap) = codes "waiting " ++ decimal mask ++ codes " " ++ decimal base ++ codes " " ++ decimal cap
+
+abbrev pub go_text : Bool → List ℕ
+go_text true = codes "stopped"
+go_text false = codes "go"
+
+abbrev pub end_text : EndLine → List ℕ
+end_text end.Final = codes "final"
+end_text (end.Ended p y) = codes "process " ++ pid_text p ++ codes " ended " ++ decimal (why_code y)
+end_text (end.Process p at status stopped sent) =
+    codes "process " ++ pid_text p ++ codes " at " ++ decimal at ++ codes " here " ++ status_text status ++ codes " " ++ go_text stopped ++ codes " " ++ decimal sent
+end_text (end.Server p sent) = codes "server " ++ pid_text p ++ codes " " ++ decimal sent
+end_text (end.Child n p at) = codes "child " ++ decimal n ++ codes " " ++ pid_text p ++ codes " at " ++ decimal at
+end_text (end.Groups g) = codes "end " ++ decimal g
+
+-- a line without its line feed
+abbrev pub words : Line → List ℕ
+words (line.Head s) = step_text s
+words (line.Idle m) = codes "idle " ++ decimal m
+words (line.Label l) = label_text l
+words (line.Put from to id kind receiver) =
+    codes "put " ++ decimal from ++ codes " " ++ decimal to ++ codes " " ++ id_text id ++ codes " " ++ word_of kind ++ codes " " ++ pid_text receiver
+words (line.Queued id) = codes "queued " ++ id_text id
+words (line.End e) = end_text e
+
+abbrev pub line_text : Line → List ℕ
+line_text l = words l ++ 10 ∷ []
+
+-- the text of lines, one after another
+unfoldable pub text : List Line → List ℕ
+text [] = []
+text (l ∷ ls) = line_text l ++ text ls
