@@ -1,0 +1,13 @@
+//! One machine: its processes, its inbox and its ring, and what a turn does to them.
+#![tactic(auto)]
+
+mod begin;
+pub mod calls;
+pub mod node;
+mod receive;
+pub mod records;
+mod ring;
+pub mod run;
+mod turn;
+
+pub use node::{NoMemory, Node};

@@ -1,0 +1,44 @@
+//! A machine and its turns.
+use crate::records::Records;
+use dm_link::Pid;
+use dm_lists::Queue;
+use dm_message::Message;
+use dm_onekernel::Format;
+use std::alloc::{AllocError, AllocFailed, Global};
+
+/// No memory was left.
+#[derive(Clone, Copy, Debug, PartialEq, Eq, Drop)]
+pub struct NoMemory;
+
+impl From<AllocError> for NoMemory {
+    fn from(_: AllocError) -> NoMemory {
+        NoMemory
+    }
+}
+
+impl From<dm_process::NoMemory> for NoMemory {
+    fn from(_: dm_process::NoMemory) -> NoMemory {
+        NoMemory
+    }
+}
+
+impl<T: Drop> From<AllocFailed<T>> for NoMemory {
+    fn from(_: AllocFailed<T>) -> NoMemory {
+        NoMemory
+    }
+}
+
+/// A machine.
+#[derive(Drop)]
+pub struct Node {
+    pub alloc: Global,
+    pub machine: u8,
+    /// The greatest number of plain instructions in a turn.
+    pub quantum: u32,
+    pub format: Format,
+    pub records: Records,
+    /// The processes that are here, in the order in which they are served.
+    pub ring: Queue<Pid>,
+    /// The messages that have come and wait to be handled.
+    pub inbox: Queue<Message>,
+}
