@@ -1,0 +1,3 @@
+pub mod Stands
+pub mod Run
+pub mod World

@@ -1,0 +1,72 @@
+-- What a world holds after so many turns, and what every run promises.
+use Rattle.std.specs.Prelude.{◌≡◌, ℕ, zero, suc, ◌+◌, ◌<◌, List, [], ◌∷◌, ◌++◌, length}
+use Rattle.std.specs.declared.option.Option.{Option}
+use Rattle.std.specs.declared.option.Option.TheVariants.{None, Some}
+use Rattle.dm_link.specs.declared.Pid.{Pid}
+use Rattle.dm_link.specs.Names.{pid_of}
+use Rattle.dm_onekernel.specs.declared.boot.Boot.{Boot}
+use Rattle.dm_onekernel.specs.Boot.{IsValid, first_number}
+use Rattle.dm_trace.specs.declared.line.Line.{Line}
+use Rattle.dm_trace.specs.declared.line.Line.TheVariants as line
+use Rattle.dm_trace.specs.declared.line.EndLine.TheVariants as end
+use Rattle.dm_trace.specs.Point.{Point}
+use Rattle.dm_trace.specs.Good.{IsGood}
+use Rattle.dm_trace.specs.EndLines.{end_lines}
+use Rattle.dm_node.specs.declared.records.Record.{Record}
+use Rattle.dm_node.specs.declared.records.Record.TheVariants as node
+use Rattle.dm_node.specs.Records.{at}
+use Rattle.dm_node.specs.Node.{NodeState}
+use Rattle.dm_node.specs.Opened.{opened}
+use Rattle.dm_world.specs.Run.{after_turns, groups, turns_of}
+use Rattle.dm_world.specs.declared.world.World.{World}
+
+-- the machine of the boot file after k turns
+abbrev pub machine_after : Boot → ℕ → NodeState
+machine_after b k = after_turns k (opened b 0)
+
+-- the world is what k turns make of the boot file
+pub record IsAfter (b : Boot) (k : ℕ) (w : World) : Type 0 where
+  pub machine : w.node.machine ≡ (machine_after b k).machine
+  pub quantum : w.node.quantum ≡ (machine_after b k).quantum
+  pub format : w.node.format ≡ (machine_after b k).format
+  pub records : (q : Pid) → at w.node.records q ≡ (machine_after b k).records q
+  pub ring : w.node.ring ≡ (machine_after b k).ring
+  pub inbox : w.node.inbox ≡ (machine_after b k).inbox
+  pub made : w.made ≡ length b.processes
+  pub groups : w.groups ≡ k
+
+-- some boot file and fewer than 1,000 turns made the world
+pub record IsRunning (w : World) : Type 0 where
+  pub boot : Boot
+  pub turns : ℕ
+  pub valid : IsValid boot
+  pub few : turns < 1000
+  pub is : IsAfter boot turns w
+
+-- the line of a process
+abbrev pub record_line : Pid → ℕ → Option Record → List Line
+record_line p m None = []
+record_line p m (Some (node.Ended why)) = line.End (end.Ended p why) ∷ []
+record_line p m (Some (node.Here x)) = line.End (end.Process p m x.status x.stopped x.sent) ∷ []
+
+-- the lines of the first processes of the machine
+abbrev pub record_lines : NodeState → ℕ → List Line
+record_lines n zero = []
+record_lines n (suc c) = record_lines n c ++ record_line (pid_of n.machine (first_number + c)) n.machine (n.records (pid_of n.machine (first_number + c)))
+
+-- the first children of the manager are the processes of the boot file
+abbrev pub child_lines_to : ℕ → ℕ → List Line
+child_lines_to m zero = []
+child_lines_to m (suc c) = child_lines_to m c ++ line.End (end.Child (c + 1) (pid_of m (first_number + c)) m) ∷ []
+
+-- what is said at the end, after k turns
+abbrev pub last_lines : Boot → ℕ → List Line
+last_lines b k =
+    ((((line.End end.Final ∷ record_lines (machine_after b k) (length b.processes)) ++ line.End (end.Server (pid_of 0 1) 0) ∷ []) ++ line.End (end.Server (pid_of 0 2) 0) ∷ [])
+    ++ child_lines_to 0 (length b.processes)) ++ line.End (end.Groups k) ∷ []
+
+-- the lines of a run are good, and what is said at the end is where the run stands
+pub record GoodRun (b : Boot) (k : ℕ) : Type 0 where
+  pub end : Point
+  pub good : IsGood b (turns_of k) (groups k (opened b 0)) end
+  pub last : end_lines end ≡ last_lines b k
