@@ -1,0 +1,26 @@
+-- Names, and the bytes of an image's text.
+use Rattle.std.specs.Prelude.{ℕ, ◌==◌, ◌&&◌, ◌||◌, Bool, nat_le, List, length}
+use Rattle.std.specs.List.{list_all}
+use Rattle.std.specs.declared.option.Option.{Option}
+use Rattle.std.specs.declared.option.Option.TheVariants.{None, Some}
+use Rattle.std.specs.declared.result.Result.{Result}
+use Rattle.std.specs.declared.result.Result.TheVariants.{Ok, Err}
+use Rattle.dm_asm.specs.declared.refusals.Why.{Why}
+use Rattle.dm_asm.specs.Assembled.{assembled}
+
+-- `a` to `z`, `0` to `9`, or `_`
+abbrev pub is_name_byte : ℕ → Bool
+is_name_byte b = ((nat_le 97 b && nat_le b 122) || (nat_le 48 b && nat_le b 57)) || (b == 95)
+
+-- a name has 1 to 16 of these
+abbrev pub is_name : List ℕ → Bool
+is_name name = (nat_le 1 (length name) && nat_le (length name) 16) && list_all is_name_byte name
+
+-- what the assembler makes of a text, if it makes something
+abbrev pub bytes_made : Result (List ℕ) (ℕ × Why) → Option (List ℕ)
+bytes_made (Ok bytes) = Some bytes
+bytes_made (Err e) = None
+
+-- the bytes of an image: what the assembler makes of its text
+abbrev pub bytes_of : List ℕ → Option (List ℕ)
+bytes_of text = bytes_made (assembled text)
