@@ -1,0 +1,6 @@
+pub mod Reading
+pub mod Writing
+pub mod Turns
+pub mod Progress
+pub mod Endings
+pub mod Worked

@@ -1,0 +1,108 @@
+-- What the words, the boot file and the schedule say.
+use Rattle.std.specs.Prelude.{◌≡◌, ℕ, ◌≤◌, ⊤, List, length}
+use Rattle.std.specs.declared.option.Option.{Option}
+use Rattle.std.specs.declared.option.Option.TheVariants.{None, Some}
+use Rattle.dm_onekernel.specs.declared.boot.Boot.{Boot}
+use Rattle.dm_boot.specs.Boot.{boot_of}
+use Rattle.dm_schedule.specs.declared.Step.{Step}
+use Rattle.dm_schedule.specs.Schedule.{Accepted, Refused, directives_of}
+use Rattle.dm_outside.specs.Outside.{RoseOrFull}
+use Rattle.dm_cli.specs.declared.status.Input.TheVariants as input
+use Rattle.dm_cli.specs.declared.status.Status.{Status}
+use Rattle.dm_cli.specs.declared.status.Status.TheVariants as status
+use Rattle.dm_cli.specs.Words.{names_of}
+use Rattle.dm_cli.specs.Files.{IsFile, IsLonger}
+
+-- the most bytes of a boot file, and of a schedule
+abbrev pub most_boot : ℕ
+most_boot = 1048576
+
+abbrev pub most_schedule : ℕ
+most_schedule = 16777216
+
+-- the file of this name has these bytes, and no more than it may have
+pub record HasFile (files : Option (List ℕ → Option (List ℕ))) (name : List ℕ) (most : ℕ) (bytes : List ℕ) : Type 0 where
+  pub is : IsFile files name bytes
+  pub within : length bytes ≤ most
+
+-- the boot file of this name says this system
+pub record SaysBoot (files : Option (List ℕ → Option (List ℕ))) (name : List ℕ) (b : Boot) : Type 0 where
+  pub bytes : List ℕ
+  pub file : HasFile files name most_boot bytes
+  pub says : boot_of bytes ≡ Some b
+
+-- the boot file of this name says no system
+pub record RefusesBoot (files : Option (List ℕ → Option (List ℕ))) (name : List ℕ) (number place : ℕ) : Type 0 where
+  pub bytes : List ℕ
+  pub file : HasFile files name most_boot bytes
+  pub refused : boot_of bytes ≡ None
+  pub number_is : number ≡ 0
+  pub place_is : place ≡ 0
+
+-- the schedule of this name says these directives
+pub record SaysSteps (files : Option (List ℕ → Option (List ℕ))) (name : List ℕ) (steps : List Step) : Type 0 where
+  pub bytes : List ℕ
+  pub file : HasFile files name most_schedule bytes
+  pub says : directives_of bytes ≡ Accepted steps
+
+-- the schedule of this name is refused at a line, for a reason
+pub record RefusesSteps (files : Option (List ℕ → Option (List ℕ))) (name : List ℕ) (line why : ℕ) : Type 0 where
+  pub bytes : List ℕ
+  pub file : HasFile files name most_schedule bytes
+  pub refused : directives_of bytes ≡ Refused line why
+
+-- files of these names say this system and these directives
+pub record SaysFiles (files : Option (List ℕ → Option (List ℕ))) (boot schedule : List ℕ) (b : Boot) (steps : List Step) : Type 0 where
+  pub says_boot : SaysBoot files boot b
+  pub says_steps : SaysSteps files schedule steps
+
+-- why the boot file of this name gives no system
+abbrev pub NoBoot : Option (List ℕ → Option (List ℕ)) → List ℕ → ℕ → ℕ → Status → Type 0
+NoBoot files name old new status.ReadFault = RoseOrFull old new
+NoBoot files name old new status.NoMemory = ⊤
+NoBoot files name old new (status.BootRefused number place) = RefusesBoot files name number place
+NoBoot files name old new (status.TooLong input.Boot) = IsLonger files name most_boot
+NoBoot files name old new _ = ⊥
+
+-- why the schedule of this name gives no directives
+abbrev pub NoSteps : Option (List ℕ → Option (List ℕ)) → List ℕ → ℕ → ℕ → Status → Type 0
+NoSteps files name old new status.ReadFault = RoseOrFull old new
+NoSteps files name old new status.NoMemory = ⊤
+NoSteps files name old new (status.ScheduleRefused line why) = RefusesSteps files name line why
+NoSteps files name old new (status.TooLong input.Schedule) = IsLonger files name most_schedule
+NoSteps files name old new _ = ⊥
+
+-- the boot file says a system, and this holds too
+pub record AfterBoot (files : Option (List ℕ → Option (List ℕ))) (boot : List ℕ) (Holds : Type 0) : Type 0 where
+  pub b : Boot
+  pub says : SaysBoot files boot b
+  pub holds : Holds
+
+-- why files of these names give no run: the first that is at fault
+abbrev pub NoFiles : Option (List ℕ → Option (List ℕ)) → List ℕ → List ℕ → ℕ → ℕ → Status → Type 0
+NoFiles files boot schedule old new status.ReadFault = RoseOrFull old new
+NoFiles files boot schedule old new status.NoMemory = ⊤
+NoFiles files boot schedule old new (status.BootRefused number place) = RefusesBoot files boot number place
+NoFiles files boot schedule old new (status.ScheduleRefused line why) = AfterBoot files boot (RefusesSteps files schedule line why)
+NoFiles files boot schedule old new (status.TooLong input.Boot) = IsLonger files boot most_boot
+NoFiles files boot schedule old new (status.TooLong input.Schedule) = AfterBoot files boot (IsLonger files schedule most_schedule)
+NoFiles files boot schedule old new _ = ⊥
+
+-- the words name a boot file and a schedule that say this system and these directives
+pub record Accepts (words : List (List ℕ)) (files : Option (List ℕ → Option (List ℕ))) (b : Boot) (steps : List Step) : Type 0 where
+  pub boot : List ℕ
+  pub schedule : List ℕ
+  pub names : names_of words ≡ Some (boot, schedule)
+  pub says : SaysFiles files boot schedule b steps
+
+-- the words name files that give no run
+pub record Refuses (words : List (List ℕ)) (files : Option (List ℕ → Option (List ℕ))) (old new : ℕ) (s : Status) : Type 0 where
+  pub boot : List ℕ
+  pub schedule : List ℕ
+  pub names : names_of words ≡ Some (boot, schedule)
+  pub why : NoFiles files boot schedule old new s
+
+-- why there is no run: the words, the boot file or the schedule, the first of these that is at fault
+abbrev pub NoRun : List (List ℕ) → Option (List ℕ → Option (List ℕ)) → ℕ → ℕ → Status → Type 0
+NoRun words files old new status.Usage = names_of words ≡ None
+NoRun words files old new s = Refuses words files old new s

@@ -1,0 +1,44 @@
+-- What is appended to the bytes of a sink.
+use Rattle.std.specs.Prelude.{◌≡◌, ℕ, ◌<◌, List, ◌++◌, length, take}
+use Rattle.std.specs.declared.option.Option.{Option}
+use Rattle.dm_onekernel.specs.declared.boot.Boot.{Boot}
+use Rattle.dm_schedule.specs.declared.Step.{Step}
+use Rattle.dm_trace.specs.declared.line.Line.{Line}
+use Rattle.dm_trace.specs.Point.{Point}
+use Rattle.dm_trace.specs.Good.{IsGood, joined}
+use Rattle.dm_trace.specs.EndLines.{end_lines}
+use Rattle.dm_trace.specs.Text.{text}
+use Rattle.dm_outside.specs.Outside.{appended}
+
+-- fewer than all of these bytes were appended, from the first on
+pub record IsCutShort (old : Option (List ℕ)) (bytes : List ℕ) (new : Option (List ℕ)) : Type 0 where
+  pub count : ℕ
+  pub fewer : count < length bytes
+  pub taken : new ≡ appended old (take count bytes)
+
+-- the text of good lines was appended, one group for each directive, and then the lines that say where all stands
+pub record IsWhole (b : Boot) (steps : List Step) (old new : Option (List ℕ)) : Type 0 where
+  pub groups : List (List Line)
+  pub end : Point
+  pub good : IsGood b steps groups end
+  pub written : new ≡ appended old (text (joined groups ++ end_lines end))
+
+-- the text of good lines was appended, one group for each of the first directives
+pub record IsOfFirst (b : Boot) (steps : List Step) (old new : Option (List ℕ)) : Type 0 where
+  pub first : List Step
+  pub others : List Step
+  pub split : steps ≡ first ++ others
+  pub groups : List (List Line)
+  pub end : Point
+  pub good : IsGood b first groups end
+  pub written : new ≡ appended old (text (joined groups))
+
+-- the text of good lines, one group for each directive, and then of the lines that say where all stands, was begun
+pub record IsBegun (b : Boot) (steps : List Step) (old new : Option (List ℕ)) : Type 0 where
+  pub groups : List (List Line)
+  pub end : Point
+  pub good : IsGood b steps groups end
+  pub begun : List ℕ
+  pub left : List ℕ
+  pub prefix : text (joined groups ++ end_lines end) ≡ begun ++ left
+  pub written : new ≡ appended old begun

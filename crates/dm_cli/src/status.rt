@@ -1,0 +1,111 @@
+//! How the program ends.
+ghost use Rattle.std.specs.Prelude.{◌≡◌, ◌+◌, ◌≤◌, ◌++◌, length, decimal};
+ghost use Rattle.dm_cli.specs.Status.{code_of, text_of};
+
+use arrayvec::ArrayString;
+use itoa::Buffer;
+
+/// One of the two files that the program reads.
+#[derive(Clone, Copy, Debug, PartialEq, Eq)]
+pub enum Input {
+    Boot,
+    Schedule,
+}
+
+/// How a run of the program ended.
+#[derive(Clone, Copy, Debug, PartialEq, Eq)]
+pub enum Status {
+    /// The schedule was read to its end, and all lines are written.
+    Done,
+    /// The words of the command line aren't those of a run.
+    Usage,
+    /// The shelf failed.
+    ReadFault,
+    /// No memory was left.
+    NoMemory,
+    /// The sink failed.
+    WriteFault,
+    /// The boot file breaks this rule, at the element of this place.
+    BootRefused { number: u8, place: u32 },
+    /// The first bad line of the schedule, counted from 1, and what is wrong with it.
+    ScheduleRefused { line: u32, why: u8 },
+    /// A file is longer than it may be.
+    TooLong(Input),
+}
+
+impl Status {
+    /// The number that the program ends with.
+    pub fn code(&self) -> u8
+        ensures { result ≡ code_of self.now }
+    {
+        match *self {
+            Status::Done => 0,
+            Status::Usage => 2,
+            Status::ReadFault => 3,
+            Status::NoMemory => 4,
+            Status::WriteFault => 5,
+            Status::BootRefused { .. } => 6,
+            Status::ScheduleRefused { .. } => 7,
+            Status::TooLong(_) => 8,
+        }
+    }
+}
+
+/// What a status says in one line, nothing where all is done. It takes no memory.
+pub fn status_text(status: &Status) -> ArrayString<64>
+    ensures { result.bytes ≡ text_of status.now }
+{
+    match *status {
+        Status::Done => words(""),
+        Status::Usage => words("usage: demosmp run --boot FILE --schedule FILE"),
+        Status::ReadFault => words("read fault"),
+        Status::NoMemory => words("no memory"),
+        Status::WriteFault => words("write fault"),
+        Status::BootRefused { number, place } => boot_refused(number, place),
+        Status::ScheduleRefused { line, why } => schedule_refused(line, why),
+        Status::TooLong(Input::Boot) => words("too long: boot"),
+        Status::TooLong(Input::Schedule) => words("too long: schedule"),
+    }
+}
+
+/// A text of these words.
+fn words(s: &str) -> ArrayString<64>
+    requires { length s.now ≤ 64 }
+    ensures { result.bytes ≡ s.now }
+{
+    let mut text = ArrayString::new();
+    text.push_str(s);
+    text
+}
+
+/// What a refused boot file is told.
+fn boot_refused(number: u8, place: u32) -> ArrayString<64>
+    ensures { result.bytes ≡ text_of (Status.BootRefused number place) }
+{
+    let mut text = words("boot refused: ");
+    push_number(&mut text, number as u32);
+    text.push_str(" at ");
+    push_number(&mut text, place);
+    text
+}
+
+/// What a refused schedule is told.
+fn schedule_refused(line: u32, why: u8) -> ArrayString<64>
+    ensures { result.bytes ≡ text_of (Status.ScheduleRefused line why) }
+{
+    let mut text = words("schedule refused: line ");
+    push_number(&mut text, line);
+    text.push_str(", why ");
+    push_number(&mut text, why as u32);
+    text
+}
+
+/// Adds a number in decimal digits.
+fn push_number(text: &mut ArrayString<64>, n: u32)
+    requires { length text.old.bytes + 10 ≤ 64 }
+    ensures written { text.new.bytes ≡ text.old.bytes ++ decimal n }
+    ensures room { length text.new.bytes ≤ length text.old.bytes + 10 }
+{
+    let mut digits = Buffer::new();
+    text.push_str(digits.format(n));
+}
