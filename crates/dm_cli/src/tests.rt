@@ -89,7 +89,7 @@ struct Ended {
 
 /// Runs the program over two files in memory, of which these reads are to fail, and a sink of which these writes are
 /// to fail and each takes at most so many bytes.
-fn ended(
+fn run_over(
     alloc: Global,
     words: &[&str],
     files: (&[u8], &[u8]),
@@ -133,7 +133,7 @@ fn writes_the_whole_run(rt: HostRuntime) -> Result<(), Fail> {
         (NOBODY, b"", 0, NO_RUN),
     ];
     for (boot, schedule, cut, written) in table {
-        let end = ended(rt.alloc(), &WORDS, (boot, schedule), (&[], &[]), cut)?;
+        let end = run_over(rt.alloc(), &WORDS, (boot, schedule), (&[], &[]), cut)?;
         assert_eq!(rt; end.status, Status::Done);
         assert_eq!(rt; end.written.as_slice(), written);
     }
@@ -143,7 +143,7 @@ fn writes_the_whole_run(rt: HostRuntime) -> Result<(), Fail> {
 #[test]
 fn reads_and_writes_nothing_for_other_words(rt: HostRuntime) -> Result<(), Fail> {
     let words = ["demosmp", "run", "--boot", "b"];
-    let end = ended(rt.alloc(), &words, (HI, EIGHT_TURNS), (&[], &[]), 0)?;
+    let end = run_over(rt.alloc(), &words, (HI, EIGHT_TURNS), (&[], &[]), 0)?;
     assert_eq!(rt; end.status, Status::Usage);
     assert_eq!(rt; end.written.as_slice(), b"".as_slice());
     assert_eq!(rt; end.calls, 0);
@@ -158,7 +158,7 @@ fn says_which_side_failed(rt: HostRuntime) -> Result<(), Fail> {
         (&[], &[2], Status::WriteFault, FIRST_GROUP),
     ];
     for (reads, writes, status, written) in table {
-        let end = ended(rt.alloc(), &WORDS, (HI, EIGHT_TURNS), (reads, writes), 0)?;
+        let end = run_over(rt.alloc(), &WORDS, (HI, EIGHT_TURNS), (reads, writes), 0)?;
         assert_eq!(rt; end.status, status);
         assert_eq!(rt; end.written.as_slice(), written);
     }
@@ -172,7 +172,7 @@ fn refuses_files(rt: HostRuntime) -> Result<(), Fail> {
         (HI, b"turn 1", "schedule refused: line 1, why 0", 7),
     ];
     for (boot, schedule, text, code) in table {
-        let end = ended(rt.alloc(), &WORDS, (boot, schedule), (&[], &[]), 0)?;
+        let end = run_over(rt.alloc(), &WORDS, (boot, schedule), (&[], &[]), 0)?;
         assert_eq!(rt; status_text(&end.status).as_str(), text);
         assert_eq!(rt; end.status.code(), code);
         assert_eq!(rt; end.written.as_slice(), b"".as_slice());
@@ -196,7 +196,7 @@ fn keeps_to_the_lengths(rt: HostRuntime) -> Result<(), Fail> {
         } else {
             NOBODY
         };
-        let end = ended(
+        let end = run_over(
             rt.alloc(),
             &WORDS,
             (boot, schedule.as_slice()),
@@ -284,7 +284,7 @@ fn executes_instructions(rt: HostRuntime) -> Result<(), Fail> {
     ];
     for (text, blocks, schedule, said) in table {
         let boot = alone(rt.alloc(), text, blocks)?;
-        let end = ended(
+        let end = run_over(
             rt.alloc(),
             &WORDS,
             (boot.as_bytes(), schedule.as_bytes()),
