@@ -1,7 +1,5 @@
-use Rattle.std.proofs.Common.{◌≡◌, ◌≤◌, List, arith, length, sym, subst}
-use Rattle.dm_schedule.specs.declared.Step.{Step}
-use Rattle.dm_world.specs.Run.{turns_of}
-use Rattle.dm_cli.proofs.Turns.{AllTurns, directives_turns}
+use Rattle.std.proofs.Common.{arith}
+use Rattle.dm_cli.proofs.Turns.{directives_turns}
 use Rattle.dm_cli.proofs.run.run_program.Goals as goal
 
 pub run-requires-clause-turns : goal.run-requires-clause-turns
