@@ -8,7 +8,8 @@ ghost use Rattle.dm_world.specs.Run.{group_of, turns_of};
 ghost use Rattle.dm_world.specs.World.{IsAfter, IsRunning, last_lines, machine_after};
 ghost use Rattle.dm_outside.specs.Outside.{RoseOrFull, appended};
 ghost use Rattle.dm_cli.specs.Words.{names_of};
-ghost use Rattle.dm_cli.specs.Inputs.{Accepts};
+ghost use Rattle.dm_cli.specs.declared.status.Status.{Status as TheStatus};
+ghost use Rattle.dm_cli.specs.Inputs.{Accepts, NoRun};
 ghost use Rattle.dm_cli.specs.Progress.{Offered, Stopped, StoppedLate, text_after};
 ghost use Rattle.dm_cli.specs.Program.{RunSays, Says};
 
@@ -50,6 +51,7 @@ pub fn run_program<F: Shelf, K: Sink>(
     }) result }
     ensures usage { names_of (map (λ w. w.now) words.now) ≡ None → result ≡ Status.Usage }
     ensures complete { (files : List ℕ → Option (List ℕ)) (b : TheBoot) (steps : List TheStep) → F.told shelf.old ≡ Some files → Accepts (map (λ w. w.now) words.now) (Some files) b steps → (RoseOrFull (F.faults shelf.old) (F.faults shelf.new) → ⊥) → (RoseOrFull (K.faults out.old) (K.faults out.new) → ⊥) → (result ≡ Status.Done) ⊎ (result ≡ Status.NoMemory) }
+    ensures refuses { (files : List ℕ → Option (List ℕ)) (s : TheStatus) → F.told shelf.old ≡ Some files → NoRun (map (λ w. w.now) words.now) (Some files) (F.faults shelf.old) (F.faults shelf.new) s → (s ≡ Status.NoMemory → ⊥) → (RoseOrFull (F.faults shelf.old) (F.faults shelf.new) → ⊥) → (result ≡ s) ⊎ (result ≡ Status.NoMemory) }
     ensures same { F.told shelf.new ≡ F.told shelf.old }
     ensures reads { F.faults shelf.old ≤ F.faults shelf.new }
     ensures writes { K.faults out.old ≤ K.faults out.new }
