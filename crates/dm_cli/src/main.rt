@@ -13,6 +13,7 @@ use run::run_program;
 use status::{Status, status_text};
 use std::alloc::{AllocError, Global};
 use std::env;
+use std::io::ErrorKind;
 use std::process::ExitCode;
 
 fn main(rt: HostRuntime) -> ExitCode {
@@ -26,8 +27,11 @@ fn main(rt: HostRuntime) -> ExitCode {
 /// Runs the program over the real files and standard output.
 fn status_of_run(rt: &HostRuntime) -> Status {
     let alloc = rt.alloc();
-    let Ok(args) = env::args(rt) else {
-        return Status::Usage;
+    let args = match env::args(rt) {
+        Ok(args) => args,
+        Err(e) if e.kind() == ErrorKind::OutOfMemory => return Status::NoMemory,
+        // a word that isn't Unicode
+        Err(_) => return Status::Usage,
     };
     let Ok(words) = args.collect::<Vec<String>>(alloc) else {
         return Status::NoMemory;
