@@ -7,6 +7,7 @@ use Rattle.std.specs.declared.result.Result.TheVariants.{Ok, Err}
 use Rattle.std.specs.Prelude.{Vec}
 use Rattle.std.specs.declared.alloc.Global.{Global}
 use Rattle.dm_link.specs.declared.Pid.{Pid}
+use Rattle.dm_memory.specs.declared.NoMemory.{NoMemory}
 use Rattle.dm_message.specs.declared.Message.{Message}
 use Rattle.dm_message.specs.declared.What.{What}
 use Rattle.dm_message.specs.declared.What.TheVariants as what
@@ -38,7 +39,6 @@ use Rattle.dm_node.specs.declared.run.Halt.TheVariants as halt
 use Rattle.dm_node.specs.declared.records.Record.{Record}
 use Rattle.dm_node.specs.declared.records.Record.TheVariants.{Here, Ended}
 use Rattle.dm_node.specs.declared.node.Node.{Node}
-use Rattle.dm_node.specs.declared.node.NoMemory.{NoMemory}
 use Rattle.dm_node.specs.Records.{at, with_record}
 use Rattle.dm_node.specs.Calls.{Done, calls}
 

@@ -9,11 +9,12 @@ ghost use Rattle.dm_node.specs.Opened.{opened, started};
 ghost use Rattle.dm_node.specs.Records.{at, with_record};
 ghost use Rattle.dm_node.specs.declared.records.Record.TheVariants.{Here};
 
-use crate::node::{NoMemory, Node};
+use crate::node::Node;
 use crate::records::{Record, Records};
 use dm_link::Link;
 use dm_linktable::Table;
 use dm_lists::Queue;
+use dm_memory::NoMemory;
 use dm_onekernel::{Boot, BootImage, BootProcess};
 use dm_process::Process;
 use std::alloc::Global;

@@ -10,4 +10,5 @@ mod ring;
 pub mod run;
 mod turn;
 
-pub use node::{NoMemory, Node};
+pub use dm_memory::NoMemory;
+pub use node::Node;

@@ -4,29 +4,7 @@ use dm_link::Pid;
 use dm_lists::Queue;
 use dm_message::Message;
 use dm_onekernel::Format;
-use std::alloc::{AllocError, AllocFailed, Global};
-
-/// No memory was left.
-#[derive(Clone, Copy, Debug, PartialEq, Eq, Drop)]
-pub struct NoMemory;
-
-impl From<AllocError> for NoMemory {
-    fn from(_: AllocError) -> NoMemory {
-        NoMemory
-    }
-}
-
-impl From<dm_process::NoMemory> for NoMemory {
-    fn from(_: dm_process::NoMemory) -> NoMemory {
-        NoMemory
-    }
-}
-
-impl<T: Drop> From<AllocFailed<T>> for NoMemory {
-    fn from(_: AllocFailed<T>) -> NoMemory {
-        NoMemory
-    }
-}
+use std::alloc::Global;
 
 /// A machine.
 #[derive(Drop)]

@@ -6,8 +6,8 @@ ghost use Rattle.dm_link.specs.declared.Pid.{Pid};
 ghost use Rattle.dm_node.specs.Lent.{LendsRecord};
 ghost use Rattle.dm_node.specs.Records.{at, with_record};
 
-use crate::node::NoMemory;
 use dm_link::Pid;
+use dm_memory::NoMemory;
 use dm_onekernel::Why;
 use dm_process::Process;
 use std::alloc::{AllocFailed, Global};

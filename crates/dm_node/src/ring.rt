@@ -2,9 +2,9 @@
 ghost use Rattle.std.specs.Prelude.{◌≡◌, OnOk};
 ghost use Rattle.dm_trace.specs.View.{moved_back, without};
 
-use crate::node::NoMemory;
 use dm_link::Pid;
 use dm_lists::Queue;
+use dm_memory::NoMemory;
 
 /// Takes a process out of the ring, which takes no memory.
 pub fn leave(ring: &mut Queue<Pid>, pid: Pid)

@@ -7,13 +7,14 @@ ghost use Rattle.dm_trace.specs.declared.line.Line.TheVariants as line_;
 ghost use Rattle.dm_node.specs.Served.{IsReady, IsWaiting};
 
 use crate::calls::{Called, call};
-use crate::node::{NoMemory, Node};
+use crate::node::Node;
 use crate::receive::complete;
 use crate::records::Record;
 use crate::ring::{leave, move_back};
 use crate::run::{Halt, execute};
 use dm_link::Pid;
 use dm_lists::Queue;
+use dm_memory::NoMemory;
 use dm_message::Message;
 use dm_onekernel::{Label, Why};
 use dm_process::{Process, Status};

@@ -12,6 +12,7 @@ pub mod mem_sink;
 pub mod real_shelf;
 pub mod real_sink;
 
+pub use dm_memory::NoMemory;
 pub use mem_shelf::MemShelf;
 pub use mem_sink::MemSink;
 pub use real_shelf::RealShelf;
@@ -20,10 +21,6 @@ pub use real_sink::RealSink;
 /// A read or a write that moved nothing, and was counted as a fault.
 #[derive(Clone, Copy, Debug, PartialEq, Eq)]
 pub struct Failed;
-
-/// No memory was left.
-#[derive(Clone, Copy, Debug, PartialEq, Eq)]
-pub struct NoMemory;
 
 /// Named files that can be read from any place on.
 pub trait Shelf {

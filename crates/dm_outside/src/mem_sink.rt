@@ -5,7 +5,8 @@ ghost use Rattle.dm_outside.specs.Outside.{RoseOrFull, appended};
 ghost use Rattle.dm_outside.specs.Memory.{write_count, after_write};
 
 use crate::limit::{is_to_fail, within};
-use crate::{Failed, NoMemory, Sink};
+use crate::{Failed, Sink};
+use dm_memory::NoMemory;
 use std::alloc::Global;
 use std::marker::Model;
 

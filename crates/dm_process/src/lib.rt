@@ -3,7 +3,8 @@
 
 pub mod process;
 
-pub use process::{NoMemory, Process, Status};
+pub use dm_memory::NoMemory;
+pub use process::{Process, Status};
 
 #[cfg(test)]
 mod tests;

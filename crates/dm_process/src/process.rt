@@ -7,6 +7,7 @@ ghost use Rattle.dm_process.specs.Process.{is_runnable};
 use dm_link::Pid;
 use dm_linktable::Table;
 use dm_lists::Queue;
+use dm_memory::NoMemory;
 use dm_message::{Message, What};
 use dm_regs::{Memory, Regs};
 use std::alloc::Global;
@@ -36,16 +37,6 @@ pub struct Process {
     pub moves: u32,
     /// The messages that it has not received yet, in the order in which they came.
     pub queue: Queue<Message>,
-}
-
-/// No memory was left.
-#[derive(Clone, Copy, Debug, PartialEq, Eq, Drop)]
-pub struct NoMemory;
-
-impl From<dm_regs::NoMemory> for NoMemory {
-    fn from(_: dm_regs::NoMemory) -> NoMemory {
-        NoMemory
-    }
 }
 
 impl Process {

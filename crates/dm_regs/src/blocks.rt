@@ -4,7 +4,8 @@ ghost use Rattle.std.specs.List.{concat};
 ghost use Rattle.dm_regs.specs.WholeBlocks.{AreWhole};
 
 use crate::flat_bytes::write_at;
-use crate::storage::{Cells, NoMemory};
+use crate::storage::Cells;
+use dm_memory::NoMemory;
 use std::alloc::{AllocError, Global};
 use std::marker::Model;
 

@@ -1,7 +1,8 @@
 //! A memory in one piece.
 ghost use Rattle.std.specs.Prelude.{◌≡◌, ◌+◌, ◌-◌, ◌*◌, ◌≤◌, ◌++◌, IfOk, drop, length, replicate, take};
 
-use crate::storage::{Cells, NoMemory};
+use crate::storage::Cells;
+use dm_memory::NoMemory;
 use std::alloc::Global;
 use std::marker::Model;
 

@@ -14,9 +14,10 @@ mod storage;
 mod tests;
 
 pub use blocks::Memory;
+pub use dm_memory::NoMemory;
 pub use flat_bytes::Flat;
 pub use laws::{instructions_keep_lengths, instructions_keep_ranges, words_spell_their_bytes};
 pub use machine::step;
 pub use opcodes::Opcode;
 pub use registers::{Fault, Regs, Stepped};
-pub use storage::{Cells, NoMemory};
+pub use storage::Cells;

@@ -1,24 +1,6 @@
 //! What a memory is.
 ghost use Rattle.std.specs.Prelude.{◌≡◌, ◌+◌, ◌≤◌, ◌<◌, ◌++◌, ℕ, List, drop, length, slice_index, slice_set, take};
 
-use std::alloc::{AllocError, AllocFailed};
-
-/// No memory was left.
-#[derive(Clone, Copy, Debug, PartialEq, Eq, Drop)]
-pub struct NoMemory;
-
-impl From<AllocError> for NoMemory {
-    fn from(_: AllocError) -> NoMemory {
-        NoMemory
-    }
-}
-
-impl<T: Drop> From<AllocFailed<T>> for NoMemory {
-    fn from(_: AllocFailed<T>) -> NoMemory {
-        NoMemory
-    }
-}
-
 /// A memory of bytes at the addresses 0, 1, 2 and so on. No method takes memory.
 pub trait Cells {
     ghost bytes: { Self → List ℕ };

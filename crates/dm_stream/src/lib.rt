@@ -7,6 +7,7 @@ mod sender;
 #[cfg(test)]
 mod tests;
 
+pub use dm_memory::NoMemory;
 pub use law::any_schedule;
-pub use receiver::{Arrived, NoMemory, Receiver};
+pub use receiver::{Arrived, Receiver};
 pub use sender::{GiveNo, Sender};

@@ -4,23 +4,12 @@ ghost use Rattle.circular_buffer.specs.Buffer.{buffer};
 ghost use Rattle.dm_stream.specs.Receiving.{kept_once, once};
 
 use circular_buffer::HeapCircularBuffer;
+use dm_memory::NoMemory;
 use std::alloc::{AllocError, Global};
 use std::marker::Model;
-use thiserror::Error;
 
 /// Messages are kept from the next number on, as many as a sender may have outstanding.
 const PLACES: usize = 8;
-
-/// No memory was left.
-#[derive(Clone, Copy, Debug, PartialEq, Eq, Error)]
-#[error("out of memory")]
-pub struct NoMemory;
-
-impl From<AllocError> for NoMemory {
-    fn from(_error: AllocError) -> NoMemory {
-        NoMemory
-    }
-}
 
 /// What an arrival is.
 #[derive(Debug, Drop)]

@@ -5,8 +5,9 @@ pub mod line;
 pub mod text;
 mod words;
 
+pub use dm_memory::NoMemory;
 pub use line::{EndLine, Line};
-pub use text::{NoMemory, line_fits, text_can_be_read, write_line, write_lines};
+pub use text::{line_fits, text_can_be_read, write_line, write_lines};
 
 #[cfg(test)]
 mod tests;

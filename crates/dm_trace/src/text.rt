@@ -6,17 +6,8 @@ ghost use Rattle.dm_trace.specs.LinesOf.{LineFits, lines_of};
 ghost use Rattle.dm_trace.specs.Text.{line_text, text};
 
 use crate::line::Line;
-use std::alloc::{AllocError, Global};
-
-/// No memory was left.
-#[derive(Clone, Copy, Debug, PartialEq, Eq)]
-pub struct NoMemory;
-
-impl From<AllocError> for NoMemory {
-    fn from(_e: AllocError) -> NoMemory {
-        NoMemory
-    }
-}
+use dm_memory::NoMemory;
+use std::alloc::Global;
 
 /// Writes a line, with its line feed, at the end of a text.
 pub fn write_line(alloc: Global, line: &Line, into: &mut Vec<u8>) -> Result<(), NoMemory>

@@ -6,4 +6,5 @@ mod packets;
 mod tests;
 mod wire;
 
-pub use wire::{NoMemory, Wire};
+pub use dm_memory::NoMemory;
+pub use wire::Wire;

@@ -2,19 +2,8 @@
 ghost use Rattle.std.specs.Prelude.{IfOk, OnErr, OnOk, [], length, option_map, position, slice_index_or, vec_len, ◌*◌, ◌+◌, ◌<◌, ◌≡◌, ◌≤◌, ℕ};
 
 use crate::packets::Packets;
+use dm_memory::NoMemory;
 use std::alloc::{AllocError, Global};
-use thiserror::Error;
-
-/// No memory was left.
-#[derive(Clone, Copy, Debug, PartialEq, Eq, Error)]
-#[error("out of memory")]
-pub struct NoMemory;
-
-impl From<AllocError> for NoMemory {
-    fn from(_error: AllocError) -> NoMemory {
-        NoMemory
-    }
-}
 
 /// Machines are numbered from 0, and there are at most so many.
 const MACHINES: u8 = 16;

@@ -4,4 +4,5 @@
 pub mod laws;
 pub mod world;
 
-pub use world::{NoMemory, World};
+pub use dm_memory::NoMemory;
+pub use world::World;

@@ -13,34 +13,13 @@ ghost use Rattle.dm_world.specs.Run.{after_turns, group_of};
 ghost use Rattle.dm_world.specs.World.{IsAfter, IsRunning, child_lines_to, last_lines, machine_after, record_line, record_lines};
 
 use dm_link::Pid;
+use dm_memory::NoMemory;
 use dm_node::Node;
 use dm_node::records::Record;
 use dm_onekernel::Boot;
 use dm_schedule::Step;
 use dm_trace::{EndLine, Line};
-use std::alloc::{AllocError, AllocFailed, Global};
-
-/// No memory was left.
-#[derive(Clone, Copy, Debug, PartialEq, Eq, Drop)]
-pub struct NoMemory;
-
-impl From<AllocError> for NoMemory {
-    fn from(_: AllocError) -> NoMemory {
-        NoMemory
-    }
-}
-
-impl<T: Drop> From<AllocFailed<T>> for NoMemory {
-    fn from(_: AllocFailed<T>) -> NoMemory {
-        NoMemory
-    }
-}
-
-impl From<dm_node::NoMemory> for NoMemory {
-    fn from(_: dm_node::NoMemory) -> NoMemory {
-        NoMemory
-    }
-}
+use std::alloc::Global;
 
 /// A system that runs.
 #[derive(Drop)]
