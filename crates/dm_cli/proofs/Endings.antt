@@ -15,7 +15,7 @@ use Rattle.dm_world.specs.World.{GoodRun, last_lines, machine_after}
 use Rattle.dm_outside.specs.Outside.{appended}
 use Rattle.dm_cli.specs.Output.{IsCutShort, IsWhole, IsOfFirst, IsBegun}
 use Rattle.dm_cli.specs.Progress.{LacksAfter, FailsIn, text_after}
-use Rattle.dm_cli.proofs.Writing.{appended_twice}
+use Rattle.dm_cli.proofs.Writing.{appended_twice, some_left, some_left_before}
 use Rattle.dm_cli.proofs.Turns.{turns_add}
 use Rattle.dm_cli.proofs.Progress.{groups_add, begun_text}
 
@@ -54,6 +54,7 @@ begun_at_end b steps n old new e r c = record {
   begun = text_after b n ++ take c.count (text (last_lines b n));
   left = drop c.count (text (last_lines b n));
   prefix = whole_text b n r ∙ ap (λ t. text_after b n ++ t) (sym (take-append-drop c.count (text (last_lines b n)))) ∙ sym (append_assoc (text_after b n) (take c.count (text (last_lines b n))) (drop c.count (text (last_lines b n))));
+  more = some_left (text (last_lines b n)) c.count c.fewer;
   written = c.taken ∙ appended_twice old (text_after b n) (take c.count (text (last_lines b n)));
 }
 
@@ -71,6 +72,7 @@ begun_in b steps n old new e r f =
       begun = text_after b i ++ take c.count (text (group_of (machine_after b i)));
       left = drop c.count (text (group_of (machine_after b i))) ++ text (joined more.0 ++ end_lines r.end);
       prefix = begun_text (groups i (opened b 0)) more.0 (groups n (opened b 0)) (group_of (machine_after b i)) (end_lines r.end) c.count all;
+      more = some_left_before (text (group_of (machine_after b i))) (text (joined more.0 ++ end_lines r.end)) c.count c.fewer;
       written = c.taken ∙ appended_twice old (text_after b i) (take c.count (text (group_of (machine_after b i))));
     }
 

@@ -1,6 +1,6 @@
 -- Bytes that are written piece by piece.
 use Rattle.std.proofs.Common.{◌≡◌, ℕ, ◌+◌, ◌-◌, ◌<◌, ◌≤◌, List, ◌++◌, length, take, drop, refl, ap, sym, ◌∙◌, append_assoc, arith, None, Some}
-use Rattle.std.proofs.lemmas.List.{take-append-drop, take-take, drop-take, take_rest, length-drop}
+use Rattle.std.proofs.lemmas.List.{take-append-drop, take-take, drop-take, take_rest, length-append, length-drop}
 use Rattle.std.specs.declared.option.Option.{Option}
 use Rattle.dm_outside.specs.Outside.{appended}
 
@@ -28,3 +28,11 @@ takes_more old now new bytes done n e f =
 -- and it is within what was left
 pub within_rest : (bytes : List ℕ) (done n : ℕ) → done < length bytes → n ≤ length (take (length bytes - done) (drop done bytes)) → done + n ≤ length bytes
 within_rest bytes done n below w = omega (arith, ap length (take_rest bytes done), length-drop done bytes)
+
+-- something is left where fewer than all were taken
+pub some_left : (bytes : List ℕ) (n : ℕ) → n < length bytes → 0 < length (drop n bytes)
+some_left bytes n fewer = omega (arith, length-drop n bytes)
+
+-- and so there is, with more behind it
+pub some_left_before : (bytes more : List ℕ) (n : ℕ) → n < length bytes → 0 < length (drop n bytes ++ more)
+some_left_before bytes more n fewer = omega (arith, length-drop n bytes, length-append (drop n bytes) more)

@@ -33,7 +33,8 @@ pub record IsOfFirst (b : Boot) (steps : List Step) (old new : Option (List ℕ)
   pub good : IsGood b first groups end
   pub written : new ≡ appended old (text (joined groups))
 
--- the text of good lines, one group for each directive, and then of the lines that say where all stands, was begun
+-- the text of good lines, one group for each directive, and then of the lines that say where all stands, was begun, and
+-- some of it is left
 pub record IsBegun (b : Boot) (steps : List Step) (old new : Option (List ℕ)) : Type 0 where
   pub groups : List (List Line)
   pub end : Point
@@ -41,4 +42,5 @@ pub record IsBegun (b : Boot) (steps : List Step) (old new : Option (List ℕ)) 
   pub begun : List ℕ
   pub left : List ℕ
   pub prefix : text (joined groups ++ end_lines end) ≡ begun ++ left
+  pub more : 0 < length left
   pub written : new ≡ appended old begun
