@@ -12,7 +12,6 @@ use Rattle.dm_message.specs.declared.Message.{Message}
 use Rattle.dm_message.specs.declared.What.{What}
 use Rattle.dm_message.specs.declared.What.TheVariants as what
 use Rattle.dm_message.specs.Kinds.{kind_of}
-use Rattle.dm_regs.specs.declared.registers.Fault.{Fault}
 use Rattle.dm_regs.specs.Instructions as row
 use Rattle.dm_regs.specs.Instructions.{Row, instruction}
 use Rattle.dm_process.specs.Mail.{first_on, without_first_on}

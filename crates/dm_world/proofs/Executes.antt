@@ -31,7 +31,7 @@ use Rattle.dm_node.specs.Node as turn
 use Rattle.dm_node.specs.Node.{NodeState, Ran, with_machine}
 use Rattle.dm_world.specs.Stands.{info, queue_of, SlotLinks, Stands}
 use Rattle.dm_onekernel.proofs.Equal.{pid_eq-same}
-use Rattle.dm_world.proofs.Runs.{Halted, halted}
+use Rattle.dm_world.proofs.Runs.{Halted}
 use Rattle.dm_world.proofs.CallFacts.{SlotLeft}
 use Rattle.dm_world.proofs.Moves.{stays}
 use Rattle.dm_world.proofs.Frame.{Advances, headed, labelled, after-label}

@@ -16,7 +16,7 @@ use Rattle.dm_onekernel.specs.declared.boot.Boot.{Boot}
 use Rattle.dm_onekernel.specs.Boot.{IsValid, processes_are_valid, link_is_valid, links_are_valid, slots_of, first_number}
 use Rattle.dm_onekernel.specs.PlainProcess.{PlainProcess, plain_process}
 use Rattle.dm_onekernel.specs.Kernel.{Life, Alive}
-use Rattle.dm_onekernel.specs.Start.{begun, life_at, table_of}
+use Rattle.dm_onekernel.specs.Start.{begun, life_at}
 use Rattle.dm_trace.specs.View.{Known, Nothing, Here, known_at}
 use Rattle.dm_trace.specs.View as view
 use Rattle.dm_trace.specs.Addresses.{links_at, place_in, home_place}

@@ -25,7 +25,7 @@ use Rattle.dm_onekernel.specs.Step.{step, running, Machine}
 use Rattle.dm_schedule.specs.declared.Step.TheVariants as directive
 use Rattle.dm_trace.specs.declared.line.Line.{Line}
 use Rattle.dm_trace.specs.declared.line.Line.TheVariants as line
-use Rattle.dm_trace.specs.View.{Put, view_after, moved_back, at_pair, at_id}
+use Rattle.dm_trace.specs.View.{view_after, moved_back, at_pair, at_id}
 use Rattle.dm_trace.specs.Addresses.{carrier, home_place}
 use Rattle.dm_trace.specs.Point.{Point, after}
 use Rattle.dm_trace.specs.Group.{Stops, puts, put_of, plain_kind}

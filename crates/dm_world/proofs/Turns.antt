@@ -11,7 +11,6 @@ use Rattle.dm_message.specs.declared.What.{What}
 use Rattle.dm_message.specs.declared.What.TheVariants as what
 use Rattle.dm_message.specs.Plain.{PlainMessage, plain_message, plain_what, with_what}
 use Rattle.dm_regs.specs.Instructions.{instruction}
-use Rattle.dm_regs.specs.declared.registers.Fault.{Fault}
 use Rattle.dm_process.specs.Mail.{first_on}
 use Rattle.dm_process.specs.Process as process
 use Rattle.dm_process.specs.declared.process.Process.{Process}
