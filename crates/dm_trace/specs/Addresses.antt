@@ -9,7 +9,6 @@ use Rattle.dm_linktable.specs.Slots.{link_at}
 use Rattle.dm_message.specs.declared.MsgId.{MsgId}
 use Rattle.dm_onekernel.specs.declared.boot.BootProcess.{BootProcess}
 use Rattle.dm_onekernel.specs.declared.boot.Boot.{Boot}
-use Rattle.dm_onekernel.specs.declared.label.Label.{Label}
 use Rattle.dm_onekernel.specs.declared.label.Label.TheVariants as label
 use Rattle.dm_onekernel.specs.PlainProcess.{PlainProcess, reg}
 use Rattle.dm_onekernel.specs.Kernel.{OneKernel}
