@@ -1,0 +1,9 @@
+pub mod Numbers
+pub mod Field
+pub mod Loop
+pub mod Fields
+pub mod Coded
+pub mod Whats
+pub mod Packets
+pub mod Writes
+pub mod Sizes

@@ -1,0 +1,9 @@
+pub mod Field
+pub mod Fields
+pub mod Reads
+pub mod Whats
+pub mod Packets
+pub mod Lawful
+pub mod Widths
+pub mod Writes
+pub mod Rules

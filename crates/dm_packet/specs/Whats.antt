@@ -1,0 +1,188 @@
+-- What the messages of each kind carry.
+use Rattle.std.specs.Prelude.{ℕ, ◌+◌, Bool, true, false, List, [], ◌∷◌, nat_le, ◌==◌, ◌&&◌, ◌||◌, if◌then◌else◌, Option, None, Some, Ok, Err}
+use Rattle.std.specs.declared.result.Result.{Result}
+use Rattle.std.specs.List.{find}
+use Rattle.dm_link.specs.declared.Pid.{Pid}
+use Rattle.dm_link.specs.declared.Link.{Link}
+use Rattle.dm_message.specs.declared.Asker.{Asker}
+use Rattle.dm_message.specs.declared.Outcome.{Outcome}
+use Rattle.dm_message.specs.declared.Outcome.TheVariants as ends
+use Rattle.dm_message.specs.declared.What.{What}
+use Rattle.dm_message.specs.declared.What.TheVariants as what
+use Rattle.dm_message.specs.declared.kind.MessageKind.{MessageKind}
+use Rattle.dm_message.specs.declared.kind.MessageKind.TheVariants as kind
+use Rattle.dm_message.specs.Ids.{bool_eq}
+use Rattle.dm_message.specs.Kinds.{number_of}
+use Rattle.dm_packet.specs.declared.Bad.{Bad}
+use Rattle.dm_packet.specs.declared.Bad.TheVariants as bad
+use Rattle.dm_packet.specs.Field.{Field, ◌>>=◌, number, run, tested, both, made, counted}
+use Rattle.dm_packet.specs.Fields.{addr, bit_of, bytes_within, channel, links, machine, pid}
+
+abbrev pub all_kinds : List MessageKind
+all_kinds =
+    kind.User ∷ kind.Stop ∷ kind.Resume ∷ kind.Kill ∷ kind.Read ∷ kind.Write ∷ kind.Block ∷ kind.Written ∷ kind.Gone ∷ kind.Create ∷ kind.Created ∷ kind.NoRoom ∷ kind.Migrate ∷ kind.Update
+    ∷ kind.Ask ∷ kind.Refuse ∷ kind.PullState ∷ kind.State ∷ kind.PullBlock ∷ kind.Memory ∷ kind.AllTaken ∷ kind.Restart ∷ kind.Move ∷ kind.Moved ∷ kind.CallOff ∷ kind.Bury ∷ []
+
+-- the kind that has this number
+abbrev pub kind_numbered : ℕ → Option MessageKind
+kind_numbered n = find (λ k. number_of k == n) all_kinds
+
+abbrev pub if_coded : {X : Type 0} → Option X → List ℕ → Bad → Result (X × List ℕ) Bad
+if_coded None rest rule = Err rule
+if_coded (Some x) rest rule = Ok (x, rest)
+
+-- a value that a byte stands for, or a rule that is broken
+abbrev pub coded : {X : Type 0} → (ℕ → Option X) → (X → ℕ) → Bad → Field X
+coded value code rule = record {
+  spell = λ x. (number 1).spell (code x);
+  read = λ bytes. (number 1).read bytes >>= λ n. if_coded (value n.0) n.1 rule;
+}
+
+abbrev pub bool_coded : ℕ → Option Bool
+bool_coded n = if n == 0 then Some false else if n == 1 then Some true else None
+
+-- a yes or no, or a rule that is broken
+abbrev pub yes_or_no : Bad → Field Bool
+yes_or_no rule = coded bool_coded bit_of rule
+
+abbrev pub outcome_coded : ℕ → Option Outcome
+outcome_coded n = if n == 0 then Some ends.Done else if n == 1 then Some ends.NoRoom else if n == 3 then Some ends.Ended else None
+
+abbrev pub code_of_outcome : Outcome → ℕ
+code_of_outcome ends.Done = 0
+code_of_outcome ends.NoRoom = 1
+code_of_outcome ends.Ended = 3
+
+abbrev pub message_kind : Field MessageKind
+message_kind = coded kind_numbered number_of bad.MessageKind
+
+-- a yes and a value, or a no
+abbrev pub optional_spell : {X : Type 0} → Field X → Option X → List ℕ
+optional_spell f None = 0 ∷ []
+optional_spell f (Some x) = 1 ∷ f.spell x
+
+abbrev pub optional_read : {X : Type 0} → Field X → Bool → List ℕ → Result (Option X × List ℕ) Bad
+optional_read f false bytes = Ok (None, bytes)
+optional_read f true bytes = f.read bytes >>= λ x. Ok (Some x.0, x.1)
+
+abbrev pub optional : {X : Type 0} → Field X → Field (Option X)
+optional f = record {
+  spell = optional_spell f;
+  read = λ bytes. (yes_or_no bad.Flags).read bytes >>= λ b. optional_read f b.0 b.1;
+}
+
+abbrev pub asker : Field Asker
+asker = made (both (number 4) (λ _. addr)) (λ a. record { n = a.0; addr = a.1 }) (λ a. (a.n, a.addr))
+
+-- the length of a piece, which begins at base
+abbrev pub piece_from : ℕ → Field ℕ
+piece_from base = tested (number 2) (λ n. (nat_le 1 n && nat_le n 256) && nat_le (base + n) 65536) bad.Limit
+
+abbrev pub is_server : Pid → Bool
+is_server p = (p.home == 0) && ((p.num == 1) || (p.num == 2))
+
+-- a process's blocks, 1 to 256; a server has none
+abbrev pub are_blocks_of : Pid → ℕ → Bool
+are_blocks_of p n = nat_le n 256 && bool_eq (n == 0) (is_server p)
+
+abbrev pub blocks_of : Pid → Field ℕ
+blocks_of p = tested (number 2) (are_blocks_of p) bad.Limit
+
+abbrev pub at_most : ℕ → ℕ → Field ℕ
+at_most size most = tested (number size) (λ n. nat_le n most) bad.Limit
+
+-- the fields of the kinds that have more than one
+abbrev pub user : Field (ℕ × (ℕ × (List ℕ × List Link)))
+user = both (number 4) (λ _. both channel (λ _. both (bytes_within 0 256) (λ _. links 4)))
+
+abbrev pub read : Field (ℕ × ℕ)
+read = both (number 4) piece_from
+
+abbrev pub write : Field (ℕ × List ℕ)
+write = both (number 4) (λ base. counted (piece_from base) run)
+
+abbrev pub create : Field (ℕ × List Link)
+create = both (number 2) (λ _. links 3)
+
+abbrev pub ask : Field (Pid × (ℕ × (ℕ × (ℕ × Option Asker))))
+ask = both pid (λ p. both (blocks_of p) (λ _. both (number 4) (λ _. both (number 4) (λ _. optional asker))))
+
+abbrev pub refuse : Field (Pid × (ℕ × ℕ))
+refuse = both pid (λ _. both (at_most 1 64) (λ _. at_most 2 4096))
+
+abbrev pub pull_state : Field (Pid × ℕ)
+pull_state = both pid (λ _. number 4)
+
+abbrev pub state : Field (Pid × (ℕ × (Bool × List ℕ)))
+state = both pid (λ _. both (number 4) (λ _. both (yes_or_no bad.Flags) (λ _. bytes_within 1 512)))
+
+abbrev pub pull_block : Field (Pid × ℕ)
+pull_block = both pid (λ _. number 1)
+
+abbrev pub memory : Field (Pid × (ℕ × List ℕ))
+memory = both pid (λ _. both (number 1) (λ _. run 256))
+
+abbrev pub outcome : Field Outcome
+outcome = coded outcome_coded code_of_outcome bad.Limit
+
+-- the one spelling of what a message carries
+unfoldable pub spell_what : What → List ℕ
+spell_what (what.User code channel body links) = user.spell (code, (channel, (body.items, links.items)))
+spell_what what.Stop = []
+spell_what what.Resume = []
+spell_what what.Kill = []
+spell_what (what.Read base len) = read.spell (base, len)
+spell_what (what.Write base bytes) = write.spell (base, bytes.items)
+spell_what (what.Block bytes) = (bytes_within 1 256).spell bytes.items
+spell_what what.Written = []
+spell_what what.Gone = []
+spell_what (what.Create image links) = create.spell (image, links.items)
+spell_what (what.Created p) = pid.spell p
+spell_what what.NoRoom = []
+spell_what (what.Migrate m) = machine.spell m
+spell_what (what.Update about) = addr.spell about
+spell_what (what.Ask p blocks moves size who) = ask.spell (p, (blocks, (moves, (size, who))))
+spell_what (what.Refuse p slots blocks) = refuse.spell (p, (slots, blocks))
+spell_what (what.PullState p chunk) = pull_state.spell (p, chunk)
+spell_what (what.State p chunk last bytes) = state.spell (p, (chunk, (last, bytes.items)))
+spell_what (what.PullBlock p block) = pull_block.spell (p, block)
+spell_what (what.Memory p block bytes) = memory.spell (p, (block, bytes))
+spell_what (what.AllTaken p) = pid.spell p
+spell_what (what.Restart p) = pid.spell p
+spell_what (what.Move m) = machine.spell m
+spell_what (what.Moved end) = outcome.spell end
+spell_what (what.CallOff p) = pid.spell p
+spell_what (what.Bury p) = pid.spell p
+
+-- what is read, put into a message
+abbrev pub read_as : {X : Type 0} → Field X → (X → What) → List ℕ → Result (What × List ℕ) Bad
+read_as f make bytes = f.read bytes >>= λ x. Ok (make x.0, x.1)
+
+-- what a message of this kind carries, or the first rule that is broken
+unfoldable pub read_what : MessageKind → List ℕ → Result (What × List ℕ) Bad
+read_what kind.User bytes = read_as user (λ x. what.User x.0 x.1.0 (record { items = x.1.1.0 }) (record { items = x.1.1.1 })) bytes
+read_what kind.Stop bytes = Ok (what.Stop, bytes)
+read_what kind.Resume bytes = Ok (what.Resume, bytes)
+read_what kind.Kill bytes = Ok (what.Kill, bytes)
+read_what kind.Read bytes = read_as read (λ x. what.Read x.0 x.1) bytes
+read_what kind.Write bytes = read_as write (λ x. what.Write x.0 (record { items = x.1 })) bytes
+read_what kind.Block bytes = read_as (bytes_within 1 256) (λ x. what.Block (record { items = x })) bytes
+read_what kind.Written bytes = Ok (what.Written, bytes)
+read_what kind.Gone bytes = Ok (what.Gone, bytes)
+read_what kind.Create bytes = read_as create (λ x. what.Create x.0 (record { items = x.1 })) bytes
+read_what kind.Created bytes = read_as pid what.Created bytes
+read_what kind.NoRoom bytes = Ok (what.NoRoom, bytes)
+read_what kind.Migrate bytes = read_as machine what.Migrate bytes
+read_what kind.Update bytes = read_as addr what.Update bytes
+read_what kind.Ask bytes = read_as ask (λ x. what.Ask x.0 x.1.0 x.1.1.0 x.1.1.1.0 x.1.1.1.1) bytes
+read_what kind.Refuse bytes = read_as refuse (λ x. what.Refuse x.0 x.1.0 x.1.1) bytes
+read_what kind.PullState bytes = read_as pull_state (λ x. what.PullState x.0 x.1) bytes
+read_what kind.State bytes = read_as state (λ x. what.State x.0 x.1.0 x.1.1.0 (record { items = x.1.1.1 })) bytes
+read_what kind.PullBlock bytes = read_as pull_block (λ x. what.PullBlock x.0 x.1) bytes
+read_what kind.Memory bytes = read_as memory (λ x. what.Memory x.0 x.1.0 x.1.1) bytes
+read_what kind.AllTaken bytes = read_as pid what.AllTaken bytes
+read_what kind.Restart bytes = read_as pid what.Restart bytes
+read_what kind.Move bytes = read_as machine what.Move bytes
+read_what kind.Moved bytes = read_as outcome what.Moved bytes
+read_what kind.CallOff bytes = read_as pid what.CallOff bytes
+read_what kind.Bury bytes = read_as pid what.Bury bytes

@@ -1,0 +1,39 @@
+//! What stands at the front of each packet, and of each message.
+ghost use Rattle.std.specs.Prelude.{◌≡◌};
+ghost use Rattle.dm_packet.specs.Packets.{is_named_right};
+
+use dm_link::Addr;
+use dm_message::{MessageKind, MsgId};
+
+/// Whether a packet carries a message or says how many have come.
+#[derive(Clone, Copy)]
+pub enum PacketKind {
+    Data,
+    Ack,
+}
+
+/// A packet's front, behind the version.
+#[derive(Clone, Copy)]
+pub struct Opening {
+    pub kind: PacketKind,
+    pub from: u8,
+    pub to: u8,
+}
+
+/// A message's front, up to its kind.
+#[derive(Clone, Copy)]
+pub struct Head {
+    pub id: MsgId,
+    pub to: Addr,
+    pub sender: Addr,
+    pub kind: MessageKind,
+}
+
+impl Head {
+    /// Whether the message's name says that it is an answer exactly where its kind does.
+    pub fn is_named_right(self) -> bool
+        ensures { result ≡ is_named_right self }
+    {
+        self.id.answer == self.kind.is_answer()
+    }
+}

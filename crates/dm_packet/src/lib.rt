@@ -1,0 +1,116 @@
+//! Packets as bytes: what goes over the wire between two machines.
+#![tactic(auto)]
+
+ghost use Rattle.std.specs.Prelude.{◌≡◌, ◌++◌, ◌≤◌, IfOk, Ok, OnErr, OnOk, length};
+ghost use Rattle.dm_packet.specs.Lawful.{IsLawfulPacket};
+ghost use Rattle.dm_packet.specs.Packets.{packet_of, spelling};
+ghost use Rattle.dm_packet.specs.Rules.{number_of_rule};
+ghost use Rattle.dm_packet.specs.Widths.{FitsPacket};
+
+mod front;
+mod reading;
+mod writing;
+
+pub use dm_memory::NoMemory;
+use dm_message::Message;
+use reading::packet_at;
+use thiserror::Error;
+use writing::{Buffer, put_packet};
+
+/// What goes from one machine to another: a numbered message, or how many messages have come.
+#[derive(Drop)]
+pub enum Packet {
+    Data {
+        from: u8,
+        to: u8,
+        seq: u32,
+        message: Message,
+    },
+    Ack {
+        from: u8,
+        to: u8,
+        count: u32,
+    },
+}
+
+/// Why some bytes are no packet: the first rule that they break, from the left.
+#[derive(Clone, Copy, Debug, PartialEq, Eq, Error)]
+pub enum Bad {
+    /// A field's bytes are not all there.
+    #[error("bytes are missing")]
+    Missing,
+    /// The format's version isn't 4.
+    #[error("the version isn't 4")]
+    Version,
+    /// The packet is neither data nor an acknowledgement.
+    #[error("neither data nor an acknowledgement")]
+    PacketKind,
+    /// A machine is above 15, or the receiver is the sender.
+    #[error("no such machine, or the sender's own")]
+    Machine,
+    /// There is no such kind of message.
+    #[error("no such kind of message")]
+    MessageKind,
+    /// The answer byte is neither 0 nor 1, or not that of the message's kind.
+    #[error("not the answer byte of the message's kind")]
+    Answer,
+    /// Spare flags, a yes or no that is neither, or an enclosed link to a kernel.
+    #[error("flags that no enclosed link has, or a yes or no that is neither")]
+    Flags,
+    /// A length, count, channel, number of slots or blocks, result or area outside its limits.
+    #[error("a number outside its limits")]
+    Limit,
+    /// Bytes stand after the end.
+    #[error("bytes stand after the end")]
+    Trailing,
+}
+
+impl Bad {
+    /// The rule's number, 1 to 9.
+    pub fn number(self) -> u8
+        ensures { result ≡ number_of_rule self }
+    {
+        match self {
+            Bad::Missing => 1,
+            Bad::Version => 2,
+            Bad::PacketKind => 3,
+            Bad::Machine => 4,
+            Bad::MessageKind => 5,
+            Bad::Answer => 6,
+            Bad::Flags => 7,
+            Bad::Limit => 8,
+            Bad::Trailing => 9,
+        }
+    }
+}
+
+/// The packet that the bytes spell, all of them, or the first rule from the left that they break. It takes no memory.
+pub fn decode(bytes: &[u8]) -> Result<Packet, Bad>
+    // Which packet, and which rule.
+    ensures exact { result ≡ packet_of bytes.now }
+    // What is read is lawful, and spelled so and in no other way.
+    ensures found { IfOk result (λ p. IsLawfulPacket p × (bytes.now ≡ spelling p)) }
+    // What is spelled so is read, where its numbers fit their fields, as those of a packet that stands in memory do.
+    ensures only { (p : Packet) → IsLawfulPacket p → FitsPacket p → bytes.now ≡ spelling p → result ≡ Ok p }
+    ensures size { OnOk result (length bytes.now ≤ 1024) }
+{
+    packet_at(bytes)
+}
+
+/// Puts the one spelling of a packet, at most 1,024 bytes, at the end of a buffer, or leaves the buffer as it was.
+pub fn encode(packet: &Packet, out: &mut Vec<u8>) -> Result<(), NoMemory>
+    requires lawful { IsLawfulPacket packet.now }
+    ensures ok { OnOk result (out.new.items ≡ out.old.items ++ spelling packet.now) }
+    ensures err { OnErr result (out.new.items ≡ out.old.items) }
+    ensures size { length (spelling packet.now) ≤ 1024 }
+    // What is written is read again.
+    ensures again { packet_of (spelling packet.now) ≡ Ok packet.now }
+{
+    let mut bytes = Buffer::new();
+    put_packet(&mut bytes, packet);
+    out.extend_from_slice(&bytes)?;
+    Ok(())
+}
+
+#[cfg(test)]
+mod tests;

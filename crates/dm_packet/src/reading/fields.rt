@@ -1,0 +1,138 @@
+//! One reader for each kind of field: the value, and the bytes behind it.
+ghost use Rattle.std.specs.Prelude.{◌≡◌, IfOk, length};
+ghost use Rattle.dm_packet.specs.Field.{number, run};
+ghost use Rattle.dm_packet.specs.Fields.{addr, channel, flags, len_from, link, machine, pid};
+ghost use Rattle.dm_packet.specs.Reads.{Reads, ReadsSlice};
+
+use crate::Bad;
+use arrayvec::ArrayVec;
+use byteorder::{BigEndian, ByteOrder};
+use dm_link::{Addr, Area, Kind, Link, Pid};
+
+pub fn byte_at(bytes: &[u8]) -> Result<(u8, &[u8]), Bad>
+    ensures { Reads result ((number 1).read bytes.now) }
+{
+    match bytes {
+        [] => Err(Bad::Missing),
+        [byte, rest @ ..] => Ok((*byte, rest)),
+    }
+}
+
+/// The first bytes, and those behind them.
+pub fn run_at(bytes: &[u8], len: usize) -> Result<(&[u8], &[u8]), Bad>
+    ensures read { ReadsSlice result ((run len).read bytes.now) }
+    ensures len { IfOk result (λ x. length x.0.now ≡ len) }
+{
+    if bytes.len() < len {
+        return Err(Bad::Missing);
+    }
+    Ok(bytes.split_at(len))
+}
+
+pub fn u16_at(bytes: &[u8]) -> Result<(u16, &[u8]), Bad>
+    ensures { Reads result ((number 2).read bytes.now) }
+{
+    if bytes.len() < 2 {
+        return Err(Bad::Missing);
+    }
+    Ok((BigEndian::read_u16(bytes), &bytes[2..]))
+}
+
+pub fn u32_at(bytes: &[u8]) -> Result<(u32, &[u8]), Bad>
+    ensures { Reads result ((number 4).read bytes.now) }
+{
+    if bytes.len() < 4 {
+        return Err(Bad::Missing);
+    }
+    Ok((BigEndian::read_u32(bytes), &bytes[4..]))
+}
+
+pub fn machine_at(bytes: &[u8]) -> Result<(u8, &[u8]), Bad>
+    ensures { Reads result (machine.read bytes.now) }
+{
+    let (machine, rest) = byte_at(bytes)?;
+    if machine > 15 {
+        return Err(Bad::Machine);
+    }
+    Ok((machine, rest))
+}
+
+pub fn pid_at(bytes: &[u8]) -> Result<(Pid, &[u8]), Bad>
+    ensures { Reads result (pid.read bytes.now) }
+{
+    let (home, rest) = machine_at(bytes)?;
+    let (num, rest) = u32_at(rest)?;
+    Ok((Pid { home, num }, rest))
+}
+
+pub fn addr_at(bytes: &[u8]) -> Result<(Addr, &[u8]), Bad>
+    ensures { Reads result (addr.read bytes.now) }
+{
+    let (pid, rest) = pid_at(bytes)?;
+    let (at, rest) = machine_at(rest)?;
+    let (moves, rest) = u32_at(rest)?;
+    Ok((Addr { pid, at, moves }, rest))
+}
+
+fn flags_at(bytes: &[u8]) -> Result<((Kind, bool, bool), &[u8]), Bad>
+    ensures { Reads result (flags.read bytes.now) }
+{
+    let (flags, rest) = byte_at(bytes)?;
+    let flags = match flags {
+        0 => (Kind::General, false, false),
+        1 => (Kind::Reply, false, false),
+        4 => (Kind::General, true, false),
+        5 => (Kind::Reply, true, false),
+        8 => (Kind::General, false, true),
+        9 => (Kind::Reply, false, true),
+        12 => (Kind::General, true, true),
+        13 => (Kind::Reply, true, true),
+        _ => return Err(Bad::Flags),
+    };
+    Ok((flags, rest))
+}
+
+pub fn channel_at(bytes: &[u8]) -> Result<(u8, &[u8]), Bad>
+    ensures { Reads result (channel.read bytes.now) }
+{
+    let (channel, rest) = byte_at(bytes)?;
+    if channel > 31 {
+        return Err(Bad::Limit);
+    }
+    Ok((channel, rest))
+}
+
+fn len_from_at(bytes: &[u8], base: u32) -> Result<(u32, &[u8]), Bad>
+    ensures { Reads result ((len_from base).read bytes.now) }
+{
+    let (len, rest) = u32_at(bytes)?;
+    if u64::from(base) + u64::from(len) > 65_536 {
+        return Err(Bad::Limit);
+    }
+    Ok((len, rest))
+}
+
+pub fn link_at(bytes: &[u8]) -> Result<(Link, &[u8]), Bad>
+    ensures { Reads result (link.read bytes.now) }
+{
+    let (addr, rest) = addr_at(bytes)?;
+    let ((kind, read, write), rest) = flags_at(rest)?;
+    let (code, rest) = u32_at(rest)?;
+    let (channel, rest) = channel_at(rest)?;
+    let (base, rest) = u32_at(rest)?;
+    let (len, rest) = len_from_at(rest, base)?;
+    let link = Link {
+        addr,
+        kind,
+        to_kernel: false,
+        code,
+        channel,
+        area: Area {
+            base,
+            len,
+            read,
+            write,
+        },
+    };
+    Ok((link, rest))
+}

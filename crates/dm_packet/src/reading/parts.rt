@@ -1,0 +1,154 @@
+//! The fields that only some kinds have.
+ghost use Rattle.std.specs.Prelude.{◌≡◌};
+ghost use Rattle.dm_packet.specs.Reads.{Reads, ReadsItems};
+ghost use Rattle.dm_packet.specs.Field.{counted, run};
+ghost use Rattle.dm_packet.specs.Whats.{asker, at_most, blocks_of, kind_numbered, memory, message_kind, optional, outcome, piece_from, yes_or_no};
+
+use super::fields::{addr_at, byte_at, run_at, u16_at, u32_at};
+use super::lists::items_at;
+use crate::Bad;
+use dm_link::Pid;
+use dm_message::{Asker, Body, MessageKind, Outcome};
+
+/// A yes or no.
+pub fn yes_or_no_at(bytes: &[u8], rule: Bad) -> Result<(bool, &[u8]), Bad>
+    ensures { Reads result ((yes_or_no rule).read bytes.now) }
+{
+    let (byte, rest) = byte_at(bytes)?;
+    match byte {
+        0 => Ok((false, rest)),
+        1 => Ok((true, rest)),
+        _ => Err(rule),
+    }
+}
+
+/// The kind that has this number.
+fn numbered(number: u8) -> Option<MessageKind>
+    ensures { result ≡ kind_numbered number }
+{
+    let kind = match number {
+        1 => MessageKind::User,
+        2 => MessageKind::Stop,
+        3 => MessageKind::Resume,
+        4 => MessageKind::Kill,
+        5 => MessageKind::Read,
+        6 => MessageKind::Write,
+        7 => MessageKind::Block,
+        8 => MessageKind::Written,
+        9 => MessageKind::Gone,
+        10 => MessageKind::Create,
+        11 => MessageKind::Created,
+        12 => MessageKind::NoRoom,
+        13 => MessageKind::Migrate,
+        14 => MessageKind::Update,
+        15 => MessageKind::Ask,
+        16 => MessageKind::Refuse,
+        17 => MessageKind::PullState,
+        18 => MessageKind::State,
+        19 => MessageKind::PullBlock,
+        20 => MessageKind::Memory,
+        21 => MessageKind::AllTaken,
+        22 => MessageKind::Restart,
+        23 => MessageKind::Move,
+        24 => MessageKind::Moved,
+        25 => MessageKind::CallOff,
+        26 => MessageKind::Bury,
+        _ => return None,
+    };
+    Some(kind)
+}
+
+pub fn kind_at(bytes: &[u8]) -> Result<(MessageKind, &[u8]), Bad>
+    ensures { Reads result (message_kind.read bytes.now) }
+{
+    let (number, rest) = byte_at(bytes)?;
+    match numbered(number) {
+        Some(kind) => Ok((kind, rest)),
+        None => Err(Bad::MessageKind),
+    }
+}
+
+pub fn outcome_at(bytes: &[u8]) -> Result<(Outcome, &[u8]), Bad>
+    ensures { Reads result (outcome.read bytes.now) }
+{
+    let (byte, rest) = byte_at(bytes)?;
+    match byte {
+        0 => Ok((Outcome::Done, rest)),
+        1 => Ok((Outcome::NoRoom, rest)),
+        3 => Ok((Outcome::Ended, rest)),
+        _ => Err(Bad::Limit),
+    }
+}
+
+/// The length of a piece that begins at an address.
+pub fn piece_from_at(bytes: &[u8], base: u32) -> Result<(u16, &[u8]), Bad>
+    ensures { Reads result ((piece_from base).read bytes.now) }
+{
+    let (len, rest) = u16_at(bytes)?;
+    if len < 1 || len > 256 || u64::from(base) + u64::from(len) > 65_536 {
+        return Err(Bad::Limit);
+    }
+    Ok((len, rest))
+}
+
+/// A piece that begins at an address.
+pub fn piece_at(bytes: &[u8], base: u32) -> Result<(Body, &[u8]), Bad>
+    ensures { ReadsItems result ((counted (piece_from base) run).read bytes.now) }
+{
+    let (len, rest) = piece_from_at(bytes, base)?;
+    items_at(rest, len)
+}
+
+/// How many blocks a process has.
+pub fn blocks_of_at(bytes: &[u8], pid: Pid) -> Result<(u16, &[u8]), Bad>
+    ensures { Reads result ((blocks_of pid).read bytes.now) }
+{
+    let (blocks, rest) = u16_at(bytes)?;
+    let is_server = pid.home == 0 && (pid.num == 1 || pid.num == 2);
+    if blocks > 256 || (blocks == 0) != is_server {
+        return Err(Bad::Limit);
+    }
+    Ok((blocks, rest))
+}
+
+pub fn asker_at(bytes: &[u8]) -> Result<(Option<Asker>, &[u8]), Bad>
+    ensures { Reads result ((optional asker).read bytes.now) }
+{
+    let (has, rest) = yes_or_no_at(bytes, Bad::Flags)?;
+    if !has {
+        return Ok((None, rest));
+    }
+    let (n, rest) = u32_at(rest)?;
+    let (addr, rest) = addr_at(rest)?;
+    Ok((Some(Asker { n, addr }), rest))
+}
+
+pub fn byte_at_most(bytes: &[u8], most: u8) -> Result<(u8, &[u8]), Bad>
+    ensures { Reads result ((at_most 1 most).read bytes.now) }
+{
+    let (number, rest) = byte_at(bytes)?;
+    if number > most {
+        return Err(Bad::Limit);
+    }
+    Ok((number, rest))
+}
+
+pub fn u16_at_most(bytes: &[u8], most: u16) -> Result<(u16, &[u8]), Bad>
+    ensures { Reads result ((at_most 2 most).read bytes.now) }
+{
+    let (number, rest) = u16_at(bytes)?;
+    if number > most {
+        return Err(Bad::Limit);
+    }
+    Ok((number, rest))
+}
+
+/// A block of memory.
+pub fn block_bytes_at(bytes: &[u8]) -> Result<([u8; 256], &[u8]), Bad>
+    ensures { Reads result ((run 256).read bytes.now) }
+{
+    let (front, rest) = run_at(bytes, 256)?;
+    let mut block = [0; 256];
+    block.copy_from_slice(front);
+    Ok((block, rest))
+}
