@@ -3,8 +3,7 @@ ghost use Rattle.std.specs.Prelude.{◌≡◌, ◌≤◌, [], IfOk, OnOk, length
 ghost use Rattle.std.specs.Option.{option_copied};
 ghost use Rattle.dm_asm.specs.Assembled.{Answers, assembled, at_line, with_line, with_lines};
 ghost use Rattle.dm_asm.specs.Labels.{place_in};
-ghost use Rattle.dm_asm.specs.Lines.{lines, without_comment, words};
-ghost use Rattle.dm_asm.specs.Places.{label_of};
+ghost use Rattle.dm_asm.specs.Lines.{lines};
 ghost use Rattle.dm_asm.specs.Refusals.{Gives};
 ghost use Rattle.dm_asm.specs.Statements.{is_twice, line_bytes};
 

@@ -1,11 +1,10 @@
 //! Where labels stand.
-ghost use Rattle.std.specs.Prelude.{◌≡◌, ◌+◌, ℕ, List, IfOk, None, OnOk, Some, if◌then◌else◌, length};
+ghost use Rattle.std.specs.Prelude.{◌≡◌, ◌+◌, ℕ, List, IfOk, None, OnOk, Some, if◌then◌else◌};
 ghost use Rattle.std.specs.Option.{option_copied};
 ghost use Rattle.std.specs.Str.{bytes_eq};
 ghost use Rattle.dm_asm.specs.Labels.{place_in};
-ghost use Rattle.dm_asm.specs.Lines.{lines, without_comment, words};
-ghost use Rattle.dm_asm.specs.Numbers.{number_of};
-ghost use Rattle.dm_asm.specs.Places.{behind_label, first_of, form_size, has_label, label_in, label_of, line_size, place_from, statement_size, zeros_size};
+ghost use Rattle.dm_asm.specs.Lines.{lines, words};
+ghost use Rattle.dm_asm.specs.Places.{behind_label, first_of, has_label, label_in, label_of, line_size, place_from, statement_size, zeros_size};
 
 use crate::forms::Form;
 use crate::lines::{count_words, first_line, next_word, uncommented};

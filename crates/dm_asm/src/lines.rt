@@ -1,5 +1,5 @@
 //! Lines and words.
-ghost use Rattle.std.specs.Prelude.{◌≡◌, ◌+◌, ◌≤◌, ◌<◌, ◌∷◌, [], IfNone, IfSome, length, not, Some};
+ghost use Rattle.std.specs.Prelude.{◌≡◌, ◌+◌, ◌<◌, ◌∷◌, [], IfNone, IfSome, length, not, Some};
 ghost use Rattle.std.specs.List.{position};
 ghost use Rattle.dm_asm.specs.Lines.{begins_comment, ends_line, lines, separates, without_comment, words};
 

@@ -2,9 +2,8 @@
 ghost use Rattle.std.specs.Prelude.{◌≡◌, length};
 ghost use Rattle.dm_asm.specs.Labels.{place_in};
 ghost use Rattle.dm_asm.specs.Lines.{words};
-ghost use Rattle.dm_asm.specs.Operands.{number, value};
 ghost use Rattle.dm_asm.specs.Refusals.{Gives, behind};
-ghost use Rattle.dm_asm.specs.Statements.{form_bytes, instruction_bytes, is_elsewhere, listed_bytes, named_bytes, statement_bytes, takes};
+ghost use Rattle.dm_asm.specs.Statements.{form_bytes, instruction_bytes, is_elsewhere, listed_bytes, statement_bytes, takes};
 ghost use Rattle.dm_asm.specs.declared.forms.Form.TheVariants.{Byte, Word, Zero};
 
 use crate::forms::{Form, Shape};

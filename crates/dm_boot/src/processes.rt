@@ -1,5 +1,5 @@
 //! The processes and their links.
-ghost use Rattle.std.specs.Prelude.{◌≡◌, ◌≤◌, ◌<◌, ◌+◌, IfOk, IfSome, length, map};
+ghost use Rattle.std.specs.Prelude.{◌≡◌, ◌≤◌, ◌<◌, ◌+◌, IfOk, length};
 ghost use Rattle.toml.specs.View.{items_view, view};
 ghost use Rattle.dm_onekernel.specs.Boot.{first_number, slots_of};
 ghost use Rattle.dm_link.specs.Names.{pid_of};

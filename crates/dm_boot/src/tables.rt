@@ -5,7 +5,7 @@ ghost use Rattle.std.specs.Str.{bytes_eq};
 ghost use Rattle.std.specs.Option.{option_copied};
 ghost use Rattle.std.specs.BTreeMap.{keys};
 ghost use Rattle.toml.specs.View.{items_view, table_view, view};
-ghost use Rattle.dm_boot.specs.Tables.{all_known, has_only, in_range, is_known, is_named, items_at, number_at, number_of, number_or, place_from, place_of, text_at};
+ghost use Rattle.dm_boot.specs.Tables.{all_known, has_only, in_range, is_known, is_named, items_at, number_at, number_of, number_or, place_of, text_at};
 
 use toml::{Table, Value};
 

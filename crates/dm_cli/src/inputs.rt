@@ -1,5 +1,5 @@
 //! What the program reads before a run: its words, the boot file and the schedule.
-ghost use Rattle.std.specs.Prelude.{◌≡◌, ◌≤◌, map, length, IfOk, IfErr};
+ghost use Rattle.std.specs.Prelude.{◌≡◌, ◌≤◌, map, IfOk, IfErr};
 ghost use Rattle.dm_onekernel.specs.Boot.{IsValid};
 ghost use Rattle.dm_cli.specs.Inputs.{Accepts, NoBoot, NoRun, NoSteps, SaysBoot, SaysFiles, SaysSteps, NoFiles};
 

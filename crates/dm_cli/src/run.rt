@@ -1,5 +1,5 @@
 //! The run: what the program does with its words, its files and its output.
-ghost use Rattle.std.specs.Prelude.{◌≡◌, ◌≤◌, ◌+◌, ℕ, List, ◌⊎◌, Option, map, length, IfOk, IfErr, OnOk, OnErr, Some};
+ghost use Rattle.std.specs.Prelude.{◌≡◌, ◌≤◌, ◌+◌, ℕ, List, ◌⊎◌, Option, map, length, IfOk, IfErr, OnOk, Some};
 ghost use Rattle.dm_onekernel.specs.declared.boot.Boot.{Boot as TheBoot};
 ghost use Rattle.dm_onekernel.specs.Boot.{IsValid};
 ghost use Rattle.dm_schedule.specs.declared.Step.{Step as TheStep};

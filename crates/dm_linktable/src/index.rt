@@ -1,5 +1,5 @@
 //! Which slots of a table lead to which process.
-ghost use Rattle.std.specs.Prelude.{◌≡◌, ℕ, ◌≤◌, ◌<◌, ◌==◌, ◌&&◌, if◌then◌else◌, length};
+ghost use Rattle.std.specs.Prelude.{◌≡◌, ℕ, ◌<◌, ◌==◌, ◌&&◌, if◌then◌else◌, length};
 ghost use Rattle.std.specs.Int.{bit_at};
 ghost use Rattle.dm_link.specs.Names.{pid_eq};
 ghost use Rattle.dm_linktable.specs.Index.{IsIndex, IsPlace, mask_of};

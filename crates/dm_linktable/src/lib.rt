@@ -1,7 +1,7 @@
 //! The links that a process holds, each in a slot of its table, by whose number the process names it (1977).
 #![tactic(auto)]
 
-ghost use Rattle.std.specs.Prelude.{◌≡◌, ℕ, ◌⊎◌, List, length, map, count_by, slice_set, IfOk, IfErr, MatchResult, option_copied, Some, None};
+ghost use Rattle.std.specs.Prelude.{◌≡◌, ◌⊎◌, List, length, map, count_by, slice_set, IfOk, IfErr, MatchResult, option_copied, Some, None};
 ghost use Rattle.std.proofs.Math.ListN.{replicate};
 ghost use Rattle.std.specs.Option.{is_none};
 ghost use Rattle.dm_linktable.specs.Slots.{copy_of, first_empty, link_at, plain_slot, retargeted_slot, slot_is_behind};

@@ -1,6 +1,5 @@
 //! A list that is filled once and then read.
-ghost use Rattle.std.specs.Prelude.{List, [], ◌∷◌, ◌++◌, OnErr, OnOk, length, option_map, slice_get, ◌≡◌, ◌<◌};
-ghost use Rattle.std.specs.Option.{option_copied};
+ghost use Rattle.std.specs.Prelude.{List, [], ◌∷◌, ◌++◌, OnErr, OnOk, length, ◌≡◌, ◌<◌};
 
 use std::alloc::{AllocError, Global};
 use std::marker::Model;

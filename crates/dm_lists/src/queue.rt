@@ -1,8 +1,7 @@
 //! A list that grows at its back and shrinks at its front.
-ghost use Rattle.std.specs.Prelude.{List, [], ◌∷◌, ◌++◌, IfErr, MatchOption, OnErr, OnOk, length, option_map, remove, slice_get, ◌≡◌, ◌<◌};
+ghost use Rattle.std.specs.Prelude.{List, [], ◌∷◌, ◌++◌, IfErr, MatchOption, OnErr, OnOk, length, remove, slice_get, ◌≡◌, ◌<◌};
 ghost use Rattle.std.specs.Fn.{CalledAt};
 ghost use Rattle.std.specs.List.Retain.{IsFiltered};
-ghost use Rattle.std.specs.Option.{option_copied};
 
 use std::alloc::{AllocError, AllocFailed, Global};
 use std::collections::VecDeque;

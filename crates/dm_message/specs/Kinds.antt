@@ -1,5 +1,6 @@
 -- The kinds of message: the word and the number of each.
-use Rattle.std.specs.Prelude.{ℕ, List, codes}
+use Rattle.std.specs.Prelude.{ℕ, List, [], ◌∷◌, ◌==◌, Option, codes}
+use Rattle.std.specs.List.{find}
 use Rattle.dm_message.specs.declared.What.{What}
 use Rattle.dm_message.specs.declared.What.TheVariants as what
 use Rattle.dm_message.specs.declared.kind.MessageKind.{MessageKind}
@@ -62,6 +63,15 @@ number_of kind.Move = 23
 number_of kind.Moved = 24
 number_of kind.CallOff = 25
 number_of kind.Bury = 26
+
+abbrev pub all_kinds : List MessageKind
+all_kinds =
+    kind.User ∷ kind.Stop ∷ kind.Resume ∷ kind.Kill ∷ kind.Read ∷ kind.Write ∷ kind.Block ∷ kind.Written ∷ kind.Gone ∷ kind.Create ∷ kind.Created ∷ kind.NoRoom ∷ kind.Migrate ∷ kind.Update
+    ∷ kind.Ask ∷ kind.Refuse ∷ kind.PullState ∷ kind.State ∷ kind.PullBlock ∷ kind.Memory ∷ kind.AllTaken ∷ kind.Restart ∷ kind.Move ∷ kind.Moved ∷ kind.CallOff ∷ kind.Bury ∷ []
+
+-- the kind that has this number
+abbrev pub kind_numbered : ℕ → Option MessageKind
+kind_numbered n = find (λ k. number_of k == n) all_kinds
 
 -- the kind of what a message says
 abbrev pub kind_of : What → MessageKind

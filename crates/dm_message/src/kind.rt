@@ -1,6 +1,6 @@
 //! The kinds of message: one table of their words and numbers.
 ghost use Rattle.std.specs.Prelude.{◌≡◌};
-ghost use Rattle.dm_message.specs.Kinds.{kind_of, number_of, word_of};
+ghost use Rattle.dm_message.specs.Kinds.{kind_numbered, kind_of, number_of, word_of};
 
 use crate::What;
 
@@ -102,6 +102,42 @@ impl MessageKind {
             MessageKind::CallOff => 25,
             MessageKind::Bury => 26,
         }
+    }
+
+    /// The kind that has this number, if one has.
+    pub fn numbered(number: u8) -> Option<MessageKind>
+        ensures { result ≡ kind_numbered number }
+    {
+        let kind = match number {
+            1 => MessageKind::User,
+            2 => MessageKind::Stop,
+            3 => MessageKind::Resume,
+            4 => MessageKind::Kill,
+            5 => MessageKind::Read,
+            6 => MessageKind::Write,
+            7 => MessageKind::Block,
+            8 => MessageKind::Written,
+            9 => MessageKind::Gone,
+            10 => MessageKind::Create,
+            11 => MessageKind::Created,
+            12 => MessageKind::NoRoom,
+            13 => MessageKind::Migrate,
+            14 => MessageKind::Update,
+            15 => MessageKind::Ask,
+            16 => MessageKind::Refuse,
+            17 => MessageKind::PullState,
+            18 => MessageKind::State,
+            19 => MessageKind::PullBlock,
+            20 => MessageKind::Memory,
+            21 => MessageKind::AllTaken,
+            22 => MessageKind::Restart,
+            23 => MessageKind::Move,
+            24 => MessageKind::Moved,
+            25 => MessageKind::CallOff,
+            26 => MessageKind::Bury,
+            _ => return None,
+        };
+        Some(kind)
     }
 }
 

@@ -1,9 +1,9 @@
 //! A shelf in memory, for tests.
-ghost use Rattle.std.specs.Prelude.{◌≡◌, ◌≤◌, ◌<◌, ◌-◌, ◌++◌, length, take, drop, min, IfOk, OnErr, IsTrue, Some, None, is_err, Option};
+ghost use Rattle.std.specs.Prelude.{◌≡◌, ◌≤◌, ◌<◌, ◌-◌, length, take, drop, min, IfOk, OnErr, IsTrue, Some, None, is_err, Option};
 ghost use Rattle.std.specs.Result.{result_ok};
 ghost use Rattle.std.specs.Option.{option_copied};
 ghost use Rattle.dm_outside.specs.Outside.{RoseOrFull, ReadsTold};
-ghost use Rattle.dm_outside.specs.Memory.{entries, file_named, names_differ, within_limit, moved, read_count, after_read};
+ghost use Rattle.dm_outside.specs.Memory.{entries, file_named, names_differ, within_limit, read_count, after_read};
 
 use crate::limit::{is_to_fail, within};
 use crate::{Failed, Shelf};

@@ -1,7 +1,7 @@
 //! A sink in memory, for tests.
-ghost use Rattle.std.specs.Prelude.{◌≡◌, ◌≤◌, ◌<◌, ◌++◌, [], length, take, IfOk, OnErr, Some, None, is_err};
+ghost use Rattle.std.specs.Prelude.{◌≡◌, ◌≤◌, ◌<◌, ◌++◌, [], length, take, IfOk, OnErr, Some, None};
 ghost use Rattle.std.specs.Result.{result_ok};
-ghost use Rattle.dm_outside.specs.Outside.{RoseOrFull, appended};
+ghost use Rattle.dm_outside.specs.Outside.{RoseOrFull};
 ghost use Rattle.dm_outside.specs.Memory.{write_count, after_write};
 
 use crate::limit::{is_to_fail, within};

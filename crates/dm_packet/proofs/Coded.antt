@@ -8,7 +8,7 @@ use Rattle.dm_message.specs.declared.Outcome.{Outcome}
 use Rattle.dm_message.specs.declared.Outcome.TheVariants as ends
 use Rattle.dm_message.specs.declared.kind.MessageKind.{MessageKind}
 use Rattle.dm_message.specs.declared.kind.MessageKind.TheVariants as kind
-use Rattle.dm_message.specs.Kinds.{number_of}
+use Rattle.dm_message.specs.Kinds.{all_kinds, kind_numbered, number_of}
 use Rattle.dm_packet.specs.declared.Bad.{Bad}
 use Rattle.dm_packet.specs.declared.Bad.TheVariants as bad
 use Rattle.dm_packet.specs.declared.front.PacketKind.{PacketKind}
@@ -16,7 +16,7 @@ use Rattle.dm_packet.specs.declared.front.PacketKind.TheVariants as packets
 use Rattle.dm_packet.specs.Field.{◌>>=◌, Field, number}
 use Rattle.dm_packet.specs.Fields.{bit_of}
 use Rattle.dm_packet.specs.Packets.{number_of_packet_kind, packet_kind, packet_kind_numbered}
-use Rattle.dm_packet.specs.Whats.{all_kinds, bool_coded, code_of_outcome, coded, if_coded, kind_numbered, message_kind, optional, optional_read, optional_spell, outcome, outcome_coded, yes_or_no}
+use Rattle.dm_packet.specs.Whats.{bool_coded, code_of_outcome, coded, if_coded, message_kind, optional, optional_read, optional_spell, outcome, outcome_coded, yes_or_no}
 use Rattle.dm_packet.proofs.Numbers.{IsBytes}
 use Rattle.dm_packet.proofs.Field.{IsField, IsField-number, Took, bind_ok, ok_is, took_same}
 

@@ -1,7 +1,6 @@
 -- What the messages of each kind carry.
 use Rattle.std.specs.Prelude.{ℕ, ◌+◌, Bool, true, false, List, [], ◌∷◌, nat_le, ◌==◌, ◌&&◌, ◌||◌, if◌then◌else◌, Option, None, Some, Ok, Err}
 use Rattle.std.specs.declared.result.Result.{Result}
-use Rattle.std.specs.List.{find}
 use Rattle.dm_link.specs.declared.Pid.{Pid}
 use Rattle.dm_link.specs.declared.Link.{Link}
 use Rattle.dm_message.specs.declared.Asker.{Asker}
@@ -12,20 +11,11 @@ use Rattle.dm_message.specs.declared.What.TheVariants as what
 use Rattle.dm_message.specs.declared.kind.MessageKind.{MessageKind}
 use Rattle.dm_message.specs.declared.kind.MessageKind.TheVariants as kind
 use Rattle.dm_message.specs.Ids.{bool_eq}
-use Rattle.dm_message.specs.Kinds.{number_of}
+use Rattle.dm_message.specs.Kinds.{kind_numbered, number_of}
 use Rattle.dm_packet.specs.declared.Bad.{Bad}
 use Rattle.dm_packet.specs.declared.Bad.TheVariants as bad
 use Rattle.dm_packet.specs.Field.{Field, ◌>>=◌, number, run, tested, both, made, counted}
 use Rattle.dm_packet.specs.Fields.{addr, bit_of, bytes_within, channel, links, machine, pid}
-
-abbrev pub all_kinds : List MessageKind
-all_kinds =
-    kind.User ∷ kind.Stop ∷ kind.Resume ∷ kind.Kill ∷ kind.Read ∷ kind.Write ∷ kind.Block ∷ kind.Written ∷ kind.Gone ∷ kind.Create ∷ kind.Created ∷ kind.NoRoom ∷ kind.Migrate ∷ kind.Update
-    ∷ kind.Ask ∷ kind.Refuse ∷ kind.PullState ∷ kind.State ∷ kind.PullBlock ∷ kind.Memory ∷ kind.AllTaken ∷ kind.Restart ∷ kind.Move ∷ kind.Moved ∷ kind.CallOff ∷ kind.Bury ∷ []
-
--- the kind that has this number
-abbrev pub kind_numbered : ℕ → Option MessageKind
-kind_numbered n = find (λ k. number_of k == n) all_kinds
 
 abbrev pub if_coded : {X : Type 0} → Option X → List ℕ → Bad → Result (X × List ℕ) Bad
 if_coded None rest rule = Err rule

@@ -1,7 +1,7 @@
 //! A process.
-ghost use Rattle.std.specs.Prelude.{◌≡◌, ◌*◌, ◌-◌, ◌≤◌, ◌<◌, ◌++◌, ◌∷◌, [], IfErr, IfOk, IfNone, IfSome, OnErr, OnOk, MatchOption, Some, None, length, remove, replicate, slice_get};
+ghost use Rattle.std.specs.Prelude.{◌≡◌, ◌*◌, ◌-◌, ◌≤◌, ◌<◌, ◌++◌, ◌∷◌, [], IfErr, IfOk, IfNone, IfSome, OnErr, OnOk, Some, None, length, remove, replicate, slice_get};
 ghost use Rattle.dm_process.specs.Begun.{begun};
-ghost use Rattle.dm_process.specs.Mail.{first_on, is_on, on_mask, what_is_on, without_first_on};
+ghost use Rattle.dm_process.specs.Mail.{first_on, is_on, on_mask, without_first_on};
 ghost use Rattle.dm_process.specs.Process.{is_runnable};
 
 use dm_link::Pid;

@@ -1,5 +1,5 @@
 //! Registers, and what an instruction ends with.
-ghost use Rattle.std.specs.Prelude.{◌≡◌, ◌+◌, ◌%◌, ◌^◌, ◌<◌, replicate, slice_index, ℕ};
+ghost use Rattle.std.specs.Prelude.{◌≡◌, ◌<◌, replicate};
 ghost use Rattle.dm_regs.specs.Faults.{fault_code};
 ghost use Rattle.dm_regs.specs.Instructions.{at_pc, branch_pc, past, reg, with_reg};
 

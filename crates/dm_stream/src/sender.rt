@@ -43,7 +43,6 @@ impl<M> Model for Sender<M> {
 
 impl<M> Sender<M> {
     ghost use Rattle.dm_stream.specs.Sending.{due, fresh_sending, given_count, outstanding, with_acked, with_given, with_sent};
-    ghost use Rattle.std.specs.Borrow.{Bor};
 
     /// A stream that may be given `numbers` messages in all. It takes no memory.
     pub fn new(alloc: Global, numbers: u32) -> Sender<M>

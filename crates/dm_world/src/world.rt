@@ -1,5 +1,5 @@
 //! The world: for now one machine.
-ghost use Rattle.std.specs.Prelude.{[], ◌∷◌, ◌++◌, IfErr, IfOk, OnOk, length, ℕ, ◌+◌, ◌≡◌, ◌<◌, ◌≤◌};
+ghost use Rattle.std.specs.Prelude.{◌++◌, IfOk, OnOk, ℕ, ◌+◌, ◌≡◌, ◌<◌, ◌≤◌};
 ghost use Rattle.dm_link.specs.Names.{pid_of};
 ghost use Rattle.dm_onekernel.specs.declared.boot.Boot.{Boot as TheBoot};
 ghost use Rattle.dm_onekernel.specs.Boot.{IsValid};
@@ -7,9 +7,8 @@ ghost use Rattle.dm_schedule.specs.declared.Step.TheVariants as directive;
 ghost use Rattle.dm_trace.specs.declared.line.EndLine.TheVariants as end;
 ghost use Rattle.dm_trace.specs.declared.line.Line.TheVariants as line_;
 ghost use Rattle.dm_node.specs.Node.{state_of};
-ghost use Rattle.dm_node.specs.Opened.{opened};
 ghost use Rattle.dm_node.specs.Records.{at};
-ghost use Rattle.dm_world.specs.Run.{after_turns, group_of};
+ghost use Rattle.dm_world.specs.Run.{group_of};
 ghost use Rattle.dm_world.specs.World.{IsAfter, IsRunning, child_lines_to, last_lines, machine_after, record_line, record_lines};
 
 use dm_link::Pid;

@@ -2,7 +2,7 @@
 ghost use Rattle.std.specs.Prelude.{◌≡◌};
 ghost use Rattle.dm_packet.specs.Reads.{Reads, ReadsItems};
 ghost use Rattle.dm_packet.specs.Field.{counted, run};
-ghost use Rattle.dm_packet.specs.Whats.{asker, at_most, blocks_of, kind_numbered, memory, message_kind, optional, outcome, piece_from, yes_or_no};
+ghost use Rattle.dm_packet.specs.Whats.{asker, at_most, blocks_of, memory, message_kind, optional, outcome, piece_from, yes_or_no};
 
 use super::fields::{addr_at, byte_at, run_at, u16_at, u32_at};
 use super::lists::items_at;
@@ -22,47 +22,11 @@ pub fn yes_or_no_at(bytes: &[u8], rule: Bad) -> Result<(bool, &[u8]), Bad>
     }
 }
 
-/// The kind that has this number.
-fn numbered(number: u8) -> Option<MessageKind>
-    ensures { result ≡ kind_numbered number }
-{
-    let kind = match number {
-        1 => MessageKind::User,
-        2 => MessageKind::Stop,
-        3 => MessageKind::Resume,
-        4 => MessageKind::Kill,
-        5 => MessageKind::Read,
-        6 => MessageKind::Write,
-        7 => MessageKind::Block,
-        8 => MessageKind::Written,
-        9 => MessageKind::Gone,
-        10 => MessageKind::Create,
-        11 => MessageKind::Created,
-        12 => MessageKind::NoRoom,
-        13 => MessageKind::Migrate,
-        14 => MessageKind::Update,
-        15 => MessageKind::Ask,
-        16 => MessageKind::Refuse,
-        17 => MessageKind::PullState,
-        18 => MessageKind::State,
-        19 => MessageKind::PullBlock,
-        20 => MessageKind::Memory,
-        21 => MessageKind::AllTaken,
-        22 => MessageKind::Restart,
-        23 => MessageKind::Move,
-        24 => MessageKind::Moved,
-        25 => MessageKind::CallOff,
-        26 => MessageKind::Bury,
-        _ => return None,
-    };
-    Some(kind)
-}
-
 pub fn kind_at(bytes: &[u8]) -> Result<(MessageKind, &[u8]), Bad>
     ensures { Reads result (message_kind.read bytes.now) }
 {
     let (number, rest) = byte_at(bytes)?;
-    match numbered(number) {
+    match MessageKind::numbered(number) {
         Some(kind) => Ok((kind, rest)),
         None => Err(Bad::MessageKind),
     }
