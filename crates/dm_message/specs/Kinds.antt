@@ -1,8 +1,10 @@
 -- The kinds of message: the word and the number of each.
-use Rattle.std.specs.Prelude.{ℕ, List, [], ◌∷◌, ◌==◌, Option, codes}
+use Rattle.std.specs.Prelude.{◌≡◌, ⊤, ℕ, List, [], ◌∷◌, ◌==◌, Option, None, Some, codes}
 use Rattle.std.specs.List.{find}
 use Rattle.dm_message.specs.declared.What.{What}
 use Rattle.dm_message.specs.declared.What.TheVariants as what
+use Rattle.dm_message.specs.Plain as plain
+use Rattle.dm_message.specs.Plain.{PlainWhat}
 use Rattle.dm_message.specs.declared.kind.MessageKind.{MessageKind}
 use Rattle.dm_message.specs.declared.kind.MessageKind.TheVariants as kind
 
@@ -101,3 +103,25 @@ kind_of (what.Move a) = kind.Move
 kind_of (what.Moved a) = kind.Moved
 kind_of (what.CallOff a) = kind.CallOff
 kind_of (what.Bury a) = kind.Bury
+
+-- the kind of what a message says without places
+abbrev pub plain_kind : PlainWhat → MessageKind
+plain_kind (plain.User code channel body links) = kind.User
+plain_kind plain.Stop = kind.Stop
+plain_kind plain.Resume = kind.Resume
+plain_kind plain.Kill = kind.Kill
+plain_kind (plain.Read base len) = kind.Read
+plain_kind (plain.Write base bytes) = kind.Write
+plain_kind (plain.Block bytes) = kind.Block
+plain_kind plain.Written = kind.Written
+plain_kind plain.Gone = kind.Gone
+plain_kind (plain.Create image links) = kind.Create
+plain_kind (plain.Created pid) = kind.Created
+plain_kind plain.NoRoom = kind.NoRoom
+plain_kind (plain.Move machine) = kind.Move
+plain_kind (plain.Moved outcome) = kind.Moved
+
+-- a message and its plain meaning are of one kind
+abbrev pub IsKindOfPlain : What → Option PlainWhat → Type 0
+IsKindOfPlain w None = ⊤
+IsKindOfPlain w (Some v) = plain_kind v ≡ kind_of w

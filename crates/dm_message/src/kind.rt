@@ -1,6 +1,7 @@
 //! The kinds of message: one table of their words and numbers.
 ghost use Rattle.std.specs.Prelude.{◌≡◌};
-ghost use Rattle.dm_message.specs.Kinds.{kind_numbered, kind_of, number_of, word_of};
+ghost use Rattle.dm_message.specs.Kinds.{IsKindOfPlain, kind_numbered, kind_of, number_of, word_of};
+ghost use Rattle.dm_message.specs.Plain.{plain_what};
 
 use crate::What;
 
@@ -144,7 +145,8 @@ impl MessageKind {
 impl What {
     /// The kind of what is said.
     pub fn kind(&self) -> MessageKind
-        ensures { result ≡ kind_of self.now }
+        ensures kind { result ≡ kind_of self.now }
+        ensures plain { IsKindOfPlain self.now (plain_what self.now) }
     {
         match self {
             What::User { .. } => MessageKind::User,

@@ -1,3 +1,5 @@
 pub mod Begun
+pub mod Directions
+pub mod Lawful
 pub mod Mail
 pub mod Process

@@ -4,7 +4,7 @@
 pub mod process;
 
 pub use dm_memory::NoMemory;
-pub use process::{Process, Status};
+pub use process::{Direction, Process, Status};
 
 #[cfg(test)]
 mod tests;

@@ -2,9 +2,10 @@
 ghost use Rattle.std.specs.Prelude.{◌≡◌, ◌*◌, ◌-◌, ◌≤◌, ◌<◌, ◌++◌, ◌∷◌, [], IfErr, IfOk, IfNone, IfSome, OnErr, OnOk, Some, None, length, remove, replicate, slice_get};
 ghost use Rattle.dm_process.specs.Begun.{begun};
 ghost use Rattle.dm_process.specs.Mail.{first_on, is_on, on_mask, without_first_on};
+ghost use Rattle.dm_process.specs.Directions.{direction_numbered, number_of_direction};
 ghost use Rattle.dm_process.specs.Process.{is_runnable};
 
-use dm_link::Pid;
+use dm_link::{Addr, Pid};
 use dm_linktable::Table;
 use dm_lists::Queue;
 use dm_memory::NoMemory;
@@ -18,7 +19,54 @@ pub enum Status {
     /// It executes instructions.
     Ready,
     /// It takes a message on a channel of the mask into its buffer of `cap` bytes at `base`.
-    Waiting { mask: u32, base: u32, cap: u32 },
+    Waiting {
+        mask: u32,
+        base: u32,
+        cap: u32,
+    },
+    /// It moves data between its own memory and an area of the owner's, piece by piece. `base` and `own` are where the
+    /// piece under way begins, in the owner's memory and in its own; `left` is how many bytes are left with that piece,
+    /// 1 to 65,536; `pending` is the number of the request that is under way.
+    Moving {
+        dir: Direction,
+        owner: Addr,
+        base: u32,
+        own: u32,
+        left: u32,
+        pending: u32,
+    },
+}
+
+/// Which way a data move goes.
+#[derive(Clone, Copy, Debug, PartialEq, Eq)]
+pub enum Direction {
+    /// From the area into the mover's memory.
+    FromArea,
+    /// From the mover's memory into the area.
+    IntoArea,
+}
+
+impl Direction {
+    /// The number that stands for it in register 2, in state bytes and in printed lines: 0 or 1.
+    pub fn number(self) -> u8
+        ensures { result ≡ number_of_direction self }
+    {
+        match self {
+            Direction::FromArea => 0,
+            Direction::IntoArea => 1,
+        }
+    }
+
+    /// The direction that this number stands for, if one has it.
+    pub fn numbered(number: u32) -> Option<Direction>
+        ensures { result ≡ direction_numbered number }
+    {
+        match number {
+            0 => Some(Direction::FromArea),
+            1 => Some(Direction::IntoArea),
+            _ => None,
+        }
+    }
 }
 
 /// A process (1977), at home on any machine (1983).
@@ -75,6 +123,7 @@ impl Process {
             && match self.status {
                 Status::Ready => true,
                 Status::Waiting { mask, .. } => self.first_match(mask).is_some(),
+                Status::Moving { .. } => false,
             }
     }
 
