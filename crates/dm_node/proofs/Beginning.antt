@@ -17,7 +17,7 @@ use Rattle.dm_onekernel.specs.declared.boot.Boot.{Boot}
 use Rattle.dm_onekernel.specs.declared.boot.BootImage.{BootImage}
 use Rattle.dm_onekernel.specs.declared.boot.BootProcess.{BootProcess}
 use Rattle.dm_onekernel.specs.Boot.{image_is_valid, images_are_valid, process_is_valid, processes_are_valid, slots_of}
-use Rattle.dm_onekernel.specs.Start.{table_of}
+use Rattle.dm_onemachine.specs.Start.{table_of}
 use Rattle.dm_trace.specs.View.{ring_at}
 use Rattle.dm_node.specs.declared.records.Record.{Record}
 use Rattle.dm_node.specs.declared.records.Record.TheVariants.{Here}

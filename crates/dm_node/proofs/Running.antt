@@ -4,7 +4,7 @@ use Rattle.dm_regs.specs.declared.registers.Regs.{Regs}
 use Rattle.dm_regs.specs.declared.registers.Stepped.TheVariants as stepped
 use Rattle.dm_regs.specs.Instructions as row
 use Rattle.dm_regs.specs.Instructions.{Row, instruction, DoesRow}
-use Rattle.dm_onekernel.specs.Step.{Machine}
+use Rattle.dm_onemachine.specs.Step.{Machine}
 use Rattle.dm_node.specs.Node.{Ran, ran, after_row, one_more}
 
 -- so many instructions more

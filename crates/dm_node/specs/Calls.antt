@@ -16,8 +16,8 @@ use Rattle.dm_onekernel.specs.declared.label.Reply.TheVariants as reply
 use Rattle.dm_onekernel.specs.declared.label.Why.{Why}
 use Rattle.dm_onekernel.specs.declared.label.Why.TheVariants as why
 use Rattle.dm_onekernel.specs.Codes.{reply_code}
-use Rattle.dm_onekernel.specs.PlainProcess.{reg, with_reg}
-use Rattle.dm_onekernel.specs.Calls.{slots_after_send, CallNumber, Exit, Out, Send, Receive, Unknown, call_number}
+use Rattle.dm_onemachine.specs.PlainProcess.{reg, with_reg}
+use Rattle.dm_onemachine.specs.Calls.{slots_after_send, CallNumber, Exit, Out, Send, Receive, Unknown, call_number}
 use Rattle.dm_node.specs.declared.calls.Called.{Called}
 use Rattle.dm_node.specs.declared.calls.Called.TheVariants as called
 

@@ -25,9 +25,9 @@ use Rattle.dm_onekernel.specs.declared.label.Reply.TheVariants as reply
 use Rattle.dm_onekernel.specs.declared.label.Why.{Why}
 use Rattle.dm_onekernel.specs.declared.label.Why.TheVariants as why
 use Rattle.dm_onekernel.specs.Codes.{reply_code}
-use Rattle.dm_onekernel.specs.PlainProcess.{with_reg}
-use Rattle.dm_onekernel.specs.Calls.{received_regs, written_at}
-use Rattle.dm_onekernel.specs.Step.{Machine}
+use Rattle.dm_onemachine.specs.PlainProcess.{with_reg}
+use Rattle.dm_onemachine.specs.Calls.{received_regs, written_at}
+use Rattle.dm_onemachine.specs.Step.{Machine}
 use Rattle.dm_trace.specs.declared.line.Line.{Line}
 use Rattle.dm_trace.specs.declared.line.Line.TheVariants as line
 use Rattle.dm_trace.specs.View.{without, moved_back}

@@ -8,7 +8,7 @@ use Rattle.dm_process.specs.declared.process.Status.TheVariants.{Ready}
 use Rattle.dm_onekernel.specs.declared.boot.BootProcess.{BootProcess}
 use Rattle.dm_onekernel.specs.declared.boot.Boot.{Boot}
 use Rattle.dm_onekernel.specs.Boot.{slots_of}
-use Rattle.dm_onekernel.specs.Start.{memory_of, table_of, zero_regs}
+use Rattle.dm_onemachine.specs.Start.{memory_of, table_of, zero_regs}
 use Rattle.dm_trace.specs.View.{ring_at}
 use Rattle.dm_node.specs.declared.records.Record.{Record}
 use Rattle.dm_node.specs.declared.records.Record.TheVariants.{Here}

@@ -2,7 +2,7 @@
 ghost use Rattle.std.specs.Prelude.{◌==◌, ◌++◌, ◌<◌, ◌≡◌, ◌≤◌, ◌⊎◌, [], ◌∷◌, IfOk, OnOk, if◌then◌else◌, length, slice_get, true};
 ghost use Rattle.dm_link.specs.declared.Pid.{Pid};
 ghost use Rattle.dm_onekernel.specs.Boot.{IsValid, image_is_valid, images_are_valid, slots_of};
-ghost use Rattle.dm_onekernel.specs.Start.{table_of};
+ghost use Rattle.dm_onemachine.specs.Start.{table_of};
 ghost use Rattle.dm_trace.specs.View.{ring_at};
 ghost use Rattle.dm_node.specs.Node.{Meets, says_nothing};
 ghost use Rattle.dm_node.specs.Opened.{opened, started};

@@ -1,7 +1,7 @@
 //! The calls of processes. None of them takes memory.
 ghost use Rattle.std.specs.Prelude.{◌≡◌, ◌+◌, ◌≤◌, ◌<◌, Some, drop, false, length, nat_lt, slice_set, take};
 ghost use Rattle.dm_linktable.specs.Slots.{link_at};
-ghost use Rattle.dm_onekernel.specs.PlainProcess.{reg};
+ghost use Rattle.dm_onemachine.specs.PlainProcess.{reg};
 ghost use Rattle.dm_node.specs.Calls.{after_send, calls, message_over, outputs, replied, send_is_long, send_is_outside, sends, sends_over, waits};
 
 use arrayvec::ArrayVec;

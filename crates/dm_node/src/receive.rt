@@ -1,7 +1,7 @@
 //! How a waiting process takes a message. It takes no memory.
 ghost use Rattle.std.specs.Prelude.{◌≡◌, ℕ, ◌+◌, ◌<◌, ◌≤◌, IfNone, Some, length, remove, slice_get};
 ghost use Rattle.dm_message.specs.declared.Message.{Message};
-ghost use Rattle.dm_onekernel.specs.Calls.{received_regs};
+ghost use Rattle.dm_onemachine.specs.Calls.{received_regs};
 ghost use Rattle.dm_process.specs.Mail.{first_on, without_first_on};
 ghost use Rattle.dm_node.specs.Node.{NodeState, refused, takes};
 ghost use Rattle.dm_node.specs.Receiving.{completed};

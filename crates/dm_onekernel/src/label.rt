@@ -77,20 +77,72 @@ impl Why {
 #[derive(Clone, Copy, Debug, PartialEq, Eq)]
 pub enum Label {
     /// The process executed so many plain instructions.
-    Ran { pid: Pid, count: u32 },
+    Ran {
+        pid: Pid,
+        count: u32,
+    },
     /// A call that sent nothing gave a reply.
-    Call { pid: Pid, number: u8, reply: Reply },
+    Call {
+        pid: Pid,
+        number: u8,
+        reply: Reply,
+    },
     /// The process sent a message.
-    Send { pid: Pid, id: MsgId },
+    Send {
+        pid: Pid,
+        id: MsgId,
+    },
     /// The process waits for a message from now on.
-    Wait { pid: Pid },
+    Wait {
+        pid: Pid,
+    },
     /// The process put out a word.
-    Out { pid: Pid, word: u32 },
-    End { pid: Pid, why: Why },
+    Out {
+        pid: Pid,
+        word: u32,
+    },
+    End {
+        pid: Pid,
+        why: Why,
+    },
     /// A waiting process took a message.
-    Receive { pid: Pid, id: MsgId },
+    Receive {
+        pid: Pid,
+        id: MsgId,
+    },
     /// A waiting process was refused a message, which stays.
-    Refuse { pid: Pid, id: MsgId, reply: Reply },
+    Refuse {
+        pid: Pid,
+        id: MsgId,
+        reply: Reply,
+    },
     /// A message went whose receiver had ended.
-    Dropped { id: MsgId },
+    Dropped {
+        id: MsgId,
+    },
+    /// The kernel where a process is did what a message for it asks: stop, resume, kill, a piece of a data move, or
+    /// its answer.
+    Served {
+        id: MsgId,
+    },
+    /// A piece was asked of a process that had ended, which is answered.
+    Gone {
+        id: MsgId,
+    },
+    /// The switchboard or the process manager did what a message for it asks.
+    Took {
+        id: MsgId,
+    },
+    /// A process was made, as a message asked.
+    Created {
+        id: MsgId,
+        pid: Pid,
+    },
+    /// A process could not be made for want of room; the numbers, of which the kernel without machines knows nothing,
+    /// are what was free.
+    NoSpace {
+        id: MsgId,
+        free_slots: u8,
+        free_blocks: u16,
+    },
 }

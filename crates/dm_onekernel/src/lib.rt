@@ -3,7 +3,6 @@
 
 pub mod boot;
 pub mod label;
-pub mod laws;
 
 pub use boot::{Boot, BootImage, BootMachine, BootProcess, Format};
 pub use label::{Label, Reply, Why};

@@ -10,9 +10,9 @@ use Rattle.dm_message.specs.declared.MsgId.{MsgId}
 use Rattle.dm_onekernel.specs.declared.boot.BootProcess.{BootProcess}
 use Rattle.dm_onekernel.specs.declared.boot.Boot.{Boot}
 use Rattle.dm_onekernel.specs.declared.label.Label.TheVariants as label
-use Rattle.dm_onekernel.specs.PlainProcess.{PlainProcess, reg}
-use Rattle.dm_onekernel.specs.Kernel.{OneKernel}
-use Rattle.dm_onekernel.specs.Step.{running}
+use Rattle.dm_onemachine.specs.PlainProcess.{PlainProcess, reg}
+use Rattle.dm_onemachine.specs.Kernel.{OneKernel}
+use Rattle.dm_onemachine.specs.Step.{running}
 use Rattle.dm_trace.specs.declared.line.Line.{Line}
 use Rattle.dm_trace.specs.declared.line.Line.TheVariants as line
 use Rattle.dm_trace.specs.View.{View, at_id}

@@ -3,9 +3,9 @@ use Rattle.std.specs.Prelude.{◌≡◌, ℕ, ◌≤◌, List, [], ◌∷◌, �
 use Rattle.std.specs.declared.option.Option.TheVariants.{Some}
 use Rattle.dm_message.specs.declared.MsgId.{MsgId}
 use Rattle.dm_onekernel.specs.declared.boot.Boot.{Boot}
-use Rattle.dm_onekernel.specs.Received.{receptions}
-use Rattle.dm_onekernel.specs.Start.{start}
-use Rattle.dm_onekernel.specs.Step.{replay}
+use Rattle.dm_onemachine.specs.Received.{receptions}
+use Rattle.dm_onemachine.specs.Start.{start}
+use Rattle.dm_onemachine.specs.Step.{replay}
 use Rattle.dm_schedule.specs.declared.Step.{Step}
 use Rattle.dm_trace.specs.declared.line.Line.{Line}
 use Rattle.dm_trace.specs.Places.{StandsAsBag, standing}

@@ -15,9 +15,9 @@ use Rattle.dm_onekernel.specs.declared.boot.Boot.{Boot}
 use Rattle.dm_onekernel.specs.declared.label.Label.TheVariants as label
 use Rattle.dm_onekernel.specs.declared.label.Reply.{Reply}
 use Rattle.dm_onekernel.specs.declared.label.Why.{Why}
-use Rattle.dm_onekernel.specs.PlainProcess.{PlainProcess}
-use Rattle.dm_onekernel.specs.Kernel.{OneKernel}
-use Rattle.dm_onekernel.specs.Step.{if_alive}
+use Rattle.dm_onemachine.specs.PlainProcess.{PlainProcess}
+use Rattle.dm_onemachine.specs.Kernel.{OneKernel}
+use Rattle.dm_onemachine.specs.Step.{if_alive}
 use Rattle.dm_schedule.specs.declared.Step.{Step}
 use Rattle.dm_schedule.specs.declared.Step.TheVariants as step
 use Rattle.dm_trace.specs.declared.line.Line.{Line}

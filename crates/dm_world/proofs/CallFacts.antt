@@ -13,8 +13,8 @@ use Rattle.dm_message.specs.declared.Message.{Message}
 use Rattle.dm_process.specs.declared.process.Process.{Process}
 use Rattle.dm_process.specs.declared.process.Status.TheVariants as status
 use Rattle.dm_onekernel.specs.declared.boot.Format.{Format}
-use Rattle.dm_onekernel.specs.PlainProcess.{reg}
-use Rattle.dm_onekernel.specs.Calls.{slots_after_send, CallNumber, Exit, Out, Send, Receive, Unknown, call_number}
+use Rattle.dm_onemachine.specs.PlainProcess.{reg}
+use Rattle.dm_onemachine.specs.Calls.{slots_after_send, CallNumber, Exit, Out, Send, Receive, Unknown, call_number}
 use Rattle.dm_node.specs.declared.calls.Called.{Called}
 use Rattle.dm_node.specs.declared.calls.Called.TheVariants as called
 use Rattle.dm_node.specs.Calls.{Done, calls, does_call, sends, sends_over, waits, send_is_long, send_is_outside}

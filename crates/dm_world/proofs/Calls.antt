@@ -11,9 +11,9 @@ use Rattle.dm_linktable.specs.Slots.{link_at}
 use Rattle.dm_message.specs.Plain.{plain_message}
 use Rattle.dm_process.specs.declared.process.Process.{Process}
 use Rattle.dm_onekernel.specs.declared.boot.Format.{Format}
-use Rattle.dm_onekernel.specs.PlainProcess.{plain_process, reg}
-use Rattle.dm_onekernel.specs.Calls as plain
-use Rattle.dm_onekernel.specs.Calls.{CallNumber, Exit, Out, Send, Receive, Unknown, call_number}
+use Rattle.dm_onemachine.specs.PlainProcess.{plain_process, reg}
+use Rattle.dm_onemachine.specs.Calls as plain
+use Rattle.dm_onemachine.specs.Calls.{CallNumber, Exit, Out, Send, Receive, Unknown, call_number}
 use Rattle.dm_node.specs.declared.calls.Called.{Called}
 use Rattle.dm_node.specs.declared.calls.Called.TheVariants as called
 use Rattle.dm_node.specs.Calls as node

@@ -14,8 +14,8 @@ use Rattle.dm_process.specs.declared.process.Process.{Process}
 use Rattle.dm_onekernel.specs.declared.boot.Boot.{Boot}
 use Rattle.dm_onekernel.specs.declared.label.Label.TheVariants as label
 use Rattle.dm_onekernel.specs.declared.label.Why.{Why}
-use Rattle.dm_onekernel.specs.Kernel.{OneKernel, Life, Alive, with_process, with_message}
-use Rattle.dm_onekernel.specs.Step.{step, Machine}
+use Rattle.dm_onemachine.specs.Kernel.{OneKernel, Life, Alive, with_process, with_message}
+use Rattle.dm_onemachine.specs.Step.{step, Machine}
 use Rattle.dm_schedule.specs.declared.Step.TheVariants as directive
 use Rattle.dm_trace.specs.declared.line.Line.{Line}
 use Rattle.dm_trace.specs.declared.line.Line.TheVariants as line
@@ -29,7 +29,7 @@ use Rattle.dm_node.specs.declared.records.Record.TheVariants as node
 use Rattle.dm_node.specs.Node as turn
 use Rattle.dm_node.specs.Node.{NodeState, Ran}
 use Rattle.dm_world.specs.Stands.{Info, ids, queue_of, MailStands, AllTold, AllFor}
-use Rattle.dm_onekernel.proofs.Equal.{pid_eq-same}
+use Rattle.dm_onemachine.proofs.Equal.{pid_eq-same}
 use Rattle.dm_world.proofs.Mail.{told_bag}
 use Rattle.dm_world.proofs.Once.{one_of}
 use Rattle.dm_world.proofs.Moves.{goes_from_queue, set_queue, stays}

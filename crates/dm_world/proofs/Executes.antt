@@ -14,10 +14,10 @@ use Rattle.dm_process.specs.declared.process.Status.TheVariants as status
 use Rattle.dm_onekernel.specs.declared.boot.Boot.{Boot}
 use Rattle.dm_onekernel.specs.declared.label.Label.{Label}
 use Rattle.dm_onekernel.specs.declared.label.Label.TheVariants as label
-use Rattle.dm_onekernel.specs.PlainProcess.{PlainProcess, plain_process}
-use Rattle.dm_onekernel.specs.Kernel.{OneKernel, Life, Alive, with_process}
-use Rattle.dm_onekernel.specs.Step as kernel
-use Rattle.dm_onekernel.specs.Step.{step, if_alive, running, Machine}
+use Rattle.dm_onemachine.specs.PlainProcess.{PlainProcess, plain_process}
+use Rattle.dm_onemachine.specs.Kernel.{OneKernel, Life, Alive, with_process}
+use Rattle.dm_onemachine.specs.Step as kernel
+use Rattle.dm_onemachine.specs.Step.{step, if_alive, running, Machine}
 use Rattle.dm_trace.specs.declared.line.Line.{Line}
 use Rattle.dm_trace.specs.declared.line.Line.TheVariants as line
 use Rattle.dm_trace.specs.View.{View, after_label, moved_back}
@@ -30,7 +30,7 @@ use Rattle.dm_node.specs.declared.records.Record.TheVariants as node
 use Rattle.dm_node.specs.Node as turn
 use Rattle.dm_node.specs.Node.{NodeState, Ran, with_machine}
 use Rattle.dm_world.specs.Stands.{info, queue_of, SlotLinks, Stands}
-use Rattle.dm_onekernel.proofs.Equal.{pid_eq-same}
+use Rattle.dm_onemachine.proofs.Equal.{pid_eq-same}
 use Rattle.dm_world.proofs.Runs.{Halted}
 use Rattle.dm_world.proofs.CallFacts.{SlotLeft}
 use Rattle.dm_world.proofs.Moves.{stays}

@@ -15,8 +15,8 @@ use Rattle.dm_process.specs.declared.process.Status.TheVariants as status
 use Rattle.dm_process.specs.Process as process
 use Rattle.dm_onekernel.specs.declared.boot.Boot.{Boot}
 use Rattle.dm_onekernel.specs.declared.label.Label.{Label}
-use Rattle.dm_onekernel.specs.Kernel.{OneKernel, Life, Alive}
-use Rattle.dm_onekernel.specs.Step.{step, if_alive}
+use Rattle.dm_onemachine.specs.Kernel.{OneKernel, Life, Alive}
+use Rattle.dm_onemachine.specs.Step.{step, if_alive}
 use Rattle.dm_schedule.specs.declared.Step.TheVariants as directive
 use Rattle.dm_trace.specs.declared.line.Line.{Line}
 use Rattle.dm_trace.specs.declared.line.Line.TheVariants as line
@@ -31,7 +31,7 @@ use Rattle.dm_node.specs.Records.{with_record}
 use Rattle.dm_node.specs.Node as turn
 use Rattle.dm_node.specs.Node.{NodeState, Turned, record_is_runnable}
 use Rattle.dm_world.specs.Stands.{life_of, queue_of, ids, AllTold, Stands, at_most}
-use Rattle.dm_onekernel.proofs.Equal.{pid_eq-is}
+use Rattle.dm_onemachine.proofs.Equal.{pid_eq-is}
 use Rattle.dm_world.proofs.Mail.{first_awaited-ids}
 
 -- what no turn changes, and the count of groups

@@ -5,10 +5,10 @@ use Rattle.std.specs.declared.option.Option.{Option}
 use Rattle.std.specs.declared.option.Option.TheVariants.{None, Some}
 use Rattle.dm_onekernel.specs.declared.boot.Boot.{Boot}
 use Rattle.dm_onekernel.specs.Boot.{IsValid}
-use Rattle.dm_onekernel.specs.Kernel.{Life}
-use Rattle.dm_onekernel.specs.Received.{receptions}
-use Rattle.dm_onekernel.specs.Start.{start}
-use Rattle.dm_onekernel.specs.Step.{replay}
+use Rattle.dm_onemachine.specs.Kernel.{Life}
+use Rattle.dm_onemachine.specs.Received.{receptions}
+use Rattle.dm_onemachine.specs.Start.{start}
+use Rattle.dm_onemachine.specs.Step.{replay}
 use Rattle.dm_schedule.specs.declared.Step.TheVariants as directive
 use Rattle.dm_trace.specs.Point.{Point, first_point, labels}
 use Rattle.dm_trace.specs.Good.{joined, IsKept, IsRun}
@@ -19,7 +19,7 @@ use Rattle.dm_node.specs.Opened.{opened}
 use Rattle.dm_world.specs.Stands.{Stands, at_most, buffer_fits, life_of}
 use Rattle.dm_world.specs.Run.{groups, group_of, turns_of}
 use Rattle.dm_world.specs.World.{machine_after, GoodRun}
-use Rattle.dm_onekernel.proofs.ReceivedOnce.{Sound, after_replay, start_sound, received_once}
+use Rattle.dm_onemachine.proofs.ReceivedOnce.{Sound, after_replay, start_sound, received_once}
 use Rattle.dm_world.proofs.Frame.{Advances}
 use Rattle.dm_world.proofs.Turns.{advance}
 use Rattle.dm_world.proofs.Replays.{replays_more, run_more}

@@ -20,9 +20,9 @@ use Rattle.dm_onekernel.specs.declared.label.Label.TheVariants as label
 use Rattle.dm_onekernel.specs.declared.label.Why.{Why}
 use Rattle.dm_message.specs.Plain.{PlainMessage, plain_message, plain_what, with_what}
 use Rattle.dm_linktable.specs.Slots.{link_at}
-use Rattle.dm_onekernel.specs.PlainProcess.{plain_process}
-use Rattle.dm_onekernel.specs.Kernel.{OneKernel, Life, Alive, with_message}
-use Rattle.dm_onekernel.specs.Step.{step, drops, if_ended}
+use Rattle.dm_onemachine.specs.PlainProcess.{plain_process}
+use Rattle.dm_onemachine.specs.Kernel.{OneKernel, Life, Alive, with_message}
+use Rattle.dm_onemachine.specs.Step.{step, drops, if_ended}
 use Rattle.dm_trace.specs.declared.line.Line.{Line}
 use Rattle.dm_trace.specs.declared.line.Line.TheVariants as line
 use Rattle.dm_trace.specs.View.{View, Known, Put, Here, Ended, view_after, with_queue, receiver_of, without_front, at_machine, at_pid}
@@ -34,7 +34,7 @@ use Rattle.dm_node.specs.declared.records.Record.{Record}
 use Rattle.dm_node.specs.declared.records.Record.TheVariants as node
 use Rattle.dm_node.specs.Node.{NodeState, handles, queued, status_fits}
 use Rattle.dm_world.specs.Stands.{Info, is_user, IsTold, AllTold, AllFor, ids, life_of, known_of, queue_of, table_of, IsNamed, SlotLinks, AllMade, MailStands, Stands, at_most, buffer_fits}
-use Rattle.dm_onekernel.proofs.Equal.{pid_eq-is, pid_eq-same, id_eq-same}
+use Rattle.dm_onemachine.proofs.Equal.{pid_eq-is, pid_eq-same, id_eq-same}
 use Rattle.dm_world.proofs.Mail.{told_bag}
 use Rattle.dm_world.proofs.Moves.{goes_to_queue, goes_from_inbox, set_queue, plain_user}
 use Rattle.dm_world.proofs.Frame.{Advances, headed, labelled, after-label, at_most_more}

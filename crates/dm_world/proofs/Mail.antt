@@ -15,7 +15,7 @@ use Rattle.dm_trace.specs.View.{without_id}
 use Rattle.dm_trace.specs.Point.{Point}
 use Rattle.dm_trace.specs.Group.{is_awaited, first_awaited}
 use Rattle.dm_world.specs.Stands.{Info, IsTold, AllTold, AllFor, ids}
-use Rattle.dm_onekernel.proofs.Equal.{id_eq-same, id_eq-is}
+use Rattle.dm_onemachine.proofs.Equal.{id_eq-same, id_eq-is}
 
 awaited_what : (mask : ℕ) (m : Message) (w : What) → is_awaited mask (with_what m (plain_what w)) ≡ what_is_on mask w
 awaited_what mask m (what.User code channel body links) = refl

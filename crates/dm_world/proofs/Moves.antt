@@ -18,7 +18,7 @@ use Rattle.dm_message.specs.Plain.{PlainMessage, PlainWhat, plain_what, with_wha
 use Rattle.dm_trace.specs.Places.{Spot, Queue, Inbox, Untaken, times, ids_at, standing}
 use Rattle.dm_trace.specs.Point.{Point}
 use Rattle.dm_world.specs.Stands.{Info, info, is_user, IsTold, AllTold, AllFor, ids, Mail, MailStands}
-use Rattle.dm_onekernel.proofs.Equal.{pid_eq-is, pid_eq-same, id_eq-same}
+use Rattle.dm_onemachine.proofs.Equal.{pid_eq-is, pid_eq-same, id_eq-same}
 use Rattle.dm_world.proofs.Mail.{told_bag}
 use Rattle.dm_world.proofs.Standing.{StandsAsBag-elsewhere, StandsAsBag-one, StandsAsBag-same, times-append, times-zero}
 use Rattle.dm_world.proofs.Once.{one_of, once_comes, once_goes, once_moves}

@@ -11,7 +11,7 @@ use Rattle.dm_message.specs.Ids.{id_eq}
 use Rattle.dm_message.specs.Plain.{PlainMessage}
 use Rattle.dm_trace.specs.View.{View}
 use Rattle.dm_trace.specs.Places.{Spot, times, ids_at, standing, StandsOnce, StandsNowhere, StandsAsBag}
-use Rattle.dm_onekernel.proofs.Equal.{id_eq-same, id_eq-is, id_eq-swap}
+use Rattle.dm_onemachine.proofs.Equal.{id_eq-same, id_eq-is, id_eq-swap}
 use Rattle.dm_world.proofs.Standing.{comes, goes, moves, spot_cases, once_as, StandsAsBag-same, StandsAsBag-once}
 
 -- 1 for the message itself

@@ -14,9 +14,9 @@ use Rattle.dm_message.specs.declared.MsgId.{MsgId}
 use Rattle.dm_onekernel.specs.declared.boot.BootProcess.{BootProcess}
 use Rattle.dm_onekernel.specs.declared.boot.Boot.{Boot}
 use Rattle.dm_onekernel.specs.Boot.{IsValid, processes_are_valid, link_is_valid, links_are_valid, slots_of, first_number}
-use Rattle.dm_onekernel.specs.PlainProcess.{PlainProcess, plain_process}
-use Rattle.dm_onekernel.specs.Kernel.{Life, Alive}
-use Rattle.dm_onekernel.specs.Start.{begun, life_at}
+use Rattle.dm_onemachine.specs.PlainProcess.{PlainProcess, plain_process}
+use Rattle.dm_onemachine.specs.Kernel.{Life, Alive}
+use Rattle.dm_onemachine.specs.Start.{begun, life_at}
 use Rattle.dm_trace.specs.View.{Known, Nothing, Here, known_at}
 use Rattle.dm_trace.specs.View as view
 use Rattle.dm_trace.specs.Addresses.{links_at, place_in, home_place}
@@ -28,7 +28,7 @@ use Rattle.dm_node.specs.Records.{with_record}
 use Rattle.dm_node.specs.Opened.{started, records_with, opened}
 use Rattle.dm_world.specs.Stands as stands
 use Rattle.dm_world.specs.Stands.{life_of, known_of, queue_of, is_made, IsNamed, SlotLinks, IsLinked, Stands, at_most, buffer_fits}
-use Rattle.dm_onekernel.proofs.Equal.{pid_eq-is, pid_eq-same}
+use Rattle.dm_onemachine.proofs.Equal.{pid_eq-is, pid_eq-same}
 use Rattle.dm_world.proofs.Frame.{set_holds}
 use Rattle.dm_world.proofs.Sets.{made_set}
 

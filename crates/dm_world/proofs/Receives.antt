@@ -23,11 +23,11 @@ use Rattle.dm_process.specs.declared.process.Status.TheVariants as status
 use Rattle.dm_onekernel.specs.declared.boot.Boot.{Boot}
 use Rattle.dm_onekernel.specs.declared.label.Label.TheVariants as label
 use Rattle.dm_onekernel.specs.declared.label.Reply.TheVariants as reply
-use Rattle.dm_onekernel.specs.PlainProcess.{PlainProcess, plain_process}
-use Rattle.dm_onekernel.specs.Calls as calls
-use Rattle.dm_onekernel.specs.Kernel.{OneKernel, Life, Alive, with_process, with_message}
-use Rattle.dm_onekernel.specs.Step as kernel
-use Rattle.dm_onekernel.specs.Step.{step, if_alive}
+use Rattle.dm_onemachine.specs.PlainProcess.{PlainProcess, plain_process}
+use Rattle.dm_onemachine.specs.Calls as calls
+use Rattle.dm_onemachine.specs.Kernel.{OneKernel, Life, Alive, with_process, with_message}
+use Rattle.dm_onemachine.specs.Step as kernel
+use Rattle.dm_onemachine.specs.Step.{step, if_alive}
 use Rattle.dm_trace.specs.declared.line.Line.{Line}
 use Rattle.dm_trace.specs.declared.line.Line.TheVariants as line
 use Rattle.dm_trace.specs.View.{View, without_id, moved_back}
@@ -39,7 +39,7 @@ use Rattle.dm_node.specs.declared.records.Record.TheVariants as node
 use Rattle.dm_node.specs.Node as turn
 use Rattle.dm_node.specs.Node.{NodeState}
 use Rattle.dm_world.specs.Stands.{ids, queue_of, MailStands, IsTold, Stands}
-use Rattle.dm_onekernel.proofs.Equal.{pid_eq-is, pid_eq-same}
+use Rattle.dm_onemachine.proofs.Equal.{pid_eq-is, pid_eq-same}
 use Rattle.dm_world.proofs.Mail.{told_bag, told_first, for_first, told_without, for_without, first_on-is_on, first_on-cons, ids-without, first_awaited-ids}
 use Rattle.dm_world.proofs.Once.{one_of}
 use Rattle.dm_world.proofs.Moves.{goes_from_queue, set_queue, stays}

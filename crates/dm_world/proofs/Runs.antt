@@ -5,7 +5,7 @@ use Rattle.dm_regs.specs.Instructions as row
 use Rattle.dm_regs.specs.Instructions.{Row, instruction}
 use Rattle.dm_regs.specs.declared.registers.Fault.{Fault}
 use Rattle.dm_regs.specs.declared.registers.Regs.{Regs}
-use Rattle.dm_onekernel.specs.Step.{Machine, plain_row, plain_step, plain_steps}
+use Rattle.dm_onemachine.specs.Step.{Machine, plain_row, plain_step, plain_steps}
 use Rattle.dm_node.specs.declared.run.Halt.TheVariants as halt
 use Rattle.dm_node.specs.Node.{Ran, after_row, ran}
 

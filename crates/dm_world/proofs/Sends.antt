@@ -19,9 +19,9 @@ use Rattle.dm_message.specs.Plain.{PlainMessage, PlainWhat, plain_message, plain
 use Rattle.dm_process.specs.declared.process.Process.{Process}
 use Rattle.dm_onekernel.specs.declared.boot.Boot.{Boot}
 use Rattle.dm_onekernel.specs.declared.label.Label.TheVariants as label
-use Rattle.dm_onekernel.specs.PlainProcess.{PlainProcess, plain_process}
-use Rattle.dm_onekernel.specs.Kernel.{OneKernel, Life, Alive, with_process, with_message}
-use Rattle.dm_onekernel.specs.Step.{step, running, Machine}
+use Rattle.dm_onemachine.specs.PlainProcess.{PlainProcess, plain_process}
+use Rattle.dm_onemachine.specs.Kernel.{OneKernel, Life, Alive, with_process, with_message}
+use Rattle.dm_onemachine.specs.Step.{step, running, Machine}
 use Rattle.dm_schedule.specs.declared.Step.TheVariants as directive
 use Rattle.dm_trace.specs.declared.line.Line.{Line}
 use Rattle.dm_trace.specs.declared.line.Line.TheVariants as line
@@ -34,9 +34,9 @@ use Rattle.dm_node.specs.declared.records.Record.TheVariants as node
 use Rattle.dm_node.specs.Node as turn
 use Rattle.dm_node.specs.Node.{NodeState, Ran}
 use Rattle.dm_world.specs.Stands.{is_user, is_made, queue_of, SlotLinks, IsLinked, AllMade}
-use Rattle.dm_onekernel.proofs.Equal.{pid_eq-same, id_eq-same}
-use Rattle.dm_onekernel.proofs.Counted.{is_counted}
-use Rattle.dm_onekernel.proofs.ReceivedOnce.{Sound}
+use Rattle.dm_onemachine.proofs.Equal.{pid_eq-same, id_eq-same}
+use Rattle.dm_onemachine.proofs.Counted.{is_counted}
+use Rattle.dm_onemachine.proofs.ReceivedOnce.{Sound}
 use Rattle.dm_world.proofs.CallFacts.{SlotLeft, SentOver}
 use Rattle.dm_world.proofs.Moves.{comes_in}
 use Rattle.dm_world.proofs.Frame.{Advances, headed, labelled, after-label}

@@ -11,7 +11,7 @@ use Rattle.dm_link.specs.Names.{pid_eq}
 use Rattle.dm_linktable.specs.Slots.{link_at}
 use Rattle.dm_message.specs.declared.Message.{Message}
 use Rattle.dm_onekernel.specs.declared.boot.Boot.{Boot}
-use Rattle.dm_onekernel.specs.Kernel.{Life}
+use Rattle.dm_onemachine.specs.Kernel.{Life}
 use Rattle.dm_trace.specs.Point.{Point}
 use Rattle.dm_node.specs.declared.records.Record.{Record}
 use Rattle.dm_node.specs.Records.{with_record}

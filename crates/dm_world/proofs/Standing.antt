@@ -9,7 +9,7 @@ use Rattle.dm_link.specs.Names.{pid_eq}
 use Rattle.dm_message.specs.declared.MsgId.{MsgId}
 use Rattle.dm_message.specs.Ids.{id_eq}
 use Rattle.dm_trace.specs.Places.{Spot, Queue, Inbox, Untaken, times, StandsOnce, StandsNowhere, StandsAsBag}
-use Rattle.dm_onekernel.proofs.Equal.{pid_eq-is, pid_eq-same}
+use Rattle.dm_onemachine.proofs.Equal.{pid_eq-is, pid_eq-same}
 
 pub same_spot : Spot → Spot → Bool
 same_spot (Queue p) (Queue q) = pid_eq p q

@@ -23,11 +23,11 @@ use Rattle.dm_onekernel.specs.declared.label.Reply.{Reply}
 use Rattle.dm_onekernel.specs.declared.label.Why.{Why}
 use Rattle.dm_onekernel.specs.declared.label.Why.TheVariants as why
 use Rattle.dm_onekernel.specs.Codes.{reply_eq, why_eq}
-use Rattle.dm_onekernel.specs.PlainProcess.{PlainProcess, plain_process}
-use Rattle.dm_onekernel.specs.Calls as plain
-use Rattle.dm_onekernel.specs.Kernel.{OneKernel, Life, Alive, with_process, with_message}
-use Rattle.dm_onekernel.specs.Step as kernel
-use Rattle.dm_onekernel.specs.Step.{step, only_if, Machine}
+use Rattle.dm_onemachine.specs.PlainProcess.{PlainProcess, plain_process}
+use Rattle.dm_onemachine.specs.Calls as plain
+use Rattle.dm_onemachine.specs.Kernel.{OneKernel, Life, Alive, with_process, with_message}
+use Rattle.dm_onemachine.specs.Step as kernel
+use Rattle.dm_onemachine.specs.Step.{step, only_if, Machine}
 use Rattle.dm_schedule.specs.declared.Step.TheVariants as directive
 use Rattle.dm_trace.specs.declared.line.Line.TheVariants as line
 use Rattle.dm_trace.specs.View.{moved_back}
@@ -43,8 +43,8 @@ use Rattle.dm_node.specs.Calls as node_calls
 use Rattle.dm_node.specs.Node as turn
 use Rattle.dm_node.specs.Node.{NodeState, Ran, ran, with_machine, record_is_runnable}
 use Rattle.dm_world.specs.Stands.{is_user, is_made, ids, queue_of, AllMade, Stands}
-use Rattle.dm_onekernel.proofs.Equal.{pid_eq-same, id_eq-same}
-use Rattle.dm_onekernel.proofs.ReceivedOnce.{Sound}
+use Rattle.dm_onemachine.proofs.Equal.{pid_eq-same, id_eq-same}
+use Rattle.dm_onemachine.proofs.ReceivedOnce.{Sound}
 use Rattle.dm_world.proofs.Runs.{Halted, halted}
 use Rattle.dm_world.proofs.Calls.{Same, same_calls}
 use Rattle.dm_world.proofs.CallFacts.{SlotLeft, Sent, Leaves, calls-leaves}

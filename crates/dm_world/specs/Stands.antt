@@ -13,9 +13,9 @@ use Rattle.dm_message.specs.declared.What.TheVariants as what
 use Rattle.dm_message.specs.Kinds.{kind_of}
 use Rattle.dm_message.specs.Plain.{PlainMessage, plain_message}
 use Rattle.dm_onekernel.specs.declared.boot.Boot.{Boot}
-use Rattle.dm_onekernel.specs.PlainProcess.{plain_process}
-use Rattle.dm_onekernel.specs.Kernel.{Life, Alive}
-use Rattle.dm_onekernel.specs.Kernel as kernel
+use Rattle.dm_onemachine.specs.PlainProcess.{plain_process}
+use Rattle.dm_onemachine.specs.Kernel.{Life, Alive}
+use Rattle.dm_onemachine.specs.Kernel as kernel
 use Rattle.dm_trace.specs.View.{Known, Nothing, Put}
 use Rattle.dm_trace.specs.View as view
 use Rattle.dm_trace.specs.Addresses.{home_place}

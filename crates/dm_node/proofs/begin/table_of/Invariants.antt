@@ -1,5 +1,5 @@
 use Rattle.std.proofs.Common.{◌≡◌, take}
-use Rattle.dm_onekernel.specs.Start.{table_of}
+use Rattle.dm_onemachine.specs.Start.{table_of}
 use Rattle.dm_node.proofs.begin.table_of.Given as goal
 
 abbrev pub invariant-loop-link : goal.invariant-loop-link

@@ -12,8 +12,8 @@ use Rattle.dm_onekernel.specs.declared.boot.BootImage.{BootImage}
 use Rattle.dm_onekernel.specs.declared.boot.BootProcess.{BootProcess}
 use Rattle.dm_onekernel.specs.declared.boot.Boot.{Boot}
 use Rattle.dm_onekernel.specs.Boot.{slots_of}
-use Rattle.dm_onekernel.specs.PlainProcess.{PlainProcess}
-use Rattle.dm_onekernel.specs.Kernel.{Life, Alive, OneKernel}
+use Rattle.dm_onemachine.specs.PlainProcess.{PlainProcess}
+use Rattle.dm_onemachine.specs.Kernel.{Life, Alive, OneKernel}
 
 -- the memory of an image: its bytes, then zeros
 abbrev pub memory_of : Option BootImage → List ℕ

@@ -8,11 +8,11 @@ use Rattle.dm_message.specs.Ids.{id_of}
 use Rattle.dm_process.specs.declared.process.Status.{Status}
 use Rattle.dm_process.specs.declared.process.Status.TheVariants as status
 use Rattle.dm_onekernel.specs.declared.boot.Format.{Format}
-use Rattle.dm_onekernel.specs.PlainProcess.{PlainProcess}
-use Rattle.dm_onekernel.specs.Calls as calls
-use Rattle.dm_onekernel.specs.Calls.{Called, Replies, Sends, Waits, Outputs, Ends, CallNumber, Exit, Out, Send, Receive, Unknown, call_number}
-use Rattle.dm_onekernel.specs.Kernel.{Life, Alive, Ended, OneKernel}
-use Rattle.dm_onekernel.specs.Step.{if_alive, if_ready, ready, running}
+use Rattle.dm_onemachine.specs.PlainProcess.{PlainProcess}
+use Rattle.dm_onemachine.specs.Calls as calls
+use Rattle.dm_onemachine.specs.Calls.{Called, Replies, Sends, Waits, Outputs, Ends, CallNumber, Exit, Out, Send, Receive, Unknown, call_number}
+use Rattle.dm_onemachine.specs.Kernel.{Life, Alive, Ended, OneKernel}
+use Rattle.dm_onemachine.specs.Step.{if_alive, if_ready, ready, running}
 
 -- the number of a message was counted by its sender
 abbrev pub is_counted : ℕ → Option Life → Bool
@@ -55,7 +55,8 @@ call-counts f pid p n = does_call-counts f pid p (call_number n)
 if_ready-is : (p : PlainProcess) (s : Status) (stopped : Bool) (x : PlainProcess) → if_ready p s stopped ≡ Some x → p ≡ x
 if_ready-is p status.Ready false x e = cc
 if_ready-is p status.Ready true x e = cc
-if_ready-is p (status.Waiting mask base cap) stopped x e = cc
+if_ready-is p (status.Waiting mask base cap_) stopped x e = cc
+if_ready-is p (status.Moving dir owner base own left pending) stopped x e = cc
 
 ready-is : (p : Option PlainProcess) (x : PlainProcess) → ready p ≡ Some x → p ≡ Some x
 ready-is None x e = e

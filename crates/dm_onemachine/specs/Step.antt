@@ -21,9 +21,9 @@ use Rattle.dm_onekernel.specs.declared.label.Reply.{Reply}
 use Rattle.dm_onekernel.specs.declared.label.Why.{Why}
 use Rattle.dm_onekernel.specs.declared.label.Why.TheVariants as why
 use Rattle.dm_onekernel.specs.Codes.{reply_eq, why_eq}
-use Rattle.dm_onekernel.specs.PlainProcess.{PlainProcess}
-use Rattle.dm_onekernel.specs.Calls as calls
-use Rattle.dm_onekernel.specs.Kernel.{Life, Alive, Ended, OneKernel, with_process, with_message}
+use Rattle.dm_onemachine.specs.PlainProcess.{PlainProcess}
+use Rattle.dm_onemachine.specs.Calls as calls
+use Rattle.dm_onemachine.specs.Kernel.{Life, Alive, Ended, OneKernel, with_process, with_message}
 
 -- what the processor holds: registers and memory
 pub record Machine : Type 0 where
@@ -50,6 +50,7 @@ abbrev pub if_ready : PlainProcess → Status → Bool → Option PlainProcess
 if_ready p status.Ready false = Some p
 if_ready p status.Ready true = None
 if_ready p (status.Waiting mask base cap) stopped = None
+if_ready p (status.Moving dir owner base own left pending) stopped = None
 
 abbrev pub if_alive : Option Life → Option PlainProcess
 if_alive None = None
@@ -169,6 +170,7 @@ step s (label.End p y) = ends s p y (next s p)
 step s (label.Receive p id) = receives s p id (completing s p id)
 step s (label.Refuse p id c) = refuses s p c (completing s p id)
 step s (label.Dropped id) = drops s id (s.bag id)
+step s l = None
 
 -- the steps in order, if each is one
 abbrev pub then_replays : (OneKernel → Option OneKernel) → Option OneKernel → Option OneKernel

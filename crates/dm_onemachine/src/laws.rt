@@ -1,5 +1,5 @@
 //! What holds of every run of the kernel without machines.
-ghost use Rattle.dm_onekernel.specs.Received.{ReceivesOnce};
+ghost use Rattle.dm_onemachine.specs.Received.{ReceivesOnce};
 
 /// No message is received twice, whatever the boot file and the steps.
 pub fn received_once()

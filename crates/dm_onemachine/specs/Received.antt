@@ -6,9 +6,9 @@ use Rattle.dm_message.specs.Ids.{id_eq}
 use Rattle.dm_onekernel.specs.declared.boot.Boot.{Boot}
 use Rattle.dm_onekernel.specs.declared.label.Label.{Label}
 use Rattle.dm_onekernel.specs.declared.label.Label.TheVariants as label
-use Rattle.dm_onekernel.specs.Kernel.{OneKernel}
-use Rattle.dm_onekernel.specs.Start.{start}
-use Rattle.dm_onekernel.specs.Step.{replay}
+use Rattle.dm_onemachine.specs.Kernel.{OneKernel}
+use Rattle.dm_onemachine.specs.Start.{start}
+use Rattle.dm_onemachine.specs.Step.{replay}
 
 -- 1 for a step that receives the message
 abbrev pub reception : MsgId → Label → ℕ

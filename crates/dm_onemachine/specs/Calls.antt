@@ -18,7 +18,7 @@ use Rattle.dm_onekernel.specs.declared.label.Reply.TheVariants as reply
 use Rattle.dm_onekernel.specs.declared.label.Why.{Why}
 use Rattle.dm_onekernel.specs.declared.label.Why.TheVariants as why
 use Rattle.dm_onekernel.specs.Codes.{reply_code}
-use Rattle.dm_onekernel.specs.PlainProcess.{PlainProcess, reg, with_reg}
+use Rattle.dm_onemachine.specs.PlainProcess.{PlainProcess, reg, with_reg}
 
 -- what a call comes to
 pub data Called : Type 0 where

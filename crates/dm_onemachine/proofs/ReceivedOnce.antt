@@ -16,23 +16,23 @@ use Rattle.dm_process.specs.declared.process.Status.TheVariants as status
 use Rattle.dm_onekernel.specs.declared.boot.Boot.{Boot}
 use Rattle.dm_onekernel.specs.declared.label.Label.{Label}
 use Rattle.dm_onekernel.specs.declared.label.Label.TheVariants as label
-use Rattle.dm_onekernel.specs.PlainProcess.{PlainProcess}
-use Rattle.dm_onekernel.specs.Kernel.{Life, Alive, Ended, OneKernel, with_process, with_message}
-use Rattle.dm_onekernel.specs.Start.{start}
-use Rattle.dm_onekernel.specs.Step as step
-use Rattle.dm_onekernel.specs.Step.{replay, then_replays, only_if}
-use Rattle.dm_onekernel.specs.Received.{reception, receptions, ReceivesOnce}
-use Rattle.dm_onekernel.proofs.Equal.{pid_eq-is, pid_eq-same, id_eq-is, id_eq-swap}
-use Rattle.dm_onekernel.proofs.Counted.{is_counted, running-is, if_alive-is, Counts, call-counts}
+use Rattle.dm_onemachine.specs.PlainProcess.{PlainProcess}
+use Rattle.dm_onemachine.specs.Kernel.{Life, Alive, Ended, OneKernel, with_process, with_message}
+use Rattle.dm_onemachine.specs.Start.{start}
+use Rattle.dm_onemachine.specs.Step as step
+use Rattle.dm_onemachine.specs.Step.{replay, then_replays, only_if}
+use Rattle.dm_onemachine.specs.Received.{reception, receptions, ReceivesOnce}
+use Rattle.dm_onemachine.proofs.Equal.{pid_eq-is, pid_eq-same, id_eq-is, id_eq-swap}
+use Rattle.dm_onemachine.proofs.Counted.{is_counted, running-is, if_alive-is, Counts, call-counts}
 use Rattle.dm_regs.specs.declared.registers.Fault.{Fault}
 use Rattle.dm_regs.specs.Instructions.{Row, instruction}
 use Rattle.dm_regs.specs.Instructions as row
 use Rattle.dm_onekernel.specs.declared.boot.Format.{Format}
 use Rattle.dm_onekernel.specs.declared.label.Reply.{Reply}
 use Rattle.dm_onekernel.specs.declared.label.Why.{Why}
-use Rattle.dm_onekernel.specs.Calls as calls
-use Rattle.dm_onekernel.specs.Calls.{Called, Replies, Sends, Waits, Outputs, Ends}
-use Rattle.dm_onekernel.specs.Step.{running, if_alive}
+use Rattle.dm_onemachine.specs.Calls as calls
+use Rattle.dm_onemachine.specs.Calls.{Called, Replies, Sends, Waits, Outputs, Ends}
+use Rattle.dm_onemachine.specs.Step.{running, if_alive}
 
 -- messages of the bag and messages that were received are numbered below their senders' counts, and received ones are gone
 pub record Sound (r : MsgId → ℕ) (s : OneKernel) : Type 0 where
@@ -258,6 +258,7 @@ completing_with-sent x p (status.Waiting mask base cap) false (Some m) c e = (re
 completing_with-sent x p (status.Waiting mask base cap) false None c e = cc
 completing_with-sent x p (status.Waiting mask base cap) true m c e = cc
 completing_with-sent x p status.Ready b m c e = cc
+completing_with-sent x p (status.Moving dir owner base own left pending) b m c e = cc
 
 completing_of : (s : OneKernel) (p : Pid) (id : MsgId) (o : Option PlainProcess) → if_alive (s.processes p) ≡ o → (c : calls.Completed) → step.completing_of p o (s.bag id) ≡ Some c → Completing s p id c
 completing_of s p id None is c e = cc
@@ -340,6 +341,11 @@ after_step r s t (label.End p y) e h = after_ends r s t p y (step.next s p) refl
 after_step r s t (label.Receive p id) e h = after_receives r s t p id (step.completing s p id) refl e h
 after_step r s t (label.Refuse p id c) e h = after_refuses r s t p id c (step.completing s p id) refl e h
 after_step r s t (label.Dropped id) e h = after_drops r s t id (s.bag id) e h
+after_step r s t (label.Served id) e h = cc
+after_step r s t (label.Gone id) e h = cc
+after_step r s t (label.Took id) e h = cc
+after_step r s t (label.Created id p) e h = cc
+after_step r s t (label.NoSpace id slots blocks) e h = cc
 
 after_some : (go : OneKernel → Option OneKernel) (o : Option OneKernel) (t : OneKernel) → then_replays go o ≡ Some t → (s : OneKernel) × (o ≡ Some s) × (go s ≡ Some t)
 after_some go None t e = cc
