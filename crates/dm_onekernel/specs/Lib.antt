@@ -1,2 +1,15 @@
 pub mod Boot
 pub mod Codes
+pub mod Options
+pub mod PlainProcess
+pub mod Plain
+pub mod Refusals
+pub mod Pieces
+pub mod Calls
+pub mod Receiving
+pub mod Kernel
+pub mod Switchboard
+pub mod Manager
+pub mod Start
+pub mod Service
+pub mod Step

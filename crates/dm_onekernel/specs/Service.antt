@@ -1,0 +1,115 @@
+-- What kernels and servers do with messages of the bag: each takes one out, and puts at most one in.
+use Rattle.std.specs.Prelude.{ℕ, ◌+◌, Bool, true, false, ◌==◌, ◌&&◌, nat_lt, if◌then◌else◌, List, length, slice_get}
+use Rattle.std.specs.declared.option.Option.{Option}
+use Rattle.std.specs.declared.option.Option.TheVariants.{None, Some}
+use Rattle.dm_link.specs.declared.Pid.{Pid}
+use Rattle.dm_link.specs.Names.{pid_of, pid_eq}
+use Rattle.dm_link.specs.Plain.{PlainLink}
+use Rattle.dm_message.specs.declared.MsgId.{MsgId}
+use Rattle.dm_message.specs.Plain as what
+use Rattle.dm_message.specs.Plain.{PlainMessage, PlainWhat}
+use Rattle.dm_onekernel.specs.declared.boot.BootImage.{BootImage}
+use Rattle.dm_onekernel.specs.declared.label.Why.TheVariants as why
+use Rattle.dm_onekernel.specs.Boot.{first_number, switchboard, manager}
+use Rattle.dm_onekernel.specs.Options.{bind, when}
+use Rattle.dm_onekernel.specs.PlainProcess.{PlainProcess}
+use Rattle.dm_onekernel.specs.Kernel.{Alive, Ended, OneKernel, with_process, with_message, with_sent}
+use Rattle.dm_onekernel.specs.Pieces as pieces
+use Rattle.dm_onekernel.specs.Switchboard as switchboard_
+use Rattle.dm_onekernel.specs.Manager as manager_
+use Rattle.dm_onekernel.specs.Start.{begun}
+
+-- the kernel once the message has gone
+abbrev pub without_message : OneKernel → MsgId → OneKernel
+without_message s id = with_message s id None
+
+-- the receiver goes on as this process
+abbrev pub changed : OneKernel → MsgId → PlainMessage → PlainProcess → OneKernel
+changed s id m p = with_process (without_message s id) m.to (Alive p)
+
+-- a piece was served: the answer takes the place of the request
+abbrev pub answered : OneKernel → MsgId → PlainMessage → pieces.Served → OneKernel
+answered s id m r = with_sent (changed s id m r.process) (Some r.answer)
+
+-- the answer to a piece has come: the next request takes its place, or the move is done
+abbrev pub landed : OneKernel → MsgId → PlainMessage → pieces.Landed → OneKernel
+landed s id m (pieces.Next request p) = with_sent (changed s id m p) (Some request)
+landed s id m (pieces.Done reply p) = changed s id m p
+
+-- served: a message for a living process's kernel, a row a kind
+abbrev pub serves : OneKernel → MsgId → PlainMessage → PlainProcess → PlainWhat → Option OneKernel
+serves s id m p what.Stop = Some (changed s id m (record p { stopped = true }))
+serves s id m p what.Resume = Some (changed s id m (record p { stopped = false }))
+serves s id m p what.Kill = Some (with_process (without_message s id) m.to (Ended why.Killed))
+serves s id m p (what.Read base len) = bind (pieces.reads p m base len) (λ r. Some (answered s id m r))
+serves s id m p (what.Write base bytes) = bind (pieces.writes p m base bytes) (λ r. Some (answered s id m r))
+serves s id m p (what.Block bytes) = bind (pieces.lands m.to p m p.status) (λ r. Some (landed s id m r))
+serves s id m p what.Written = bind (pieces.lands m.to p m p.status) (λ r. Some (landed s id m r))
+serves s id m p what.Gone = bind (pieces.lands m.to p m p.status) (λ r. Some (landed s id m r))
+serves s id m p (what.User code channel body links) = None
+serves s id m p (what.Create image links) = None
+serves s id m p (what.Created pid) = None
+serves s id m p what.NoRoom = None
+serves s id m p (what.Move machine) = None
+serves s id m p (what.Moved outcome) = None
+
+-- took: a message for a server
+abbrev pub switchboard_took : OneKernel → MsgId → switchboard_.Took → OneKernel
+switchboard_took s id t = with_sent (record (without_message s id) { switchboard = t.switchboard }) t.answer
+
+abbrev pub manager_took : OneKernel → MsgId → manager_.Took → OneKernel
+manager_took s id t = with_sent (record (without_message s id) { manager = t.manager }) t.message
+
+abbrev pub takes : OneKernel → MsgId → PlainMessage → Option OneKernel
+takes s id m =
+    if pid_eq m.to switchboard then bind (switchboard_.takes s.switchboard m m.what) (λ t. Some (switchboard_took s id t))
+    else if pid_eq m.to manager then bind (manager_.takes s.manager s.machines (length s.images) m m.what) (λ t. Some (manager_took s id t))
+    else None
+
+-- the kernel of a machine
+abbrev pub is_kernel : OneKernel → Pid → Bool
+is_kernel s p = (p.num == 0) && nat_lt p.home s.machines
+
+-- created: a kernel makes the process that a message asks for, the next of its home, and says its name
+abbrev pub made_one : OneKernel → ℕ → ℕ → ℕ
+made_one s home m = s.made m + (if home == m then 1 else 0)
+
+abbrev pub with_child : OneKernel → Pid → BootImage → List PlainLink → OneKernel
+with_child s child image links = record (with_process s child (Alive (begun s.format image links))) { made = made_one s child.home }
+
+abbrev pub creates_of : OneKernel → MsgId → PlainMessage → Pid → List PlainLink → BootImage → Option OneKernel
+creates_of s id m child links image =
+    when (is_kernel s m.to && pid_eq child (pid_of m.to.home (first_number + s.made m.to.home)))
+    (with_sent (with_child (without_message s id) child image links) (Some (pieces.answer_to m (what.Created child))))
+
+abbrev pub creates : OneKernel → MsgId → PlainMessage → Pid → PlainWhat → Option OneKernel
+creates s id m child (what.Create image links) = bind (slice_get s.images image) (creates_of s id m child links)
+creates s id m child w = None
+
+-- nospace: it can't
+abbrev pub has_no_room : OneKernel → MsgId → PlainMessage → PlainWhat → Option OneKernel
+has_no_room s id m (what.Create image links) = when (is_kernel s m.to) (with_sent (without_message s id) (Some (pieces.answer_to m what.NoRoom)))
+has_no_room s id m w = None
+
+-- dropped: a message whose receiver has ended, of a kind that nobody waits for, a row a kind
+abbrev pub is_dropped : PlainWhat → Bool
+is_dropped (what.User code channel body links) = true
+is_dropped what.Stop = true
+is_dropped what.Resume = true
+is_dropped what.Kill = true
+is_dropped (what.Read base len) = false
+is_dropped (what.Write base bytes) = false
+is_dropped (what.Block bytes) = true
+is_dropped what.Written = true
+is_dropped what.Gone = true
+is_dropped (what.Create image links) = false
+is_dropped (what.Created pid) = false
+is_dropped what.NoRoom = false
+is_dropped (what.Move machine) = false
+is_dropped (what.Moved outcome) = false
+
+-- gone: a piece of an ended process's memory was asked for
+abbrev pub is_of_memory : PlainWhat → Bool
+is_of_memory (what.Read base len) = true
+is_of_memory (what.Write base bytes) = true
+is_of_memory w = false

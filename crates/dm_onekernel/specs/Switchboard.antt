@@ -1,0 +1,124 @@
+-- The switchboard: a list of names, each with a link that is handed out to whoever looks it up.
+use Rattle.std.specs.Prelude.{ℕ, ◌+◌, Bool, true, false, ◌==◌, ◌&&◌, nat_le, if◌then◌else◌, List, [], ◌∷◌, ◌++◌, length}
+use Rattle.std.specs.declared.option.Option.{Option}
+use Rattle.std.specs.declared.option.Option.TheVariants.{None, Some}
+use Rattle.dm_link.specs.declared.Pid.{Pid}
+use Rattle.dm_link.specs.Plain.{PlainLink}
+use Rattle.dm_message.specs.Ids.{id_of}
+use Rattle.dm_message.specs.Plain as what
+use Rattle.dm_message.specs.Plain.{PlainMessage, PlainWhat}
+use Rattle.dm_onekernel.specs.Boot.{is_general, switchboard}
+use Rattle.dm_onekernel.specs.Kernel.{NamedLink, Switchboard}
+
+-- what the switchboard answers
+pub data Answer : Type 0 where
+  Registered : Answer
+  Found : (link : PlainLink) → Answer
+  Unknown : Answer
+  Taken : Answer
+  BadLink : Answer
+  BadRequest : Answer
+
+-- the byte of the answer
+abbrev pub code_of_answer : Answer → ℕ
+code_of_answer Registered = 0
+code_of_answer (Found link) = 1
+code_of_answer Unknown = 2
+code_of_answer Taken = 3
+code_of_answer BadLink = 4
+code_of_answer BadRequest = 5
+
+-- the link that the answer carries
+abbrev pub links_of_answer : Answer → List PlainLink
+links_of_answer Registered = []
+links_of_answer (Found link) = link ∷ []
+links_of_answer Unknown = []
+links_of_answer Taken = []
+links_of_answer BadLink = []
+links_of_answer BadRequest = []
+
+-- the two lists are one
+abbrev pub bytes_eq : List ℕ → List ℕ → Bool
+bytes_eq [] [] = true
+bytes_eq [] (c ∷ cs) = false
+bytes_eq (b ∷ bs) [] = false
+bytes_eq (b ∷ bs) (c ∷ cs) = (b == c) && bytes_eq bs cs
+
+-- the link that is kept under a name
+abbrev pub link_named : List ℕ → List NamedLink → Option PlainLink
+link_named name [] = None
+link_named name (k ∷ ks) = if bytes_eq k.name name then Some k.link else link_named name ks
+
+abbrev pub is_name : List ℕ → Bool
+is_name name = nat_le 1 (length name) && nat_le (length name) 16
+
+-- the names after a request, and its answer
+pub record Asked : Type 0 where
+  pub names : List NamedLink
+  pub answer : Answer
+
+abbrev pub found_or_unknown : Option PlainLink → Answer
+found_or_unknown None = Unknown
+found_or_unknown (Some l) = Found l
+
+-- operation 2: look a name up
+abbrev pub looks_up : List NamedLink → List ℕ → Asked
+looks_up names name = record { names = names; answer = found_or_unknown (link_named name names) }
+
+-- operation 1: keep a link under a name that isn't taken
+abbrev pub registers_new : List NamedLink → List ℕ → PlainLink → Option PlainLink → Asked
+registers_new names name l None = record { names = names ++ record { name = name; link = l } ∷ []; answer = Registered }
+registers_new names name l (Some taken) = record { names = names; answer = Taken }
+
+-- a reply link serves once, and isn't kept
+abbrev pub registers : List NamedLink → List ℕ → PlainLink → Asked
+registers names name l =
+    if is_general l.kind then registers_new names name l (link_named name names) else record { names = names; answer = BadLink }
+
+abbrev pub bad_request : List NamedLink → Asked
+bad_request names = record { names = names; answer = BadRequest }
+
+-- a request to register has just the link for the answer and the one to keep, one to look up the first alone
+abbrev pub asks_to_register : List NamedLink → List ℕ → List PlainLink → Asked
+asks_to_register names name (l ∷ []) = if is_name name then registers names name l else bad_request names
+asks_to_register names name [] = bad_request names
+asks_to_register names name (l ∷ k ∷ ks) = bad_request names
+
+abbrev pub asks_to_look_up : List NamedLink → List ℕ → List PlainLink → Asked
+asks_to_look_up names name [] = if is_name name then looks_up names name else bad_request names
+asks_to_look_up names name (l ∷ ls) = bad_request names
+
+-- the request of a body, with the links behind the one for the answer
+abbrev pub asks : List NamedLink → List ℕ → List PlainLink → Asked
+asks names [] others = bad_request names
+asks names (operation ∷ name) others =
+    if operation == 1 then asks_to_register names name others
+    else if operation == 2 then asks_to_look_up names name others
+    else bad_request names
+
+-- the message that goes over a link of a server's
+abbrev pub goes_over : Pid → ℕ → PlainLink → List ℕ → List PlainLink → PlainMessage
+goes_over server n l body links =
+    record { id = id_of server n; to = l.to; sender = server; what = what.User l.code l.channel body links }
+
+-- the switchboard after a message, and what it sends
+pub record Took : Type 0 where
+  pub switchboard : Switchboard
+  pub answer : Option PlainMessage
+
+abbrev pub answers : Switchboard → PlainLink → Asked → Took
+answers b l a =
+    record {
+      switchboard = record { names = a.names; sent = b.sent + 1 };
+      answer = Some (goes_over switchboard b.sent l (code_of_answer a.answer ∷ []) (links_of_answer a.answer));
+    }
+
+-- a request without links has no effect and no answer
+abbrev pub takes_request : Switchboard → List ℕ → List PlainLink → Took
+takes_request b body [] = record { switchboard = b; answer = None }
+takes_request b body (l ∷ others) = answers b l (asks b.names body others)
+
+-- only user messages are for the switchboard
+abbrev pub takes : Switchboard → PlainMessage → PlainWhat → Option Took
+takes b m (what.User code channel body links) = Some (takes_request b body links)
+takes b m w = None
