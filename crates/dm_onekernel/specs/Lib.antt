@@ -13,3 +13,4 @@ pub mod Manager
 pub mod Start
 pub mod Service
 pub mod Step
+pub mod Laws

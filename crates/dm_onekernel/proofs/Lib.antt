@@ -1,0 +1,9 @@
+pub mod Equal
+pub mod Counted
+pub mod Entered
+pub mod Movers
+pub mod Grown
+pub mod Start
+pub mod Sound
+pub mod Steps
+pub mod Services

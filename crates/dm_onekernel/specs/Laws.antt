@@ -1,0 +1,79 @@
+-- What holds of every run of the kernel without machines, whatever its steps are.
+use Rattle.std.specs.Prelude.{◌≡◌, ℕ, ◌+◌, ◌≤◌, Bool, true, ◌&&◌, is_some, if◌then◌else◌, List, [], ◌∷◌, length}
+use Rattle.std.specs.declared.option.Option.{Option}
+use Rattle.std.specs.declared.option.Option.TheVariants.{None, Some}
+use Rattle.std.specs.Option.{is_none}
+use Rattle.dm_link.specs.declared.Pid.{Pid}
+use Rattle.dm_message.specs.declared.MsgId.{MsgId}
+use Rattle.dm_message.specs.Ids.{id_eq, id_of}
+use Rattle.dm_process.specs.declared.process.Direction.{Direction}
+use Rattle.dm_onekernel.specs.declared.boot.Boot.{Boot}
+use Rattle.dm_onekernel.specs.declared.label.Label.{Label}
+use Rattle.dm_onekernel.specs.declared.label.Label.TheVariants as label
+use Rattle.dm_onekernel.specs.declared.label.Why.{Why}
+use Rattle.dm_onekernel.specs.Boot.{IsValid}
+use Rattle.dm_onekernel.specs.PlainProcess.{PlainProcess, Moving}
+use Rattle.dm_onekernel.specs.Kernel.{Alive, Ended, OneKernel}
+use Rattle.dm_onekernel.specs.Pieces.{answer_id}
+use Rattle.dm_onekernel.specs.Start.{start}
+use Rattle.dm_onekernel.specs.Step.{step, replay}
+
+-- 1 for a step that receives the message
+abbrev pub reception : MsgId → Label → ℕ
+reception id (label.Receive p j) = if id_eq id j then 1 else 0
+reception id l = 0
+
+abbrev pub receptions : MsgId → List Label → ℕ
+receptions id [] = 0
+receptions id (l ∷ ls) = reception id l + receptions id ls
+
+-- no message is received twice
+abbrev pub ReceivesOnce : Type 0
+ReceivesOnce = (b : Boot) (ls : List Label) (s : OneKernel) (id : MsgId) → IsValid b → replay (start b) ls ≡ Some s → receptions id ls ≤ 1
+
+-- 1 where the bag has the message after a step, and didn't have it before
+abbrev pub entry : MsgId → OneKernel → OneKernel → ℕ
+entry id s t = if is_none (s.bag id) && is_some (t.bag id) then 1 else 0
+
+-- how often the message enters the bag on the way, as far as there are steps
+abbrev pub entries_on : MsgId → OneKernel → Option OneKernel → (OneKernel → ℕ) → ℕ
+entries_on id s None go = 0
+entries_on id s (Some t) go = entry id s t + go t
+
+abbrev pub entries : MsgId → OneKernel → List Label → ℕ
+entries id s [] = 0
+entries id s (l ∷ ls) = entries_on id s (step s l) (λ t. entries id t ls)
+
+-- no message enters the bag twice: a name is given once
+abbrev pub EntersOnce : Type 0
+EntersOnce = (b : Boot) (ls : List Label) (id : MsgId) → IsValid b → entries id (start b) ls ≤ 1
+
+-- a run of a boot file up to s, and from there to t
+abbrev pub Leads : Boot → List Label → OneKernel → List Label → OneKernel → Type 0
+Leads b ls s ms t = (replay (start b) ls ≡ Some s) × (replay s ms ≡ Some t)
+
+-- a process that has ended stays so, for the same reason
+abbrev pub EndedStays : Type 0
+EndedStays = (b : Boot) (ls ms : List Label) (s t : OneKernel) (p : Pid) (y : Why) → IsValid b → Leads b ls s ms t → s.processes p ≡ Some (Ended y) → t.processes p ≡ Some (Ended y)
+
+-- the counts of messages only rise
+pub record CountsRise (b : Boot) (ls ms : List Label) (s t : OneKernel) : Type 0 where
+  pub process : (p : Pid) (x y : PlainProcess) → s.processes p ≡ Some (Alive x) → t.processes p ≡ Some (Alive y) → x.sent ≤ y.sent
+  pub switchboard : s.switchboard.sent ≤ t.switchboard.sent
+  pub manager : s.manager.sent ≤ t.manager.sent
+  pub made : (home : ℕ) → s.made home ≤ t.made home
+  pub children : length s.manager.children ≤ length t.manager.children
+
+abbrev pub CountsOnlyRise : Type 0
+CountsOnlyRise = (b : Boot) (ls ms : List Label) (s t : OneKernel) → IsValid b → Leads b ls s ms t → CountsRise b ls ms s t
+
+abbrev pub in_bag : {M : Type 0} → Option M → ℕ
+in_bag None = 0
+in_bag (Some m) = 1
+
+-- a process that moves data has exactly one message under its pending number: the request, or the answer to it
+abbrev pub MoverHasOne : Type 0
+MoverHasOne =
+    (b : Boot) (ls : List Label) (s : OneKernel) (p : Pid) (x : PlainProcess) (dir : Direction) (owner : Pid) (base own left pending : ℕ) →
+    IsValid b → replay (start b) ls ≡ Some s → s.processes p ≡ Some (Alive x) → x.status ≡ Moving dir owner base own left pending →
+    in_bag (s.bag (id_of p pending)) + in_bag (s.bag (answer_id (id_of p pending))) ≡ 1
