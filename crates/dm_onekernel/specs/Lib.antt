@@ -13,4 +13,3 @@ pub mod Manager
 pub mod Start
 pub mod Service
 pub mod Step
-pub mod Laws

@@ -1,51 +1,33 @@
 -- What each step of the kernel without machines keeps.
-use Rattle.std.proofs.Common.{◌≡◌, ℕ, ◌+◌, ◌≤◌, ◌==◌, ◌&&◌, Bool, true, false, List, [], ◌∷◌, ◌++◌, refl, ap, ◌∙◌, sym, subst, nat_lt, nat_le, is_some, is_none, ◌⊎◌, inl, inr, arith, length}
-use Rattle.std.specs.Prelude.{⊤, if◌then◌else◌, slice_get}
+use Rattle.std.proofs.Common.{◌≡◌, ℕ, ◌+◌, ◌≤◌, ◌&&◌, Bool, true, false, refl, ap, ◌∙◌, sym, subst, is_some, is_none, ◌⊎◌, inl, inr, arith, length}
+use Rattle.std.specs.Prelude.{⊤, if◌then◌else◌}
 use Rattle.std.specs.declared.option.Option.{Option}
 use Rattle.std.specs.declared.option.Option.TheVariants.{None, Some}
-use mathlib.Core.Path.{fun_ext}
-use Rattle.std.proofs.lemmas.Bool.{cases_Bool, false≢true}
-use Rattle.std.proofs.lemmas.Bool.Decides.{nat_tests}
+use Rattle.std.proofs.lemmas.Bool.{cases_Bool}
 use Rattle.dm_link.specs.declared.Pid.{Pid}
-use Rattle.dm_link.specs.Names.{pid_eq, pid_of}
-use Rattle.dm_link.specs.Plain.{PlainLink}
 use Rattle.dm_message.specs.declared.MsgId.{MsgId}
 use Rattle.dm_message.specs.Ids.{id_eq, id_of}
 use Rattle.dm_message.specs.Plain as what
 use Rattle.dm_message.specs.Plain.{PlainMessage, PlainWhat}
-use Rattle.dm_process.specs.declared.process.Direction.{Direction}
-use Rattle.dm_process.specs.declared.process.Direction.TheVariants as direction
-use Rattle.dm_regs.specs.declared.registers.Fault.{Fault}
 use Rattle.dm_regs.specs.Instructions.{Row, instruction}
 use Rattle.dm_regs.specs.Instructions as row
-use Rattle.dm_onekernel.specs.declared.boot.BootImage.{BootImage}
 use Rattle.dm_onekernel.specs.declared.label.Label.{Label}
 use Rattle.dm_onekernel.specs.declared.label.Label.TheVariants as label
 use Rattle.dm_onekernel.specs.declared.label.Reply.{Reply}
 use Rattle.dm_onekernel.specs.declared.label.Why.{Why}
-use Rattle.dm_onekernel.specs.declared.label.Why.TheVariants as why
-use Rattle.dm_onekernel.specs.Boot.{first_number, switchboard, manager}
-use Rattle.dm_onekernel.specs.Codes.{reply_eq, why_eq}
 use Rattle.dm_onekernel.specs.Options.{bind, when}
-use Rattle.dm_onekernel.specs.PlainProcess.{PlainProcess, PlainStatus, Ready, Waiting, Moving, setting}
-use Rattle.dm_onekernel.specs.Kernel.{Life, Alive, Ended, NamedLink, Pending, Switchboard, Manager, OneKernel, with_process, with_message, with_sent}
+use Rattle.dm_onekernel.specs.PlainProcess.{PlainProcess, PlainStatus, Ready, Waiting, Moving}
+use Rattle.dm_onekernel.specs.Kernel.{Life, Alive, Ended, Switchboard, Manager, OneKernel, with_process, with_sent}
 use Rattle.dm_onekernel.specs.Calls as calls
-use Rattle.dm_onekernel.specs.Pieces as pieces
-use Rattle.dm_onekernel.specs.Pieces.{answer_id, answer_to}
 use Rattle.dm_onekernel.specs.Receiving as receiving
-use Rattle.dm_onekernel.specs.Switchboard as board
-use Rattle.dm_onekernel.specs.Manager as manage
-use Rattle.dm_onekernel.specs.Start.{begun}
-use Rattle.dm_onekernel.specs.Service as service
 use Rattle.dm_onekernel.specs.Service.{without_message, is_of_memory}
 use Rattle.dm_onekernel.specs.Step as step
-use Rattle.dm_onekernel.specs.Laws.{reception, entry, in_bag}
-use Rattle.dm_onekernel.proofs.Equal.{pid_eq-is, pid_eq-same, id_eq-is, id_eq-same}
-use Rattle.dm_onekernel.proofs.Counted.{Sent, Counts, Completes, call-counts, completes-is, requests-sent, is_piece, pending_of}
-use Rattle.dm_onekernel.proofs.Entered.{Entered, Made, asks, counts}
-use Rattle.dm_onekernel.proofs.Movers.{Movers, IsUnawaited, unawaited, unawaited_taken, came, stayed, sent_at, sent_off}
-use Rattle.dm_onekernel.proofs.Grown.{Grown, Grown-same, Grown-trans, LifeGrows, LifeGrows-same, with_process-lives}
-use Rattle.dm_onekernel.proofs.Sound.{Sound, Sound-same, Serves, plus, goes, ending, leaves, received, sends, answers, server_sends, served_on, born}
+use Rattle.dm_laws.specs.Laws.{reception, entry, in_bag}
+use Rattle.dm_laws.proofs.Equal.{id_eq-is, id_eq-same}
+use Rattle.dm_laws.proofs.Counted.{Sent, Counts, Completes, call-counts, completes-is, is_piece, pending_of}
+use Rattle.dm_laws.proofs.Movers.{unawaited, stayed, sent_at, sent_off}
+use Rattle.dm_laws.proofs.Grown.{Grown, LifeGrows, LifeGrows-same, with_process-lives}
+use Rattle.dm_laws.proofs.Sound.{Sound, Sound-same, plus, goes, ending, received, sends}
 
 -- what there is where a chain of steps gave something
 pub bind-is : {A B : Type 0} (o : Option A) (go : A → Option B) (t : B) → bind o go ≡ Some t → (x : A) × (o ≡ Some x) × (go x ≡ Some t)
@@ -76,7 +58,7 @@ entry_of (Some y) b h = refl
 pub quiet : (r e : MsgId → ℕ) (s t : OneKernel) (l : Label) → ((i : MsgId) → reception i l ≡ 0) → Sub t s → Grown s t → Sound r e t → After r e s l t
 quiet r e s t l none sub grown h = record {
   sound = Sound-same r e (λ i. r i + reception i l) (λ i. e i + entry i s t) t (λ i. let k = none i in omega (arith, k))
-    (λ i. let k : entry i s t ≡ 0 = entry_of (s.bag i) (t.bag i) (sub i) in omega (arith, k)) h;
+      (λ i. let k : entry i s t ≡ 0 = entry_of (s.bag i) (t.bag i) (sub i) in omega (arith, k)) h;
   grown = grown;
 }
 
@@ -97,7 +79,7 @@ pub puts : (r e : MsgId → ℕ) (s u : OneKernel) (m : PlainMessage) (l : Label
     → Sound r (λ i. e i + plus m.id i) (with_sent u (Some m)) → After r e s l (with_sent u (Some m))
 puts r e s u m l none fresh sub grown h = record {
   sound = Sound-same r (λ i. e i + plus m.id i) (λ i. r i + reception i l) (λ i. e i + entry i s (with_sent u (Some m))) (with_sent u (Some m)) (λ i. let k = none i in omega (arith, k))
-    (λ i. ap (λ n. e i + n) (entry_put s u m i fresh sub)) h;
+      (λ i. ap (λ n. e i + n) (entry_put s u m i fresh sub)) h;
   grown = grown;
 }
 
@@ -352,7 +334,7 @@ after_receives r e s t p id (receiving.Receives y) w is h =
     subst (After r e s (label.Receive p id)) k
     (record {
       sound = Sound-same (λ i. r i + (if id_eq i id then 1 else 0)) e (λ i. r i + reception i (label.Receive p id)) (λ i. e i + entry i s v) v (λ i. refl)
-        (λ i. let z : entry i s v ≡ 0 = entry_of (s.bag i) (v.bag i) (stayed s id i) in omega (arith, z)) on;
+          (λ i. let z : entry i s v ≡ 0 = entry_of (s.bag i) (v.bag i) (stayed s id i) in omega (arith, z)) on;
       grown = Grown-process s v p w.x y w.alive (let f = w.is.0 in omega (arith, f)) (λ q. refl) (λ n. refl) refl refl;
     })
 after_receives r e s t p id (receiving.Refuses reply y) w is h = cc

@@ -1,54 +1,37 @@
 -- What the steps of kernels and servers keep.
-use Rattle.std.proofs.Common.{◌≡◌, ℕ, ◌+◌, ◌-◌, ◌≤◌, ◌==◌, ◌&&◌, Bool, true, false, List, [], ◌∷◌, ◌++◌, refl, ap, ◌∙◌, sym, subst, nat_lt, nat_le, is_some, is_none, ◌⊎◌, inl, inr, arith, length}
-use Rattle.std.specs.Prelude.{⊤, if◌then◌else◌, slice_get, take, drop}
+use Rattle.std.proofs.Common.{◌≡◌, ℕ, ◌+◌, ◌-◌, ◌==◌, Bool, true, false, refl, ap, ◌∙◌, sym, subst, inl, inr, arith}
+use Rattle.std.specs.Prelude.{if◌then◌else◌, take, drop}
 use Rattle.std.specs.declared.option.Option.{Option}
 use Rattle.std.specs.declared.option.Option.TheVariants.{None, Some}
 use mathlib.Core.Path.{fun_ext}
-use Rattle.std.proofs.lemmas.Bool.{cases_Bool, false≢true}
-use Rattle.std.proofs.lemmas.Bool.Decides.{nat_tests}
+use Rattle.std.proofs.lemmas.Bool.{false≢true}
 use Rattle.dm_link.specs.declared.Pid.{Pid}
-use Rattle.dm_link.specs.Names.{pid_eq, pid_of}
-use Rattle.dm_link.specs.Plain.{PlainLink}
+use Rattle.dm_link.specs.Names.{pid_eq}
 use Rattle.dm_message.specs.declared.MsgId.{MsgId}
-use Rattle.dm_message.specs.Ids.{id_eq, id_of}
+use Rattle.dm_message.specs.Ids.{id_of}
 use Rattle.dm_message.specs.Plain as what
 use Rattle.dm_message.specs.Plain.{PlainMessage, PlainWhat}
 use Rattle.dm_process.specs.declared.process.Direction.{Direction}
 use Rattle.dm_process.specs.declared.process.Direction.TheVariants as direction
-use Rattle.dm_regs.specs.declared.registers.Fault.{Fault}
-use Rattle.dm_regs.specs.Instructions.{Row, instruction}
-use Rattle.dm_regs.specs.Instructions as row
-use Rattle.dm_onekernel.specs.declared.boot.BootImage.{BootImage}
 use Rattle.dm_onekernel.specs.declared.label.Label.{Label}
 use Rattle.dm_onekernel.specs.declared.label.Label.TheVariants as label
-use Rattle.dm_onekernel.specs.declared.label.Reply.{Reply}
 use Rattle.dm_onekernel.specs.declared.label.Reply.TheVariants as reply
-use Rattle.dm_onekernel.specs.declared.label.Why.{Why}
 use Rattle.dm_onekernel.specs.declared.label.Why.TheVariants as why
-use Rattle.dm_onekernel.specs.Boot.{first_number, switchboard, manager}
-use Rattle.dm_onekernel.specs.Codes.{reply_eq, why_eq}
-use Rattle.dm_onekernel.specs.Options.{bind, when}
-use Rattle.dm_onekernel.specs.PlainProcess.{PlainProcess, PlainStatus, Ready, Waiting, Moving, setting}
-use Rattle.dm_onekernel.specs.Kernel.{Life, Alive, Ended, NamedLink, Pending, Switchboard, Manager, OneKernel, with_process, with_message, with_sent}
-use Rattle.dm_onekernel.specs.Calls as calls
+use Rattle.dm_onekernel.specs.Options.{bind}
+use Rattle.dm_onekernel.specs.PlainProcess.{PlainProcess, PlainStatus, Ready, Waiting, Moving}
+use Rattle.dm_onekernel.specs.Kernel.{Life, Alive, Ended, OneKernel, with_process, with_sent}
 use Rattle.dm_onekernel.specs.Pieces as pieces
 use Rattle.dm_onekernel.specs.Pieces.{answer_id, answer_to}
-use Rattle.dm_onekernel.specs.Receiving as receiving
-use Rattle.dm_onekernel.specs.Switchboard as board
-use Rattle.dm_onekernel.specs.Manager as manage
-use Rattle.dm_onekernel.specs.Start.{begun}
 use Rattle.dm_onekernel.specs.Service as service
 use Rattle.dm_onekernel.specs.Service.{without_message, is_of_memory}
 use Rattle.dm_onekernel.specs.Step as step
-use Rattle.dm_onekernel.specs.Laws.{reception, entry, in_bag}
-use Rattle.dm_onekernel.proofs.Equal.{pid_eq-is, pid_eq-same, id_eq-is, id_eq-same}
-use Rattle.dm_onekernel.proofs.Counted.{Sent, Counts, Completes, call-counts, completes-is, requests-sent, is_piece, pending_of}
-use Rattle.dm_onekernel.proofs.Entered.{Entered, Made, asks, counts}
-use Rattle.dm_onekernel.proofs.Movers.{Movers, IsUnawaited, unawaited, unawaited_taken, came, stayed, sent_at, sent_off}
-use Rattle.dm_onekernel.proofs.Grown.{Grown, Grown-same, Grown-trans, LifeGrows, LifeGrows-same, with_process-lives}
-use Rattle.dm_onekernel.proofs.Sound.{Sound, Sound-same, Serves, plus, goes, ending, leaves, received, sends, answers, server_sends, served_on, born}
-
-use Rattle.dm_onekernel.proofs.Steps.{Sent-from, bind-is, when-is, After, Sub, quiet, puts, was_none, Grown-process, Grown-ended, Grown-bag, alive-is}
+use Rattle.dm_laws.specs.Laws.{reception}
+use Rattle.dm_laws.proofs.Equal.{pid_eq-same, id_eq-same}
+use Rattle.dm_laws.proofs.Counted.{Sent, requests-sent, is_piece, pending_of}
+use Rattle.dm_laws.proofs.Entered.{asks}
+use Rattle.dm_laws.proofs.Movers.{IsUnawaited, unawaited, unawaited_taken, stayed, sent_at}
+use Rattle.dm_laws.proofs.Sound.{Sound, plus, goes, ending, leaves, sends, answers}
+use Rattle.dm_laws.proofs.Steps.{Sent-from, bind-is, After, quiet, puts, was_none, Grown-process, Grown-ended}
 
 -- the process takes a message that nobody waits for
 takes_quiet : (r e : MsgId → ℕ) (s : OneKernel) (id : MsgId) (m : PlainMessage) (x y : PlainProcess) (l : Label) → IsUnawaited s id → s.processes m.to ≡ Some (Alive x) → y.sent ≡ x.sent → pending_of y.status ≡ pending_of x.status
@@ -179,7 +162,7 @@ after_lands r e s id m x (pieces.Next request y) l there is piece lands none h =
     let t = with_sent (with_process (without_message s id) m.to (Alive y)) (Some request) in
     let same : with_process u m.to (Alive y) ≡ with_process (without_message s id) m.to (Alive y) = twice (without_message s id) m.to (Alive still) (Alive y) in
     let after : Sound r (λ i. e i + plus request.id i) t =
-        subst (λ w. Sound r (λ i. e i + plus request.id i) (with_sent w (Some request))) same (sends r e u m.to still y request (set_there (without_message s id) m.to still) sent on) in
+    subst (λ w. Sound r (λ i. e i + plus request.id i) (with_sent w (Some request))) same (sends r e u m.to still y request (set_there (without_message s id) m.to still) sent on) in
     let count = lands.0.count in
     puts r e s (with_process (without_message s id) m.to (Alive y)) request l none
     (was_none r e s t request.id request (sent_at (with_process (without_message s id) m.to (Alive y)) request request.id (id_eq-same request.id)) after h)

@@ -7,3 +7,5 @@ pub mod Start
 pub mod Sound
 pub mod Steps
 pub mod Services
+pub mod Servers
+pub mod Runs

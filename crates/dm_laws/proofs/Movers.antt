@@ -1,23 +1,21 @@
 -- A process that moves data has one message under its pending number: the request for its piece, or the answer.
-use Rattle.std.proofs.Common.{◌≡◌, ℕ, ◌+◌, ◌≤◌, ◌<◌, ◌==◌, ◌&&◌, Bool, true, false, not, refl, ap, ◌∙◌, sym, subst, nat_lt, nat_le, is_some, is_none, ◌⊎◌, inl, inr, arith}
-use Rattle.std.specs.Prelude.{⊤, if◌then◌else◌}
+use Rattle.std.proofs.Common.{◌≡◌, ℕ, Bool, true, false, refl, ap, ◌∙◌, sym, subst, ◌⊎◌, inl, inr, arith}
+use Rattle.std.specs.Prelude.{if◌then◌else◌}
 use Rattle.std.specs.declared.option.Option.{Option}
 use Rattle.std.specs.declared.option.Option.TheVariants.{None, Some}
-use Rattle.std.proofs.lemmas.Bool.{cases_Bool, cases_eq, false≢true}
+use Rattle.std.proofs.lemmas.Bool.{cases_Bool, false≢true}
 use Rattle.std.proofs.lemmas.Bool.Decides.{nat_tests}
 use Rattle.dm_link.specs.declared.Pid.{Pid}
-use Rattle.dm_link.specs.Names.{pid_eq, pid_of}
+use Rattle.dm_link.specs.Names.{pid_eq}
 use Rattle.dm_message.specs.declared.MsgId.{MsgId}
-use Rattle.dm_message.specs.Ids.{id_eq, id_of, bool_eq}
-use Rattle.dm_message.specs.Plain as what
+use Rattle.dm_message.specs.Ids.{id_eq, id_of}
 use Rattle.dm_message.specs.Plain.{PlainMessage, PlainWhat}
 use Rattle.dm_onekernel.specs.PlainProcess.{PlainProcess}
-use Rattle.dm_onekernel.specs.Kernel.{Life, Alive, Ended, OneKernel, with_process, with_message, with_sent}
+use Rattle.dm_onekernel.specs.Kernel.{Alive, Ended, OneKernel, with_process, with_sent}
 use Rattle.dm_onekernel.specs.Pieces.{answer_id, answer_to}
 use Rattle.dm_onekernel.specs.Service.{without_message, is_of_memory}
-use Rattle.dm_onekernel.specs.Laws.{in_bag}
-use Rattle.dm_onekernel.proofs.Equal.{pid_eq-is, pid_eq-same, pid_eq-swap, id_eq-is, id_eq-same, id_eq-swap}
-use Rattle.dm_onekernel.proofs.Counted.{is_piece, pending_of}
+use Rattle.dm_laws.proofs.Equal.{pid_eq-is, id_eq-is, id_eq-same}
+use Rattle.dm_laws.proofs.Counted.{is_piece, pending_of}
 
 -- the request of a piece, or its answer, and not both
 abbrev pub One : Option PlainMessage → Option PlainMessage → Type 0
@@ -127,12 +125,12 @@ Movers-sent s m un a b h = record {
     | inr was ↦ h.returns i x was c
   ];
   mover = λ q z n alive waits.
-    let off = un q z n alive waits in
-    One-same (s.bag (id_of q n)) (s.bag (answer_id (id_of q n))) ((with_sent s (Some m)).bag (id_of q n)) ((with_sent s (Some m)).bag (answer_id (id_of q n)))
-    (sent_off s m (id_of q n) off.0) (sent_off s m (answer_id (id_of q n)) off.1) (h.mover q z n alive waits);
+      let off = un q z n alive waits in
+      One-same (s.bag (id_of q n)) (s.bag (answer_id (id_of q n))) ((with_sent s (Some m)).bag (id_of q n)) ((with_sent s (Some m)).bag (answer_id (id_of q n)))
+      (sent_off s m (id_of q n) off.0) (sent_off s m (answer_id (id_of q n)) off.1) (h.mover q z n alive waits);
 }
 
-other_names : (p q : Pid) (i j : MsgId) → pid_eq p q ≡ false → i.from ≡ p → j.from ≡ q → id_eq i j ≡ false
+pub other_names : (p q : Pid) (i j : MsgId) → pid_eq p q ≡ false → i.from ≡ p → j.from ≡ q → id_eq i j ≡ false
 other_names p q i j e f g = grind (arith, nat_tests)
 
 request_one : (a b : Option PlainMessage) (m : PlainMessage) → a ≡ Some m → b ≡ None → is_of_memory m.what ≡ true → One a b
@@ -219,7 +217,7 @@ Movers-answer s id m w there name none request memory piece h =
         | inl same ↦
             let names : id ≡ id_of q n = id_eq-is id (id_of q n) same in
             let is_request : is_of_memory m.what ≡ true =
-                request_is (s.bag (id_of q n)) (s.bag (answer_id (id_of q n))) m (sym (ap s.bag names) ∙ there) (h.mover q z n alive waits) in
+            request_is (s.bag (id_of q n)) (s.bag (answer_id (id_of q n))) m (sym (ap s.bag names) ∙ there) (h.mover q z n alive waits) in
             let here : id_eq a.id (answer_id (id_of q n)) ≡ true = ap (λ v. id_eq a.id (answer_id v)) (sym names) ∙ ap (λ v. id_eq v (answer_id id)) a_id ∙ id_eq-same (answer_id id) in
             let off : id_eq a.id (id_of q n) ≡ false = grind (arith, nat_tests) in
             answered_one ((with_sent t (Some a)).bag (id_of q n)) ((with_sent t (Some a)).bag (answer_id (id_of q n))) a

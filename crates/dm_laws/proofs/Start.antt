@@ -1,5 +1,5 @@
 -- Where a run begins.
-use Rattle.std.proofs.Common.{◌≡◌, ℕ, ◌+◌, ◌≤◌, ◌==◌, ◌&&◌, Bool, true, false, List, [], ◌∷◌, ◌++◌, refl, ap, ◌∙◌, sym, subst, nat_lt, nat_le, is_some, ◌⊎◌, inl, inr, arith, length}
+use Rattle.std.proofs.Common.{◌≡◌, ℕ, ◌+◌, ◌==◌, Bool, true, List, [], ◌∷◌, ◌++◌, refl, ap, ◌∙◌, sym, nat_lt, nat_le, is_some, inl, inr, arith}
 use Rattle.std.specs.Prelude.{if◌then◌else◌, map, option_map, slice_get}
 use Rattle.std.specs.declared.option.Option.{Option}
 use Rattle.std.specs.declared.option.Option.TheVariants.{None, Some}
@@ -15,10 +15,10 @@ use Rattle.dm_onekernel.specs.declared.boot.BootImage.{BootImage}
 use Rattle.dm_onekernel.specs.PlainProcess.{PlainProcess}
 use Rattle.dm_onekernel.specs.Kernel.{Alive}
 use Rattle.dm_link.specs.Plain.{plain_link}
-use Rattle.dm_onekernel.proofs.Counted.{pending_of}
-use Rattle.dm_onekernel.proofs.Equal.{pid_eq-is}
-use Rattle.dm_onekernel.proofs.Entered.{Entered, Made}
-use Rattle.dm_onekernel.proofs.Movers.{Movers}
+use Rattle.dm_laws.proofs.Counted.{pending_of}
+use Rattle.dm_laws.proofs.Equal.{pid_eq-is}
+use Rattle.dm_laws.proofs.Entered.{Entered, Made}
+use Rattle.dm_laws.proofs.Movers.{Movers}
 
 starting-append : (m : ℕ) (ps qs : List BootProcess) → starting_at m (ps ++ qs) ≡ starting_at m ps + starting_at m qs
 starting-append m [] qs = omega arith

@@ -1,27 +1,27 @@
 -- What each way of changing the kernel without machines keeps.
-use Rattle.std.proofs.Common.{◌≡◌, ℕ, ◌+◌, ◌≤◌, ◌==◌, ◌&&◌, Bool, true, false, refl, ap, ◌∙◌, sym, subst, nat_lt, nat_le, is_some, is_none, ◌⊎◌, inl, inr, arith, length}
-use Rattle.std.specs.Prelude.{⊤, if◌then◌else◌}
+use Rattle.std.proofs.Common.{◌≡◌, ℕ, ◌+◌, ◌≤◌, Bool, true, false, refl, ap, ◌∙◌, sym, subst, nat_lt, nat_le, is_some, ◌⊎◌, inl, inr, arith}
+use Rattle.std.specs.Prelude.{if◌then◌else◌}
 use Rattle.std.specs.declared.option.Option.{Option}
 use Rattle.std.specs.declared.option.Option.TheVariants.{None, Some}
 use mathlib.Core.Path.{fun_ext}
 use Rattle.std.proofs.lemmas.Bool.{cases_Bool, false≢true}
 use Rattle.std.proofs.lemmas.Bool.Decides.{nat_tests}
 use Rattle.dm_link.specs.declared.Pid.{Pid}
-use Rattle.dm_link.specs.Names.{pid_eq, pid_of}
+use Rattle.dm_link.specs.Names.{pid_eq}
 use Rattle.dm_message.specs.declared.MsgId.{MsgId}
 use Rattle.dm_message.specs.Ids.{id_eq, id_of}
 use Rattle.dm_message.specs.Plain.{PlainMessage, PlainWhat}
 use Rattle.dm_onekernel.specs.declared.label.Why.{Why}
 use Rattle.dm_onekernel.specs.Boot.{switchboard, manager}
-use Rattle.dm_onekernel.specs.PlainProcess.{PlainProcess, PlainStatus, Ready}
-use Rattle.dm_onekernel.specs.Kernel.{Life, Alive, Ended, OneKernel, with_process, with_message, with_sent}
+use Rattle.dm_onekernel.specs.PlainProcess.{PlainProcess}
+use Rattle.dm_onekernel.specs.Kernel.{Life, Alive, Ended, OneKernel, with_process, with_sent}
 use Rattle.dm_onekernel.specs.Pieces.{answer_id, answer_to}
 use Rattle.dm_onekernel.specs.Service.{without_message, is_of_memory}
-use Rattle.dm_onekernel.specs.Laws.{entry, in_bag}
-use Rattle.dm_onekernel.proofs.Equal.{pid_eq-is, pid_eq-same, pid_eq-swap, id_eq-is, id_eq-same, id_eq-swap}
-use Rattle.dm_onekernel.proofs.Counted.{Sent, is_piece, pending_of}
-use Rattle.dm_onekernel.proofs.Entered.{Entered, Enters, Made, request_id, counts_grow, Grows, counts, is_counted, asks, Entered-process, Entered-out, Entered-received, Entered-own, Entered-answer, unentered}
-use Rattle.dm_onekernel.proofs.Movers.{Movers, IsUnawaited, One, One-same, Movers-born, sent_at, sent_off, out_at, out_off, Movers-process, Movers-ended, Movers-out, Movers-sent, Movers-request, Movers-answer}
+use Rattle.dm_laws.specs.Laws.{in_bag}
+use Rattle.dm_laws.proofs.Equal.{pid_eq-is, pid_eq-same, id_eq-is}
+use Rattle.dm_laws.proofs.Counted.{Sent, is_piece, pending_of}
+use Rattle.dm_laws.proofs.Entered.{Entered, Enters, Made, request_id, counts_grow, Grows, counts, is_counted, asks, Entered-process, Entered-out, Entered-received, Entered-own, Entered-answer}
+use Rattle.dm_laws.proofs.Movers.{Movers, IsUnawaited, One, One-same, Movers-born, Movers-process, Movers-ended, Movers-out, Movers-sent, Movers-request, Movers-answer}
 
 pub record Sound (r e : MsgId → ℕ) (s : OneKernel) : Type 0 where
   pub entered : Entered r e s
@@ -203,8 +203,8 @@ served_on r e s t w h = record {
     requests = λ i m k. h.movers.requests i m (sym (w.bag i) ∙ k);
     returns = λ i m k. h.movers.returns i m (sym (w.bag i) ∙ k);
     mover = λ q z n alive waits.
-      One-same (s.bag (id_of q n)) (s.bag (answer_id (id_of q n))) (t.bag (id_of q n)) (t.bag (answer_id (id_of q n)))
-      (w.bag (id_of q n)) (w.bag (answer_id (id_of q n))) (h.movers.mover q z n (sym (w.processes q) ∙ alive) waits);
+        One-same (s.bag (id_of q n)) (s.bag (answer_id (id_of q n))) (t.bag (id_of q n)) (t.bag (answer_id (id_of q n)))
+        (w.bag (id_of q n)) (w.bag (answer_id (id_of q n))) (h.movers.mover q z n (sym (w.processes q) ∙ alive) waits);
   };
 }
 

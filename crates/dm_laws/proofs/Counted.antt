@@ -1,5 +1,5 @@
 -- Messages are numbered by the counts of their senders, and a process that moves data remembers the number of its request.
-use Rattle.std.proofs.Common.{◌≡◌, ℕ, ◌+◌, ◌==◌, Bool, true, false, refl, ap, nat_lt, ◌⊎◌, inl, inr, arith}
+use Rattle.std.proofs.Common.{◌≡◌, ℕ, ◌+◌, ◌==◌, Bool, true, false, refl, ◌⊎◌, inl, inr}
 use Rattle.std.specs.Prelude.{⊤, if◌then◌else◌}
 use Rattle.std.specs.declared.option.Option.{Option}
 use Rattle.std.specs.declared.option.Option.TheVariants.{None, Some}
@@ -20,7 +20,6 @@ use Rattle.dm_onekernel.specs.Calls.{Called, Replies, Sends, Waits, Outputs, End
 use Rattle.dm_onekernel.specs.Pieces as pieces
 use Rattle.dm_onekernel.specs.Receiving as receiving
 use Rattle.dm_onekernel.specs.Refusals.{first_failed}
-use Rattle.dm_onekernel.specs.Kernel.{Life, Alive, Ended}
 use Rattle.dm_onekernel.specs.Service.{is_of_memory}
 
 -- the number of the request that a process waits for

@@ -1,0 +1,127 @@
+-- What holds of every run of the kernel without machines.
+use Rattle.std.proofs.Common.{◌≡◌, ℕ, ◌+◌, ◌≤◌, List, [], ◌∷◌, refl, ap, ◌∙◌, subst, arith}
+use Rattle.std.specs.declared.option.Option.{Option}
+use Rattle.std.specs.declared.option.Option.TheVariants.{None, Some}
+use Rattle.dm_message.specs.declared.MsgId.{MsgId}
+use Rattle.dm_message.specs.Ids.{id_of}
+use Rattle.dm_message.specs.Plain.{PlainMessage}
+use Rattle.dm_onekernel.specs.declared.boot.Boot.{Boot}
+use Rattle.dm_onekernel.specs.declared.label.Label.{Label}
+use Rattle.dm_onekernel.specs.declared.label.Label.TheVariants as label
+use Rattle.dm_onekernel.specs.declared.label.Why.{Why}
+use Rattle.dm_onekernel.specs.Boot.{IsValid}
+use Rattle.dm_onekernel.specs.Options.{bind}
+use Rattle.dm_onekernel.specs.Service.{serves}
+use Rattle.dm_onekernel.specs.PlainProcess.{PlainProcess}
+use Rattle.dm_onekernel.specs.Kernel.{Life, Alive, Ended, OneKernel}
+use Rattle.dm_onekernel.specs.Pieces.{answer_id}
+use Rattle.dm_onekernel.specs.Start.{start}
+use Rattle.dm_onekernel.specs.Step as kernel
+use Rattle.dm_onekernel.specs.Step.{replay}
+use Rattle.dm_laws.specs.Laws.{ReceivesOnce, EntersOnce, EndedStays, CountsOnlyRise, MoverHasOne, Leads, reception, receptions, entry, entries, entries_on, in_bag}
+use Rattle.dm_laws.proofs.Counted.{pending_of}
+use Rattle.dm_laws.proofs.Movers.{One}
+use Rattle.dm_laws.proofs.Grown.{Grown, Grown-same, Grown-trans, LifeGrows, AliveGrows}
+use Rattle.dm_laws.proofs.Start.{start-made, start-entered, start-movers}
+use Rattle.dm_laws.proofs.Sound.{Sound, Sound-same}
+use Rattle.dm_laws.proofs.Steps.{After, bind-is, alive-is, nexts, completing, after_ran, after_replies, after_sends, after_waits, after_outputs, after_ends, after_receives, after_refuses}
+use Rattle.dm_laws.proofs.Services.{after_serves}
+use Rattle.dm_laws.proofs.Servers.{after_took, after_dropped, after_gone, after_created, after_no_space}
+
+pub after_step : (r e : MsgId → ℕ) (s t : OneKernel) (l : Label) → kernel.step s l ≡ Some t → Sound r e s → After r e s l t
+after_step r e s t (label.Ran p k) is h = after_ran r e s t p k is h
+after_step r e s t (label.Call p n c) is h = let (x, next, rest) = bind-is (kernel.next s p) (kernel.replies s p n c) t is in after_replies r e s t p n c x (nexts s p x next) rest h
+after_step r e s t (label.Send p id) is h = let (x, next, rest) = bind-is (kernel.next s p) (kernel.sends s p id) t is in after_sends r e s t p id x (nexts s p x next) rest h
+after_step r e s t (label.Wait p) is h = let (x, next, rest) = bind-is (kernel.next s p) (kernel.waits s p) t is in after_waits r e s t p x (nexts s p x next) rest h
+after_step r e s t (label.Out p w) is h = let (x, next, rest) = bind-is (kernel.next s p) (kernel.outputs s p w) t is in after_outputs r e s t p w x (nexts s p x next) rest h
+after_step r e s t (label.End p y) is h = let (x, next, rest) = bind-is (kernel.next s p) (kernel.ends s p y) t is in after_ends r e s t p y x (nexts s p x next) rest h
+after_step r e s t (label.Receive p id) is h = let (x, c, rest) = bind-is (kernel.completing s p id) (kernel.receives s p id) t is in after_receives r e s t p id x (completing s p id x c) rest h
+after_step r e s t (label.Refuse p id d) is h = let (x, c, rest) = bind-is (kernel.completing s p id) (kernel.refuses s p d) t is in after_refuses r e s t p id d x (completing s p id x c) rest h
+after_step r e s t (label.Served id) is h =
+    let (m, there, rest) = bind-is (s.bag id) (λ v. bind (kernel.alive (s.processes v.to)) (λ p. serves s id v p v.what)) t is in
+    let (x, alive, last) = bind-is (kernel.alive (s.processes m.to)) (λ p. serves s id m p m.what) t rest in
+    after_serves r e s t id m x m.what refl there (alive-is (s.processes m.to) x alive) last h
+after_step r e s t (label.Took id) is h = after_took r e s t id is h
+after_step r e s t (label.Dropped id) is h = after_dropped r e s t id is h
+after_step r e s t (label.Gone id) is h = after_gone r e s t id is h
+after_step r e s t (label.Created id child) is h = after_created r e s t id child is h
+after_step r e s t (label.NoSpace id a b) is h = after_no_space r e s t id a b is h
+
+-- where a run comes to, and what it counts
+pub record Reached (r e : MsgId → ℕ) (s t : OneKernel) : Type 0 where
+  pub e' : MsgId → ℕ
+  pub sound : Sound r e' t
+  pub grown : Grown s t
+
+pub reached : (r e : MsgId → ℕ) (s t : OneKernel) (ls : List Label) → replay s ls ≡ Some t → Sound r e s → Reached (λ i. r i + receptions i ls) e s t
+reached r e s t [] is h =
+    let k : s ≡ t = cc in
+    subst (λ v. Reached (λ i. r i + receptions i []) e s v) k (record { e' = e; sound = Sound-same r e (λ i. r i + receptions i []) e s (λ i. omega arith) (λ i. refl) h; grown = Grown-same s })
+reached r e s t (l ∷ ls) is h =
+    let (u, first, rest) = bind-is (kernel.step s l) (λ v. replay v ls) t is in
+    let a = after_step r e s u l first h in
+    let b = reached (λ i. r i + reception i l) (λ i. e i + entry i s u) u t ls rest a.sound in
+    record {
+      e' = b.e';
+      sound = Sound-same (λ i. (r i + reception i l) + receptions i ls) b.e' (λ i. r i + receptions i (l ∷ ls)) b.e' t (λ i. omega arith) (λ i. refl) b.sound;
+      grown = Grown-trans s u t a.grown b.grown;
+    }
+
+pub start-sound : (b : Boot) → IsValid b → Sound (λ i. 0) (λ i. 0) (start b)
+start-sound b valid = record { entered = start-entered b; made = start-made b valid; movers = start-movers b }
+
+pub received_once : ReceivesOnce
+received_once b ls s id valid is =
+    let h = (reached (λ i. 0) (λ i. 0) (start b) s ls is (start-sound b valid)).sound.entered in
+    let few = h.fewer id in let once = h.once id in omega (arith, few, once)
+
+entries_on_few : (e : ℕ) (id : MsgId) (s : OneKernel) (o : Option OneKernel) (go : OneKernel → ℕ) → e ≤ 1 → ((t : OneKernel) → o ≡ Some t → (e + entry id s t) + go t ≤ 1) → e + entries_on id s o go ≤ 1
+entries_on_few e id s None go once h = omega (arith, once)
+entries_on_few e id s (Some t) go once h = let k = h t refl in omega (arith, k)
+
+entries_few : (ls : List Label) (r e : MsgId → ℕ) (s : OneKernel) (id : MsgId) → Sound r e s → e id + entries id s ls ≤ 1
+entries_few [] r e s id h = let k = h.entered.once id in omega (arith, k)
+entries_few (l ∷ ls) r e s id h =
+    entries_on_few (e id) id s (kernel.step s l) (λ t. entries id t ls) (h.entered.once id)
+    (λ t is. entries_few ls (λ i. r i + reception i l) (λ i. e i + entry i s t) t id (after_step r e s t l is h).sound)
+
+pub entered_once : EntersOnce
+entered_once b ls id valid = let k = entries_few ls (λ i. 0) (λ i. 0) (start b) id (start-sound b valid) in omega (arith, k)
+
+ended_stays_of : (l m : Option Life) (y : Why) → LifeGrows l m → l ≡ Some (Ended y) → m ≡ Some (Ended y)
+ended_stays_of None m y g e = cc
+ended_stays_of (Some (Ended z)) m y g e = g ∙ e
+ended_stays_of (Some (Alive x)) m y g e = cc
+
+leads_grown : (b : Boot) (ls ms : List Label) (s t : OneKernel) → IsValid b → Leads b ls s ms t → Grown s t
+leads_grown b ls ms s t valid leads =
+    let first = reached (λ i. 0) (λ i. 0) (start b) s ls leads.0 (start-sound b valid) in
+    (reached (λ i. 0 + receptions i ls) first.e' s t ms leads.1 first.sound).grown
+
+pub ended_stays : EndedStays
+ended_stays b ls ms s t p y valid leads is = ended_stays_of (s.processes p) (t.processes p) y ((leads_grown b ls ms s t valid leads).lives p) is
+
+sent_grows : (l m : Option Life) (x y : PlainProcess) → LifeGrows l m → l ≡ Some (Alive x) → m ≡ Some (Alive y) → x.sent ≤ y.sent
+sent_grows l m x y g e f = subst (AliveGrows x.sent) f (subst (λ v. LifeGrows v m) e g)
+
+pub counts_only_rise : CountsOnlyRise
+counts_only_rise b ls ms s t valid leads =
+    let g = leads_grown b ls ms s t valid leads in
+    record {
+      process = λ p x y is then_. sent_grows (s.processes p) (t.processes p) x y (g.lives p) is then_;
+      switchboard = g.switchboard;
+      manager = g.manager;
+      made = g.made;
+      children = g.children;
+    }
+
+one_counts : (a b : Option PlainMessage) → One a b → in_bag a + in_bag b ≡ 1
+one_counts None None h = absurd h
+one_counts (Some m) None h = omega arith
+one_counts None (Some m) h = omega arith
+one_counts (Some m) (Some n) h = absurd h
+
+pub mover_has_one : MoverHasOne
+mover_has_one b ls s p x dir owner base own left pending valid is alive status =
+    let h = (reached (λ i. 0) (λ i. 0) (start b) s ls is (start-sound b valid)).sound.movers in
+    one_counts (s.bag (id_of p pending)) (s.bag (answer_id (id_of p pending))) (h.mover p x pending alive (ap pending_of status))
