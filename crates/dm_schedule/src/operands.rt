@@ -51,7 +51,7 @@ pub fn rounds(word: &[u8]) -> Result<u32, LineFault>
 {
     match number(word) {
         None => Err(LineFault::NotANumber),
-        Some(n) if n >= 1 && n <= MOST_ROUNDS => Ok(n as u32),
+        Some(n @ 1..=MOST_ROUNDS) => Ok(n as u32),
         Some(_) => Err(LineFault::OutOfRange),
     }
 }
