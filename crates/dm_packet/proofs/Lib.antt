@@ -7,3 +7,4 @@ pub mod Whats
 pub mod Packets
 pub mod Writes
 pub mod Sizes
+pub mod Worked
