@@ -5,6 +5,7 @@ ghost use Rattle.std.specs.Prelude.{[], ◌∷◌, ◌++◌, IfErr, IfNone, IfOk
 ghost use Rattle.std.specs.List.{starts_with};
 ghost use Rattle.dm_schedule.specs.Schedule.{Accepted, RefusedSo, directives_of, turn_line};
 
+use dm_link::Pid;
 use std::alloc::Global;
 use thiserror::Error;
 
@@ -13,6 +14,29 @@ use thiserror::Error;
 pub enum Step {
     /// A machine takes a turn.
     Turn(u8),
+    /// A machine sends again what went out and isn't acknowledged.
+    Tick(u8),
+    /// Packet `k`, counted from 0, of those that ever went from machine `a` to machine `b` arrives.
+    Deliver {
+        a: u8,
+        b: u8,
+        k: u64,
+    },
+    /// A process is asked to move to a machine.
+    Migrate {
+        pid: Pid,
+        to: u8,
+    },
+}
+
+/// What a line of a schedule says.
+#[derive(Clone, Copy, Debug, PartialEq, Eq)]
+pub enum Directive {
+    One(Step),
+    /// Each packet that was never delivered arrives, and then each machine takes a turn.
+    Round,
+    /// So many rounds, 1 to 65,536.
+    Spin(u32),
 }
 
 /// Why a schedule was not read.
