@@ -1,11 +1,12 @@
 -- How the machine of a boot file comes to be, one link and one process at a time.
-use Rattle.std.proofs.Common.{◌≡◌, ◌∙◌, append_assoc, IsOk, IfErr, IfOk, MatchResult, ◌<◌, ◌≤◌, ℕ, zero, suc, ◌+◌, ◌-◌, true, ◌==◌, List, [], ◌∷◌, ◌++◌, length, map, replicate, take, drop, refl, sym, ap, add-one, arith, if◌then◌else◌, Some, None, slice_get, set, get_or}
+use Rattle.std.proofs.Common.{◌≡◌, ◌∙◌, append_assoc, IsOk, IfErr, IfOk, MatchResult, ◌<◌, ◌≤◌, ℕ, zero, suc, ◌+◌, ◌-◌, true, ◌==◌, List, [], ◌∷◌, ◌++◌, length, map, replicate, take, drop, refl, sym, ap, subst, add-one, arith, if◌then◌else◌, Some, None, slice_get, set, get_or}
 use Rattle.std.proofs.Math.Seq.{drop-cons, set-append_seam}
 use Rattle.std.proofs.lemmas.List.{length-map, take_more}
 use Rattle.std.specs.declared.result.Result.{Result}
 use Rattle.std.specs.declared.result.Result.TheVariants.{Ok, Err}
 use Rattle.std.proofs.lemmas.Grind.{common_steps}
 use Rattle.std.proofs.lemmas.Option.{slice_get_read}
+use Rattle.std.proofs.lemmas.Bool.{and_parts}
 use Rattle.std.proofs.lemmas.Bool.Decides.{nat_tests}
 use Rattle.std.specs.List.{position_or_len}
 use Rattle.std.specs.Option.{is_none}
@@ -16,7 +17,7 @@ use Rattle.dm_linktable.specs.Slots.{first_empty}
 use Rattle.dm_onekernel.specs.declared.boot.Boot.{Boot}
 use Rattle.dm_onekernel.specs.declared.boot.BootImage.{BootImage}
 use Rattle.dm_onekernel.specs.declared.boot.BootProcess.{BootProcess}
-use Rattle.dm_onekernel.specs.Boot.{image_is_valid, images_are_valid, process_is_valid, processes_are_valid, slots_of}
+use Rattle.dm_onekernel.specs.Boot.{image_is_valid, images_are_valid, process_is_valid, processes_are_valid, slots_of, starting_at}
 use Rattle.dm_onemachine.specs.Start.{table_of}
 use Rattle.dm_trace.specs.View.{ring_at}
 use Rattle.dm_node.specs.declared.records.Record.{Record}
@@ -57,13 +58,6 @@ pub image_fits : (images : List BootImage) (i : ℕ) (x : BootImage) → images_
 image_fits [] i x valid at = grind arith
 image_fits (y ∷ ys) zero x valid at = grind (arith, common_steps)
 image_fits (y ∷ ys) (suc i) x valid at = grind (arith, common_steps, image_fits ys i x)
-
--- each process of a boot file is valid
-pub is_valid : (b : Boot) (n : ℕ) (ps : List BootProcess) (i : ℕ) (x : BootProcess) → processes_are_valid b n ps ≡ true → slice_get ps i ≡ Some x
-    → process_is_valid b (n + i) x ≡ true
-is_valid b n [] i x valid at = grind arith
-is_valid b n (y ∷ ys) zero x valid at = grind (arith, common_steps)
-is_valid b n (y ∷ ys) (suc i) x valid at = grind (arith, common_steps, is_valid b (n + 1) ys i x)
 
 -- with one more process
 pub records_step : (b : Boot) (m n : ℕ) (x : BootProcess) (all rest : List BootProcess) (f g : Pid → Option Record) → n ≡ m → all ≡ x ∷ rest
@@ -124,12 +118,28 @@ pub record IsFine (b : Boot) (x : BootProcess) : Type 0 where
   pub image : x.image < length b.images
   pub links : length x.links ≤ slots_of b.format
 
-pub is_fine : (b : Boot) (n : ℕ) (ps items : List BootProcess) (i : ℕ) (x : BootProcess) → processes_are_valid b n ps ≡ true → items ≡ ps → i < length items
-    → x ≡ get_or items i x → IsFine b x
-is_fine b n ps items i x valid same h here =
-    let at : slice_get items i ≡ Some x = slice_get_read items (length items) i x refl h here in
-    let v : process_is_valid b (n + i) x ≡ true = is_valid b n ps i x valid (ap (λ l. slice_get l i) (sym same) ∙ at) in
+one_fine : (b : Boot) (others : ℕ) (x : BootProcess) → process_is_valid b others x ≡ true → IsFine b x
+one_fine b others x valid =
     record { image = grind (arith, common_steps, nat_tests); links = grind (arith, common_steps, nat_tests) }
+
+parts : (b : Boot) (earlier : List BootProcess) (p : BootProcess) (ps : List BootProcess) → processes_are_valid b earlier (p ∷ ps) ≡ true
+    → (process_is_valid b (starting_at p.pid.home earlier) p ≡ true) × (processes_are_valid b (earlier ++ p ∷ []) ps ≡ true)
+parts b earlier p ps valid = and_parts (process_is_valid b (starting_at p.pid.home earlier) p) (processes_are_valid b (earlier ++ p ∷ []) ps) valid
+
+fine_at : (b : Boot) (earlier ps : List BootProcess) (i : ℕ) (x : BootProcess) → processes_are_valid b earlier ps ≡ true → slice_get ps i ≡ Some x → IsFine b x
+fine_at b earlier [] i x valid at = absurd (grind arith)
+fine_at b earlier (y ∷ ys) zero x valid at =
+    let is : y ≡ x = grind (arith, common_steps) in
+    subst (IsFine b) is (one_fine b (starting_at y.pid.home earlier) y (parts b earlier y ys valid).0)
+fine_at b earlier (y ∷ ys) (suc i) x valid at =
+    let next : slice_get ys i ≡ Some x = grind (arith, common_steps) in
+    fine_at b (earlier ++ y ∷ []) ys i x (parts b earlier y ys valid).1 next
+
+pub is_fine : (b : Boot) (earlier ps items : List BootProcess) (i : ℕ) (x : BootProcess) → processes_are_valid b earlier ps ≡ true → items ≡ ps → i < length items
+    → x ≡ get_or items i x → IsFine b x
+is_fine b earlier ps items i x valid same h here =
+    let at : slice_get items i ≡ Some x = slice_get_read items (length items) i x refl h here in
+    fine_at b earlier ps i x valid (ap (λ l. slice_get l i) (sym same) ∙ at)
 
 pub drop_at : (ps : List BootProcess) (i : ℕ) (x : BootProcess) → i < length ps → x ≡ get_or ps i x → drop i ps ≡ x ∷ drop (i + 1) ps
 drop_at ps i x h here = rw add-one (drop-cons ps i x h ∙ ap (λ y. y ∷ drop (suc i) ps) (sym here))

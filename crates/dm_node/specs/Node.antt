@@ -38,6 +38,8 @@ use Rattle.dm_node.specs.declared.run.Halt.TheVariants as halt
 use Rattle.dm_node.specs.declared.records.Record.{Record}
 use Rattle.dm_node.specs.declared.records.Record.TheVariants.{Here, Ended}
 use Rattle.dm_node.specs.declared.node.Node.{Node}
+use Rattle.dm_node.specs.declared.stop.Stop.{Stop}
+use Rattle.dm_node.specs.declared.stop.Stop.TheVariants as stop
 use Rattle.dm_node.specs.Records.{at, with_record}
 use Rattle.dm_node.specs.Calls.{Done, calls}
 
@@ -45,12 +47,15 @@ pub record NodeState : Type 0 where
   pub machine : ℕ
   pub quantum : ℕ
   pub format : Format
+  -- how many messages it may route to itself, and how many it has
+  pub numbers : ℕ
+  pub routed : ℕ
   pub records : Pid → Option Record
   pub ring : List Pid
   pub inbox : List Message
 
 abbrev pub state_of : Node → NodeState
-state_of n = record { machine = n.machine; quantum = n.quantum; format = n.format; records = at n.records; ring = n.ring; inbox = n.inbox }
+state_of n = record { machine = n.machine; quantum = n.quantum; format = n.format; numbers = n.numbers; routed = n.routed; records = at n.records; ring = n.ring; inbox = n.inbox }
 
 -- a machine after a turn, and what was said
 pub record Turned : Type 0 where
@@ -95,7 +100,7 @@ abbrev pub calls_with : NodeState → Pid → ℕ → ℕ → Process → Called
 calls_with s p k n x (called.Replied c) = record { state = with_here s p x; lines = line.Label (label.Ran p k) ∷ line.Label (label.Call p n c) ∷ [] }
 calls_with s p k n x (called.Sent m) =
     record {
-      state = record (with_here s p x) { inbox = s.inbox ++ m ∷ [] };
+      state = record (with_here s p x) { routed = s.routed + 1; inbox = s.inbox ++ m ∷ [] };
       lines = line.Label (label.Ran p k) ∷ line.Label (label.Send p m.id) ∷ line.Put s.machine s.machine m.id (kind_of m.what) m.to.pid ∷ [];
     }
 calls_with s p k n x called.Waits = record { state = with_here s p x; lines = line.Label (label.Ran p k) ∷ line.Label (label.Wait p) ∷ [] }
@@ -150,6 +155,7 @@ takes s p x mask base cap (Some m) = takes_what s p x m mask base cap m.what
 abbrev pub serves_status : NodeState → Pid → Process → Status → Turned
 serves_status s p x status.Ready = executes s p x (ran s.quantum (record { regs = x.regs; bytes = x.memory }))
 serves_status s p x (status.Waiting mask base cap) = takes s p x mask base cap (first_on mask x.queue)
+serves_status s p x (status.Moving dir owner base own left pending) = says_nothing s
 
 abbrev pub serves : NodeState → Pid → Option Record → Turned
 serves s p (Some (Here x)) = serves_status s p x x.status
@@ -185,10 +191,15 @@ turns s (m ∷ rest) = handles (record s { inbox = rest }) m (s.records m.to.pid
 abbrev pub turn : NodeState → Turned
 turn s = turns s s.inbox
 
+-- a machine whose next turn is worn: it would have routed more messages to itself than it may
+abbrev pub is_worn : NodeState → Bool
+is_worn s = nat_lt (turn s).state.numbers (turn s).state.routed
+
 -- a process whose buffer lies in its memory, and which can count one more message
 abbrev pub status_fits : Status → ℕ → Bool
 status_fits status.Ready len = true
 status_fits (status.Waiting mask base cap) len = nat_le (base + cap) len
+status_fits (status.Moving dir owner base own left pending) len = true
 
 abbrev pub record_fits : Option Record → Bool
 record_fits (Some (Here x)) = status_fits x.status (length x.memory) && nat_lt x.sent 4294967295
@@ -202,6 +213,8 @@ pub record Meets (n : Node) (said : List Line) (t : Turned) : Type 0 where
   pub machine : n.machine ≡ t.state.machine
   pub quantum : n.quantum ≡ t.state.quantum
   pub format : n.format ≡ t.state.format
+  pub numbers : n.numbers ≡ t.state.numbers
+  pub routed : n.routed ≡ t.state.routed
   pub records : (q : Pid) → at n.records q ≡ t.state.records q
   pub ring : n.ring ≡ t.state.ring
   pub inbox : n.inbox ≡ t.state.inbox
@@ -211,3 +224,9 @@ pub record Meets (n : Node) (said : List Line) (t : Turned) : Type 0 where
 abbrev pub Answers : Result (Vec Line Global) NoMemory → Node → Turned → Type 0
 Answers (Ok lines) n t = Meets n lines.items t
 Answers (Err e) n t = Unit {0}
+
+-- the code takes the turn of a machine in state s where that isn't worn, and says so where it is; or it has no memory
+abbrev pub TurnAnswers : Result (Vec Line Global) Stop → Node → NodeState → Type 0
+TurnAnswers (Ok lines) n s = Meets n lines.items (turn s) × (is_worn s ≡ false)
+TurnAnswers (Err (stop.Worn from to)) n s = (is_worn s ≡ true) × (from ≡ s.machine) × (to ≡ s.machine)
+TurnAnswers (Err stop.NoMemory) n s = Unit {0}

@@ -30,6 +30,8 @@ impl Node {
             machine,
             quantum: boot.quantum,
             format: boot.format,
+            numbers: boot.numbers,
+            routed: 0,
             records: Records::new(alloc),
             ring: Queue::new(alloc),
             inbox: Queue::new(alloc),
@@ -50,6 +52,8 @@ impl Node {
         ensures machine { self.new.machine ≡ self.old.machine }
         ensures quantum { self.new.quantum ≡ self.old.quantum }
         ensures format { self.new.format ≡ self.old.format }
+        ensures numbers { self.new.numbers ≡ self.old.numbers }
+        ensures routed { self.new.routed ≡ self.old.routed }
         ensures inbox { self.new.inbox ≡ self.old.inbox }
     {
         if process.pid.home != self.machine {

@@ -8,7 +8,9 @@ mod receive;
 pub mod records;
 mod ring;
 pub mod run;
+pub mod stop;
 mod turn;
 
 pub use dm_memory::NoMemory;
 pub use node::Node;
+pub use stop::Stop;

@@ -14,6 +14,10 @@ pub struct Node {
     /// The greatest number of plain instructions in a turn.
     pub quantum: u32,
     pub format: Format,
+    /// The greatest number of messages that it may route to itself, 1 to 1,048,576.
+    pub numbers: u32,
+    /// How many messages it has routed to itself.
+    pub routed: u32,
     pub records: Records,
     /// The processes that are here, in the order in which they are served.
     pub ring: Queue<Pid>,

@@ -1,6 +1,6 @@
 //! What a machine does in a turn.
 ghost use Rattle.std.specs.Prelude.{[], ◌∷◌, ◌++◌, ◌<◌, ◌≡◌, IfOk, IsSome, OnOk, true};
-ghost use Rattle.dm_node.specs.Node.{AllFit, Answers, calls_with, drops, ends, executes, first_runnable, goes_round, handles, ran, record_fits, record_is_runnable, serves, state_of, turn, with_here};
+ghost use Rattle.dm_node.specs.Node.{AllFit, Answers, TurnAnswers, calls_with, drops, ends, executes, first_runnable, goes_round, handles, ran, record_fits, record_is_runnable, serves, state_of, turn, with_here};
 ghost use Rattle.dm_node.specs.Records.{at};
 ghost use Rattle.dm_onekernel.specs.declared.label.Label.TheVariants as label_;
 ghost use Rattle.dm_trace.specs.declared.line.Line.TheVariants as line_;
@@ -12,6 +12,7 @@ use crate::receive::complete;
 use crate::records::Record;
 use crate::ring::{leave, move_back};
 use crate::run::{Halt, execute};
+use crate::stop::Stop;
 use dm_link::Pid;
 use dm_lists::Queue;
 use dm_memory::NoMemory;
@@ -21,10 +22,33 @@ use dm_process::{Process, Status};
 use dm_trace::Line;
 
 impl Node {
-    /// Handles the message at the inbox's front, or serves the first process of the ring that can be served: the
-    /// lines that the turn says.
-    pub fn turn(&mut self) -> Result<Vec<Line>, NoMemory>
-        requires { AllFit (at self.old.records) }
+    /// Takes a turn: the lines that it says. It stops as worn exactly where the machine would have routed more
+    /// messages to itself than it may.
+    pub fn turn(&mut self) -> Result<Vec<Line>, Stop>
+        requires fit { AllFit (at self.old.records) }
+        requires counts { self.old.routed < 4294967295 }
+        ensures { TurnAnswers result self.new (state_of self.old) }
+    {
+        let machine = self.machine;
+        match self.take_turn() {
+            Ok(lines) => {
+                if self.routed > self.numbers {
+                    Err(Stop::Worn {
+                        from: machine,
+                        to: machine,
+                    })
+                } else {
+                    Ok(lines)
+                }
+            }
+            Err(NoMemory) => Err(Stop::NoMemory),
+        }
+    }
+
+    /// Handles the message at the inbox's front, or serves the first process of the ring that can be served.
+    fn take_turn(&mut self) -> Result<Vec<Line>, NoMemory>
+        requires fit { AllFit (at self.old.records) }
+        requires counts { self.old.routed < 4294967295 }
         ensures { Answers result self.new (turn (state_of self.old)) }
     {
         match self.inbox.pop() {
@@ -53,7 +77,8 @@ impl Node {
 
     /// Serves the first process of the ring that can be served, which goes to the ring's back.
     fn go_round(&mut self) -> Result<Vec<Line>, NoMemory>
-        requires { AllFit (at self.old.records) }
+        requires fit { AllFit (at self.old.records) }
+        requires counts { self.old.routed < 4294967295 }
         ensures { Answers result self.new (goes_round (state_of self.old) (first_runnable (at self.old.records) self.old.ring)) }
     {
         match self.first_runnable() {
@@ -93,7 +118,8 @@ impl Node {
 
     /// Serves a process: it executes, or takes a message that it waits for.
     fn serve(&mut self, pid: Pid) -> Result<Vec<Line>, NoMemory>
-        requires { record_fits (at self.old.records pid) ≡ true }
+        requires fits { record_fits (at self.old.records pid) ≡ true }
+        requires counts { self.old.routed < 4294967295 }
         ensures { Answers result self.new (serves (state_of self.old) pid (at self.old.records pid)) }
     {
         match self.records.get(pid) {
@@ -101,6 +127,7 @@ impl Node {
                 Record::Here(process) => match process.status {
                     Status::Ready => self.run(pid),
                     Status::Waiting { mask, base, cap } => self.receive(pid, mask, base, cap),
+                    Status::Moving { .. } => Ok(Vec::new(self.alloc)),
                 },
                 Record::Ended(_) => Ok(Vec::new(self.alloc)),
             },
@@ -128,7 +155,8 @@ impl Node {
 
     /// Lets a ready process execute.
     fn run(&mut self, pid: Pid) -> Result<Vec<Line>, NoMemory>
-        requires { IsReady (at self.old.records pid) }
+        requires ready { IsReady (at self.old.records pid) }
+        requires counts { self.old.routed < 4294967295 }
         ensures { Answers result self.new (serves (state_of self.old) pid (at self.old.records pid)) }
     {
         match self.records.swap(pid, Record::Ended(Why::Exit)) {
@@ -140,7 +168,8 @@ impl Node {
     /// Executes instructions of a process that has been taken out of its record, and what they came to.
     fn execute(&mut self, pid: Pid, process: Process) -> Result<Vec<Line>, NoMemory>
         requires known { IsSome (at self.old.records pid) }
-        requires counts { process.sent < 4294967295 }
+        requires sends { process.sent < 4294967295 }
+        requires counts { self.old.routed < 4294967295 }
         ensures { Answers result self.new (executes (state_of self.old) pid process (ran self.old.quantum (record { regs = process.regs; bytes = process.memory }))) }
     {
         let mut process = process;
@@ -167,7 +196,8 @@ impl Node {
         number: u8,
         called: Called,
     ) -> Result<Vec<Line>, NoMemory>
-        requires { IsSome (at self.old.records pid) }
+        requires known { IsSome (at self.old.records pid) }
+        requires counts { self.old.routed < 4294967295 }
         ensures { Answers result self.new (calls_with (state_of self.old) pid count number process called) }
     {
         match called {
@@ -205,7 +235,8 @@ impl Node {
         count: u32,
         message: Message,
     ) -> Result<Vec<Line>, NoMemory>
-        requires { IsSome (at self.old.records pid) }
+        requires known { IsSome (at self.old.records pid) }
+        requires counts { self.old.routed < 4294967295 }
         ensures { Answers result self.new (calls_with (state_of self.old) pid count 6 process (Called.Sent message)) }
     {
         self.records.put(pid, Record::Here(process));
@@ -213,6 +244,7 @@ impl Node {
         let kind = message.what.kind();
         let receiver = message.to.pid;
         self.inbox.push(message)?;
+        self.routed += 1;
         let ran = Line::Label(Label::Ran { pid, count });
         let sent = Line::Label(Label::Send { pid, id });
         let put = Line::Put {

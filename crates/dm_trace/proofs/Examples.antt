@@ -39,6 +39,6 @@ no_name : line_of (codes "wait 3") ≡ None
 unfolding line_of pieces read_number read_pid
 no_name = refl
 
-another_word : line_of (codes "tick 7") ≡ None
+another_word : line_of (codes "toll 7") ≡ None
 unfolding line_of pieces read_number
 another_word = refl

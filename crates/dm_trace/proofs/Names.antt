@@ -22,6 +22,12 @@ use Rattle.dm_trace.proofs.Numbers.{above-decimal, read-decimal}
 pub below_u8 : (n : ℕ) → n < 2 ^ 8 → n < 10 ^ 64
 below_u8 n h = omega arith
 
+pub below_u16 : (n : ℕ) → n < 2 ^ 16 → n < 10 ^ 64
+below_u16 n h = omega arith
+
+pub below_u64 : (n : ℕ) → n < 2 ^ 64 → n < 10 ^ 64
+below_u64 n h = omega arith
+
 pub below_u32 : (n : ℕ) → n < 2 ^ 32 → n < 10 ^ 64
 below_u32 n h = omega arith
 
@@ -30,6 +36,12 @@ below_u128 n h = omega arith
 
 pub read_u8_back : (n : ℕ) → n < 2 ^ 8 → read_number (2 ^ 8) (decimal n) ≡ Some n
 read_u8_back n h = read-decimal (2 ^ 8) n h (below_u8 n h)
+
+pub read_u16_back : (n : ℕ) → n < 2 ^ 16 → read_number (2 ^ 16) (decimal n) ≡ Some n
+read_u16_back n h = read-decimal (2 ^ 16) n h (below_u16 n h)
+
+pub read_u64_back : (n : ℕ) → n < 2 ^ 64 → read_number (2 ^ 64) (decimal n) ≡ Some n
+read_u64_back n h = read-decimal (2 ^ 64) n h (below_u64 n h)
 
 pub read_u32_back : (n : ℕ) → n < 2 ^ 32 → read_number (2 ^ 32) (decimal n) ≡ Some n
 read_u32_back n h = read-decimal (2 ^ 32) n h (below_u32 n h)

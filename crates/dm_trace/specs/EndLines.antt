@@ -4,10 +4,14 @@ use Rattle.std.specs.declared.option.Option.{Option}
 use Rattle.std.specs.declared.option.Option.TheVariants.{None, Some}
 use Rattle.dm_link.specs.declared.Pid.{Pid}
 use Rattle.dm_link.specs.Names.{Place, pid_of}
+use Rattle.dm_process.specs.declared.process.Status.{Status}
+use Rattle.dm_process.specs.declared.process.Status.TheVariants as status
 use Rattle.dm_onekernel.specs.Boot.{first_number}
 use Rattle.dm_onemachine.specs.Kernel.{Life, Alive, Ended}
 use Rattle.dm_trace.specs.declared.line.Line.{Line}
 use Rattle.dm_trace.specs.declared.line.Line.TheVariants as line
+use Rattle.dm_trace.specs.declared.line.Doing.{Doing}
+use Rattle.dm_trace.specs.declared.line.Doing.TheVariants as doing
 use Rattle.dm_trace.specs.declared.line.EndLine.TheVariants as end
 use Rattle.dm_trace.specs.View.{View, Known, Here, Nothing}
 use Rattle.dm_trace.specs.View as view
@@ -23,10 +27,16 @@ abbrev pub machine_of : View → Pid → ℕ → ℕ
 machine_of v p zero = 0
 machine_of v p (suc n) = is_here (v.known n p) n (machine_of v p n)
 
+-- what the lines say of a status: not where the owner is, nor which request is under way
+abbrev pub doing_of : Status → Doing
+doing_of status.Ready = doing.Ready
+doing_of (status.Waiting mask base cap) = doing.Waiting mask base cap
+doing_of (status.Moving dir owner base own left pending) = doing.Moving dir owner.pid base own left
+
 abbrev pub process_line : Pid → ℕ → Option Life → List Line
 process_line p at None = []
 process_line p at (Some (Ended why)) = line.End (end.Ended p why) ∷ []
-process_line p at (Some (Alive x)) = line.End (end.Process p at x.status x.stopped x.sent) ∷ []
+process_line p at (Some (Alive x)) = line.End (end.Process p at (doing_of x.status) x.stopped x.sent) ∷ []
 
 -- the first n processes of a home, in order of number
 abbrev pub process_lines : Point → ℕ → ℕ → List Line

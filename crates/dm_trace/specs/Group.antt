@@ -22,7 +22,7 @@ use Rattle.dm_schedule.specs.declared.Step.{Step}
 use Rattle.dm_schedule.specs.declared.Step.TheVariants as step
 use Rattle.dm_trace.specs.declared.line.Line.{Line}
 use Rattle.dm_trace.specs.declared.line.Line.TheVariants as line
-use Rattle.dm_trace.specs.View.{View, Put, Known, Nothing, Here, Ended}
+use Rattle.dm_trace.specs.View.{View, Put, Known, Nothing, Here, Ended, actor}
 use Rattle.dm_trace.specs.Point.{Point, after}
 
 -- a user message on a channel of the mask
@@ -43,6 +43,7 @@ first_awaited s mask (i ∷ is) = if is_awaited mask (s.bag i) then Some i else 
 abbrev pub can_go_on : OneKernel → List MsgId → Status → Bool
 can_go_on s queue status.Ready = true
 can_go_on s queue (status.Waiting mask base cap) = is_some (first_awaited s mask queue)
+can_go_on s queue (status.Moving dir owner base own left pending) = false
 
 abbrev pub process_is_runnable : OneKernel → List MsgId → Option PlainProcess → Bool
 process_is_runnable s queue None = false
@@ -94,6 +95,7 @@ abbrev pub StatusSays : Boot → Point → Pid → Status → List Line → Type
 StatusSays b pt p status.Ready lines =
     (k : ℕ) × (rest : List Line) × (lines ≡ line.Label (label.Ran p k) ∷ rest) × RanSays b pt.view p k rest
 StatusSays b pt p (status.Waiting mask base cap) lines = AwaitedSays p (first_awaited pt.kernel mask (pt.view.queue p)) lines
+StatusSays b pt p (status.Moving dir owner base own left pending) lines = ⊥
 
 abbrev pub ServedSays : Boot → Point → Pid → Option PlainProcess → List Line → Type 0
 ServedSays b pt p None lines = ⊥
@@ -109,13 +111,12 @@ abbrev pub TurnSays : Boot → Point → ℕ → List MsgId → List Line → Ty
 TurnSays b pt m [] lines = RingSays b pt m (first_runnable pt (pt.view.ring m)) lines
 TurnSays b pt m (id ∷ ids) lines = FrontSays pt m id (pt.view.put id) lines
 
--- the outcome lines that an event may have
+-- the outcome lines that an event may have: one machine only takes turns
 abbrev pub Says : Boot → Point → Step → List Line → Type 0
 Says b pt (step.Turn m) lines = TurnSays b pt m (pt.view.inbox m) lines
-
--- the machine that acts
-abbrev pub actor : Step → ℕ
-actor (step.Turn m) = m
+Says b pt (step.Tick m) lines = ⊥
+Says b pt (step.Deliver a c k) lines = ⊥
+Says b pt (step.Migrate p m) lines = ⊥
 
 -- the messages that the outcome routes, in order
 abbrev pub routed : List Line → List MsgId

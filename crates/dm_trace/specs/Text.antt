@@ -4,8 +4,8 @@ use Rattle.std.specs.Fmt.{decimal}
 use Rattle.dm_link.specs.declared.Pid.{Pid}
 use Rattle.dm_message.specs.declared.MsgId.{MsgId}
 use Rattle.dm_message.specs.Kinds.{word_of}
-use Rattle.dm_process.specs.declared.process.Status.{Status}
-use Rattle.dm_process.specs.declared.process.Status.TheVariants as status
+use Rattle.dm_process.specs.declared.process.Direction.{Direction}
+use Rattle.dm_process.specs.declared.process.Direction.TheVariants.{FromArea, IntoArea}
 use Rattle.dm_onekernel.specs.declared.label.Label.{Label}
 use Rattle.dm_onekernel.specs.declared.label.Label.TheVariants as label
 use Rattle.dm_onekernel.specs.Codes.{reply_code, why_code}
@@ -13,6 +13,8 @@ use Rattle.dm_schedule.specs.declared.Step.{Step}
 use Rattle.dm_schedule.specs.declared.Step.TheVariants as step
 use Rattle.dm_trace.specs.declared.line.Line.{Line}
 use Rattle.dm_trace.specs.declared.line.Line.TheVariants as line
+use Rattle.dm_trace.specs.declared.line.Doing.{Doing}
+use Rattle.dm_trace.specs.declared.line.Doing.TheVariants as doing
 use Rattle.dm_trace.specs.declared.line.EndLine.{EndLine}
 use Rattle.dm_trace.specs.declared.line.EndLine.TheVariants as end
 
@@ -30,6 +32,9 @@ id_text i = pid_text i.from ++ codes "#" ++ decimal i.n ++ mark_text i.answer
 
 abbrev pub step_text : Step → List ℕ
 step_text (step.Turn m) = codes "turn " ++ decimal m
+step_text (step.Tick m) = codes "tick " ++ decimal m
+step_text (step.Deliver a b k) = codes "deliver " ++ decimal a ++ codes " " ++ decimal b ++ codes " " ++ decimal k
+step_text (step.Migrate p m) = codes "migrate " ++ pid_text p ++ codes " " ++ decimal m
 
 abbrev pub label_text : Label → List ℕ
 label_text (label.Ran p k) = codes "ran " ++ pid_text p ++ codes " " ++ decimal k
@@ -41,10 +46,22 @@ label_text (label.End p y) = codes "end " ++ pid_text p ++ codes " " ++ decimal 
 label_text (label.Receive p id) = codes "receive " ++ pid_text p ++ codes " " ++ id_text id
 label_text (label.Refuse p id c) = codes "refuse " ++ pid_text p ++ codes " " ++ id_text id ++ codes " " ++ decimal (reply_code c)
 label_text (label.Dropped id) = codes "dropped " ++ id_text id
+label_text (label.Served id) = codes "served " ++ id_text id
+label_text (label.Gone id) = codes "gone " ++ id_text id
+label_text (label.Took id) = codes "took " ++ id_text id
+label_text (label.Created id p) = codes "created " ++ id_text id ++ codes " " ++ pid_text p
+label_text (label.NoSpace id s b) = codes "nospace " ++ id_text id ++ codes " " ++ decimal s ++ codes " " ++ decimal b
 
-abbrev pub status_text : Status → List ℕ
-status_text status.Ready = codes "ready"
-status_text (status.Waiting mask base cap) = codes "waiting " ++ decimal mask ++ codes " " ++ decimal base ++ codes " " ++ decimal cap
+-- a data move from the area is written 0, and one into it 1
+abbrev pub dir_text : Direction → List ℕ
+dir_text FromArea = codes "0"
+dir_text IntoArea = codes "1"
+
+abbrev pub doing_text : Doing → List ℕ
+doing_text doing.Ready = codes "ready"
+doing_text (doing.Waiting mask base cap) = codes "waiting " ++ decimal mask ++ codes " " ++ decimal base ++ codes " " ++ decimal cap
+doing_text (doing.Moving dir owner base own left) =
+    codes "moving " ++ dir_text dir ++ codes " " ++ pid_text owner ++ codes " " ++ decimal base ++ codes " " ++ decimal own ++ codes " " ++ decimal left
 
 abbrev pub go_text : Bool → List ℕ
 go_text true = codes "stopped"
@@ -53,8 +70,8 @@ go_text false = codes "go"
 abbrev pub end_text : EndLine → List ℕ
 end_text end.Final = codes "final"
 end_text (end.Ended p y) = codes "process " ++ pid_text p ++ codes " ended " ++ decimal (why_code y)
-end_text (end.Process p at status stopped sent) =
-    codes "process " ++ pid_text p ++ codes " at " ++ decimal at ++ codes " here " ++ status_text status ++ codes " " ++ go_text stopped ++ codes " " ++ decimal sent
+end_text (end.Process p at does stopped sent) =
+    codes "process " ++ pid_text p ++ codes " at " ++ decimal at ++ codes " here " ++ doing_text does ++ codes " " ++ go_text stopped ++ codes " " ++ decimal sent
 end_text (end.Server p sent) = codes "server " ++ pid_text p ++ codes " " ++ decimal sent
 end_text (end.Child n p at) = codes "child " ++ decimal n ++ codes " " ++ pid_text p ++ codes " at " ++ decimal at
 end_text (end.Groups g) = codes "end " ++ decimal g

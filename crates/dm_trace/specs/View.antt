@@ -6,6 +6,7 @@ use Rattle.dm_link.specs.declared.Pid.{Pid}
 use Rattle.dm_link.specs.Names.{pid_eq}
 use Rattle.dm_message.specs.declared.MsgId.{MsgId}
 use Rattle.dm_message.specs.declared.kind.MessageKind.{MessageKind}
+use Rattle.dm_message.specs.declared.kind.MessageKind.TheVariants.{Kill}
 use Rattle.dm_message.specs.Ids.{id_eq}
 use Rattle.dm_onekernel.specs.declared.boot.BootProcess.{BootProcess}
 use Rattle.dm_onekernel.specs.declared.boot.Boot.{Boot}
@@ -92,10 +93,34 @@ with_queue v (Some p) ids = at_pid v.queue p ids
 abbrev pub serving : View → Pid → View
 serving v p = record v { ring = at_machine v.ring v.acting (moved_back p (v.ring v.acting)) }
 
+-- the view with a process ended
+abbrev pub ending : View → Pid → View
+ending v p = record v { ring = at_machine v.ring v.acting (without p (v.ring v.acting)); known = at_record v.known v.acting p Ended }
+
+-- the view with a process begun
+abbrev pub beginning : View → Pid → View
+beginning v p = record v { ring = at_machine v.ring v.acting (v.ring v.acting ++ p ∷ []); known = at_record v.known v.acting p Here }
+
+-- a message that was handled leaves the front of the inbox
+abbrev pub handled : View → MsgId → View
+handled v id = record v { inbox = at_machine v.inbox v.acting (without_front id (v.inbox v.acting)) }
+
+-- of the messages that the kernel of a process serves, a kill ends it
+abbrev pub served_so : View → Pid → MessageKind → View
+served_so v p Kill = ending v p
+served_so v p _ = v
+
+abbrev pub served : View → Option Put → View
+served v None = v
+served v (Some m) = served_so v m.receiver m.kind
+
 abbrev pub after_label : View → Label → View
 after_label v (label.Ran p k) = serving v p
-after_label v (label.End p y) =
-    record v { ring = at_machine v.ring v.acting (without p (v.ring v.acting)); known = at_record v.known v.acting p Ended }
+after_label v (label.Call p n c) = v
+after_label v (label.Send p id) = v
+after_label v (label.Wait p) = v
+after_label v (label.Out p w) = v
+after_label v (label.End p y) = ending v p
 after_label v (label.Receive p id) = record (serving v p) { queue = at_pid v.queue p (without_id id (v.queue p)) }
 after_label v (label.Refuse p id c) = serving v p
 after_label v (label.Dropped id) =
@@ -103,7 +128,11 @@ after_label v (label.Dropped id) =
       inbox = at_machine v.inbox v.acting (without_front id (v.inbox v.acting));
       queue = with_queue v (receiver_of (v.put id)) (without_front id (queue_of v (receiver_of (v.put id))));
     }
-after_label v _ = v
+after_label v (label.Served id) = served (handled v id) (v.put id)
+after_label v (label.Gone id) = handled v id
+after_label v (label.Took id) = handled v id
+after_label v (label.Created id p) = beginning (handled v id) p
+after_label v (label.NoSpace id s b) = handled v id
 
 -- a route: on the pair of a machine with itself the message enters the inbox at once
 abbrev pub after_put : View → ℕ → ℕ → MsgId → Put → View
@@ -115,8 +144,15 @@ after_put v a b id p =
       put = at_id v.put id (Some p);
     }
 
+-- the machine that acts
+abbrev pub actor : Step → ℕ
+actor (step.Turn m) = m
+actor (step.Tick m) = m
+actor (step.Deliver a b k) = b
+actor (step.Migrate p m) = 0
+
 abbrev pub after_head : View → Step → View
-after_head v (step.Turn m) = record v { acting = m; groups = v.groups + 1 }
+after_head v e = record v { acting = actor e; groups = v.groups + 1 }
 
 -- the view after one more line
 abbrev pub view_after : View → Line → View
@@ -128,7 +164,8 @@ view_after v (line.Queued id) =
       inbox = at_machine v.inbox v.acting (without_front id (v.inbox v.acting));
       queue = with_queue v (receiver_of (v.put id)) (queue_of v (receiver_of (v.put id)) ++ id ∷ []);
     }
-view_after v _ = v
+view_after v (line.Idle m) = v
+view_after v (line.End e) = v
 
 -- the processes of the boot file are where they start
 abbrev pub known_at : List BootProcess → ℕ → Pid → Known

@@ -55,9 +55,17 @@ read_number limit w = if length w == 0 || is_padded w then None else below limit
 abbrev pub read_u8 : List ℕ → Option ℕ
 read_u8 w = read_number (2 ^ 8) w
 
+-- a number below 2 ^ 16
+abbrev pub read_u16 : List ℕ → Option ℕ
+read_u16 w = read_number (2 ^ 16) w
+
 -- a number below 2 ^ 32
 abbrev pub read_u32 : List ℕ → Option ℕ
 read_u32 w = read_number (2 ^ 32) w
+
+-- a number below 2 ^ 64
+abbrev pub read_u64 : List ℕ → Option ℕ
+read_u64 w = read_number (2 ^ 64) w
 
 -- the process of these parts of its name: its home, and its number there
 abbrev pub pid_in : List (List ℕ) → Option Pid

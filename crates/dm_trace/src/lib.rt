@@ -6,7 +6,7 @@ pub mod text;
 mod words;
 
 pub use dm_memory::NoMemory;
-pub use line::{EndLine, Line};
+pub use line::{Doing, EndLine, Line};
 pub use text::{line_fits, text_can_be_read, write_line, write_lines};
 
 #[cfg(test)]

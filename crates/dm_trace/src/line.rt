@@ -1,8 +1,11 @@
 //! The lines that a run prints.
+ghost use Rattle.std.specs.Prelude.{◌≡◌};
+ghost use Rattle.dm_trace.specs.EndLines.{doing_of};
+
 use dm_link::Pid;
 use dm_message::{MessageKind, MsgId};
 use dm_onekernel::{Label, Why};
-use dm_process::Status;
+use dm_process::{Direction, Status};
 use dm_schedule::Step;
 
 /// A line of a group, or one of the lines at the end of a run.
@@ -41,7 +44,7 @@ pub enum EndLine {
     Process {
         pid: Pid,
         at: u8,
-        status: Status,
+        doing: Doing,
         stopped: bool,
         sent: u32,
     },
@@ -58,4 +61,51 @@ pub enum EndLine {
     },
     /// How many groups there were.
     Groups(u128),
+}
+
+/// What a process does, as the lines at the end say it.
+#[derive(Clone, Copy, Debug, PartialEq, Eq)]
+pub enum Doing {
+    /// It executes instructions.
+    Ready,
+    /// It takes a message on a channel of the mask into its buffer of `cap` bytes at `base`.
+    Waiting {
+        mask: u32,
+        base: u32,
+        cap: u32,
+    },
+    /// It moves data between an area of the owner's, at `base`, and its own memory, at `own`; `left` bytes are left.
+    Moving {
+        dir: Direction,
+        owner: Pid,
+        base: u32,
+        own: u32,
+        left: u32,
+    },
+}
+
+impl Doing {
+    /// What the lines say of a status: not where the owner is, nor which request is under way.
+    pub fn of(status: Status) -> Doing
+        ensures { result ≡ doing_of status }
+    {
+        match status {
+            Status::Ready => Doing::Ready,
+            Status::Waiting { mask, base, cap } => Doing::Waiting { mask, base, cap },
+            Status::Moving {
+                dir,
+                owner,
+                base,
+                own,
+                left,
+                ..
+            } => Doing::Moving {
+                dir,
+                owner: owner.pid,
+                base,
+                own,
+                left,
+            },
+        }
+    }
 }

@@ -1,8 +1,8 @@
-use crate::{EndLine, Line, write_line, write_lines};
+use crate::{Doing, EndLine, Line, write_line, write_lines};
 use dm_link::Pid;
 use dm_message::{MessageKind, MsgId};
 use dm_onekernel::{Label, Reply, Why};
-use dm_process::Status;
+use dm_process::Direction;
 use dm_regs::Fault;
 use dm_schedule::Step;
 use std::test::Fail;
@@ -35,6 +35,15 @@ fn answer_to(from: Pid) -> MsgId {
 fn writes_each_kind_of_line(rt: HostRuntime) -> Result<(), Fail> {
     let table = [
         (Line::Head(Step::Turn(15)), "turn 15\n"),
+        (Line::Head(Step::Tick(0)), "tick 0\n"),
+        (
+            Line::Head(Step::Deliver { a: 1, b: 0, k: 4 }),
+            "deliver 1 0 4\n",
+        ),
+        (
+            Line::Head(Step::Migrate { pid: FAR, to: 1 }),
+            "migrate 2.3 1\n",
+        ),
         (Line::Idle(2), "idle 2\n"),
         (Line::Queued(first_of(A)), "queued 0.3#0\n"),
         (
@@ -96,6 +105,18 @@ fn writes_each_step_of_the_kernel(rt: HostRuntime) -> Result<(), Fail> {
             "refuse 0.4 0.3#0 6\n",
         ),
         (Label::Dropped { id: answer_to(A) }, "dropped 0.3#0!\n"),
+        (Label::Served { id }, "served 0.3#0\n"),
+        (Label::Gone { id }, "gone 0.3#0\n"),
+        (Label::Took { id }, "took 0.3#0\n"),
+        (Label::Created { id, pid: FAR }, "created 0.3#0 2.3\n"),
+        (
+            Label::NoSpace {
+                id,
+                free_slots: 0,
+                free_blocks: 7,
+            },
+            "nospace 0.3#0 0 7\n",
+        ),
     ];
     for (label, text) in table {
         let mut written = Vec::new(rt.alloc());
@@ -121,7 +142,7 @@ fn writes_each_line_at_the_end(rt: HostRuntime) -> Result<(), Fail> {
             EndLine::Process {
                 pid: A,
                 at: 1,
-                status: Status::Ready,
+                doing: Doing::Ready,
                 stopped: false,
                 sent: 0,
             },
@@ -131,7 +152,7 @@ fn writes_each_line_at_the_end(rt: HostRuntime) -> Result<(), Fail> {
             EndLine::Process {
                 pid: A,
                 at: 1,
-                status: Status::Waiting {
+                doing: Doing::Waiting {
                     mask: 255,
                     base: 64,
                     cap: 8,
@@ -140,6 +161,22 @@ fn writes_each_line_at_the_end(rt: HostRuntime) -> Result<(), Fail> {
                 sent: 3,
             },
             "process 0.3 at 1 here waiting 255 64 8 stopped 3\n",
+        ),
+        (
+            EndLine::Process {
+                pid: A,
+                at: 1,
+                doing: Doing::Moving {
+                    dir: Direction::IntoArea,
+                    owner: FAR,
+                    base: 256,
+                    own: 0,
+                    left: 300,
+                },
+                stopped: false,
+                sent: 4,
+            },
+            "process 0.3 at 1 here moving 1 2.3 256 0 300 go 4\n",
         ),
         (
             EndLine::Server {

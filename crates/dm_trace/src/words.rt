@@ -1,13 +1,13 @@
 //! How the parts of a line print.
 ghost use Rattle.std.specs.Prelude.{Some};
 ghost use Rattle.dm_message.specs.Kinds.{word_of};
-ghost use Rattle.dm_trace.specs.Text.{end_text, go_text, id_text, label_text, pid_text, status_text, step_text, words};
+ghost use Rattle.dm_trace.specs.Text.{dir_text, doing_text, end_text, go_text, id_text, label_text, pid_text, step_text, words};
 
-use crate::line::{EndLine, Line};
+use crate::line::{Doing, EndLine, Line};
 use dm_link::Pid;
 use dm_message::{MessageKind, MsgId};
 use dm_onekernel::Label;
-use dm_process::Status;
+use dm_process::Direction;
 use dm_schedule::Step;
 use std::fmt;
 
@@ -33,7 +33,11 @@ pub struct LabelWords(pub Label);
 
 /// What a process does, as lines name it.
 #[derive(Clone, Copy)]
-pub struct StatusWords(pub Status);
+pub struct DoingWords(pub Doing);
+
+/// Which way a data move goes, as lines name it.
+#[derive(Clone, Copy)]
+pub struct DirectionWord(pub Direction);
 
 /// Whether a process goes on, as lines name it: true of a stopped process.
 #[derive(Clone, Copy)]
@@ -72,6 +76,9 @@ impl fmt::Display for StepWords {
     fn fmt<W: fmt::Write>(&self, f: &mut fmt::Formatter<W>) -> fmt::Result {
         match self.0 {
             Step::Turn(machine) => write!(f, "turn {machine}"),
+            Step::Tick(machine) => write!(f, "tick {machine}"),
+            Step::Deliver { a, b, k } => write!(f, "deliver {a} {b} {k}"),
+            Step::Migrate { pid, to } => write!(f, "migrate {} {to}", PidWord(pid)),
         }
     }
 }
@@ -94,17 +101,47 @@ impl fmt::Display for LabelWords {
                 write!(f, "refuse {} {} {}", PidWord(pid), IdWord(id), reply.code())
             }
             Label::Dropped { id } => write!(f, "dropped {}", IdWord(id)),
+            Label::Served { id } => write!(f, "served {}", IdWord(id)),
+            Label::Gone { id } => write!(f, "gone {}", IdWord(id)),
+            Label::Took { id } => write!(f, "took {}", IdWord(id)),
+            Label::Created { id, pid } => write!(f, "created {} {}", IdWord(id), PidWord(pid)),
+            Label::NoSpace {
+                id,
+                free_slots,
+                free_blocks,
+            } => write!(f, "nospace {} {free_slots} {free_blocks}", IdWord(id)),
         }
     }
 }
 
-impl fmt::Display for StatusWords {
-    ghost output = { λ s. Some (status_text s.0) };
+impl fmt::Display for DirectionWord {
+    ghost output = { λ d. Some (dir_text d.0) };
+
+    fn fmt<W: fmt::Write>(&self, f: &mut fmt::Formatter<W>) -> fmt::Result {
+        f.write_str(match self.0 {
+            Direction::FromArea => "0",
+            Direction::IntoArea => "1",
+        })
+    }
+}
+
+impl fmt::Display for DoingWords {
+    ghost output = { λ d. Some (doing_text d.0) };
 
     fn fmt<W: fmt::Write>(&self, f: &mut fmt::Formatter<W>) -> fmt::Result {
         match self.0 {
-            Status::Ready => f.write_str("ready"),
-            Status::Waiting { mask, base, cap } => write!(f, "waiting {mask} {base} {cap}"),
+            Doing::Ready => f.write_str("ready"),
+            Doing::Waiting { mask, base, cap } => write!(f, "waiting {mask} {base} {cap}"),
+            Doing::Moving {
+                dir,
+                owner,
+                base,
+                own,
+                left,
+            } => {
+                let (dir, owner) = (DirectionWord(dir), PidWord(owner));
+                write!(f, "moving {dir} {owner} {base} {own} {left}")
+            }
         }
     }
 }
@@ -129,12 +166,12 @@ impl fmt::Display for EndLine {
             EndLine::Process {
                 pid,
                 at,
-                status,
+                doing,
                 stopped,
                 sent,
             } => {
-                let (pid, status, go) = (PidWord(pid), StatusWords(status), GoWord(stopped));
-                write!(f, "process {pid} at {at} here {status} {go} {sent}")
+                let (pid, doing, go) = (PidWord(pid), DoingWords(doing), GoWord(stopped));
+                write!(f, "process {pid} at {at} here {doing} {go} {sent}")
             }
             EndLine::Server { pid, sent } => write!(f, "server {} {sent}", PidWord(pid)),
             EndLine::Child { number, pid, at } => {

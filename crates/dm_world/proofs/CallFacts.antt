@@ -34,6 +34,11 @@ abbrev pub Sent : Process → Called → Type 0
 Sent x (called.Sent m) = SentOver x m
 Sent x c = Unit {0}
 
+-- the count of sends goes up by 1 with a message that is sent
+abbrev pub CountsOn : ℕ → ℕ → Called → Type 0
+CountsOn new old (called.Sent m) = new ≡ old + 1
+CountsOn new old c = new ≡ old
+
 -- a slot is as it was, or empty
 abbrev pub SlotLeft : List (Option Link) → List (Option Link) → ℕ → Type 0
 SlotLeft new old j = (link_at new j ≡ link_at old j) ⊎ (link_at new j ≡ None)
@@ -42,7 +47,7 @@ pub record Leaves (x : Process) (d : Done) : Type 0 where
   pub queue : d.process.queue ≡ x.queue
   pub pid : d.process.pid ≡ x.pid
   pub slots : (j : ℕ) → SlotLeft d.process.table x.table j
-  pub sent : d.process.sent ≤ x.sent + 1
+  pub sent : CountsOn d.process.sent x.sent d.called
   pub fits : status_fits d.process.status (length d.process.memory) ≡ true
   pub message : Sent x d.called
 
@@ -61,34 +66,34 @@ fits_ready : (x : Process) → x.status ≡ status.Ready → status_fits x.statu
 fits_ready x e = ap (λ s. status_fits s (length x.memory)) e
 
 sends_over-leaves : (here : ℕ) (x : Process) (l : Link) (long outside : Bool) (slot : ℕ) → x.status ≡ status.Ready → slot ≡ reg x.regs 1 → link_at x.table slot ≡ Some l → Leaves x (sends_over here x l long outside)
-sends_over-leaves here x l true outside slot ready s e = record { queue = refl; pid = refl; slots = λ j. inl refl; sent = omega arith; fits = fits_ready x ready; message = tt }
-sends_over-leaves here x l false true slot ready s e = record { queue = refl; pid = refl; slots = λ j. inl refl; sent = omega arith; fits = fits_ready x ready; message = tt }
+sends_over-leaves here x l true outside slot ready s e = record { queue = refl; pid = refl; slots = λ j. inl refl; sent = refl; fits = fits_ready x ready; message = tt }
+sends_over-leaves here x l false true slot ready s e = record { queue = refl; pid = refl; slots = λ j. inl refl; sent = refl; fits = fits_ready x ready; message = tt }
 sends_over-leaves here x l false false slot ready s e = record {
   queue = refl;
   pid = refl;
   slots = after_send_slots l.kind x.table (reg x.regs 1);
-  sent = omega arith;
+  sent = refl;
   fits = fits_ready x ready;
   message = record { user = refl; named = refl; slot = slot; link = l; has = e; to = refl };
 }
 
 sends-leaves : (f : Format) (here : ℕ) (x : Process) (l : Option Link) → x.status ≡ status.Ready → link_at x.table (reg x.regs 1) ≡ l → Leaves x (sends f here x l)
-sends-leaves f here x None ready e = record { queue = refl; pid = refl; slots = λ j. inl refl; sent = omega arith; fits = fits_ready x ready; message = tt }
+sends-leaves f here x None ready e = record { queue = refl; pid = refl; slots = λ j. inl refl; sent = refl; fits = fits_ready x ready; message = tt }
 sends-leaves f here x (Some l) ready e = sends_over-leaves here x l (send_is_long f x) (send_is_outside x) (reg x.regs 1) ready refl e
 
 within : (a b : ℕ) → nat_lt a b ≡ false → nat_le b a ≡ true
 within a b e = grind (arith, nat_tests)
 
 waits-leaves : (x : Process) (outside : Bool) → x.status ≡ status.Ready → nat_lt (length x.memory) (reg x.regs 2 + reg x.regs 3) ≡ outside → Leaves x (waits x outside)
-waits-leaves x true ready e = record { queue = refl; pid = refl; slots = λ j. inl refl; sent = omega arith; fits = fits_ready x ready; message = tt }
-waits-leaves x false ready e = record { queue = refl; pid = refl; slots = λ j. inl refl; sent = omega arith; fits = within (length x.memory) (reg x.regs 2 + reg x.regs 3) e; message = tt }
+waits-leaves x true ready e = record { queue = refl; pid = refl; slots = λ j. inl refl; sent = refl; fits = fits_ready x ready; message = tt }
+waits-leaves x false ready e = record { queue = refl; pid = refl; slots = λ j. inl refl; sent = refl; fits = within (length x.memory) (reg x.regs 2 + reg x.regs 3) e; message = tt }
 
 call-leaves : (f : Format) (here : ℕ) (x : Process) (c : CallNumber) → x.status ≡ status.Ready → Leaves x (does_call f here x c)
-call-leaves f here x Exit ready = record { queue = refl; pid = refl; slots = λ j. inl refl; sent = omega arith; fits = fits_ready x ready; message = tt }
-call-leaves f here x Out ready = record { queue = refl; pid = refl; slots = λ j. inl refl; sent = omega arith; fits = fits_ready x ready; message = tt }
+call-leaves f here x Exit ready = record { queue = refl; pid = refl; slots = λ j. inl refl; sent = refl; fits = fits_ready x ready; message = tt }
+call-leaves f here x Out ready = record { queue = refl; pid = refl; slots = λ j. inl refl; sent = refl; fits = fits_ready x ready; message = tt }
 call-leaves f here x Send ready = sends-leaves f here x (link_at x.table (reg x.regs 1)) ready refl
 call-leaves f here x Receive ready = waits-leaves x _ ready refl
-call-leaves f here x Unknown ready = record { queue = refl; pid = refl; slots = λ j. inl refl; sent = omega arith; fits = fits_ready x ready; message = tt }
+call-leaves f here x Unknown ready = record { queue = refl; pid = refl; slots = λ j. inl refl; sent = refl; fits = fits_ready x ready; message = tt }
 
 pub calls-leaves : (f : Format) (here : ℕ) (x : Process) (n : ℕ) → x.status ≡ status.Ready → Leaves x (calls f here x n)
 calls-leaves f here x n ready = call-leaves f here x (call_number n) ready

@@ -34,7 +34,7 @@ use Rattle.dm_world.proofs.Mail.{told_bag}
 use Rattle.dm_world.proofs.Once.{one_of}
 use Rattle.dm_world.proofs.Moves.{goes_from_queue, set_queue, stays}
 use Rattle.dm_world.proofs.Frame.{Advances, headed, labelled, after-label}
-use Rattle.dm_world.proofs.Sets.{sets}
+use Rattle.dm_world.proofs.Sets.{counts_still, sets}
 use Rattle.dm_world.proofs.Handles.{is_here, front_gone, off_queue, at_pid_at, at_pid_off, bag_at, bag_off, dropped_step}
 use Rattle.dm_world.proofs.Receives.{life_at, life_off, mail_same, spots_same}
 use Rattle.dm_world.proofs.Executes.{Halts, ran_kernel, ran_point, ran_step, ran_says, at_machine}
@@ -149,13 +149,13 @@ known_ended f p q e = grind (arith, nat_tests)
 known_other : (f : ℕ → Pid → Known) (p q : Pid) → pid_eq p q ≡ false → at_record f 0 p view.Ended 0 q ≡ f 0 q
 known_other f p q e = grind (arith, nat_tests)
 
-pub advance_ended : (b : Boot) (k : ℕ) (n : NodeState) (pt : Point) (p : Pid) (x y : Process) (r : Ran) (before : Machine) (why : Why) → Halts b k n pt p x r before y → y.queue ≡ x.queue
+pub advance_ended : (b : Boot) (n : NodeState) (pt : Point) (p : Pid) (x y : Process) (r : Ran) (before : Machine) (why : Why) → Halts b n pt p x r before y → y.queue ≡ x.queue
     → step (ran_kernel pt.kernel p x before) (label.End p why) ≡ Some (with_process (ran_kernel pt.kernel p x before) p (Life.Ended why))
-    → Advances b k pt (turn.ends (record n { ring = moved_back p n.ring }) p y r.count why)
-advance_ended b k n pt p x y r before why s queue stepped =
+    → Advances b pt (turn.ends (record n { ring = moved_back p n.ring }) p y r.count why)
+advance_ended b n pt p x y r before why s queue stepped =
     let v = s.serves in
     let h = v.stands in
-    let here = is_here b k n pt p x h v.is in
+    let here = is_here b n pt p x h v.is in
     let ran_ : OneKernel = ran_kernel pt.kernel p x before in
     let mid1 : Point = ran_point pt p x r.count before in
     let new : OneKernel = with_process ran_ p (Life.Ended why) in
@@ -170,7 +170,7 @@ advance_ended b k n pt p x y r before why s queue stepped =
     let (next, dropped, left, same) = all_dropped f n.inbox p why y.queue mid begin in
     let outcome : List Line = line.Label (label.Ran p r.count) ∷ line.Label (label.End p why) ∷ turn.drops y.queue in
     let leads : after (headed pt) outcome ≡ Some next =
-    after-label (headed pt) (label.Ran p r.count) (line.Label (label.End p why) ∷ turn.drops y.queue) ran_ (ran_step b k n pt p x r before v s.halted)
+    after-label (headed pt) (label.Ran p r.count) (line.Label (label.End p why) ∷ turn.drops y.queue) ran_ (ran_step b n pt p x r before v s.halted)
     ∙ after-label mid1 (label.End p why) (turn.drops y.queue) new stepped ∙ dropped in
     let drops_are : group.drops (pt.view.queue p) ≡ turn.drops y.queue = ap group.drops here.queue ∙ drops-ids x.queue ∙ ap turn.drops (sym queue) in
     let stop : Stops pt.view p (line.Label (label.End p why) ∷ turn.drops y.queue) =
@@ -181,12 +181,12 @@ advance_ended b k n pt p x y r before why s queue stepped =
       group = record {
         outcome = outcome;
         mid = next;
-        says = ran_says b k n pt p x outcome v (r.count, line.Label (label.End p why) ∷ turn.drops y.queue, refl, inr (s.fewer, stop));
+        says = ran_says b n pt p x outcome v (r.count, line.Label (label.End p why) ∷ turn.drops y.queue, refl, inr (s.fewer, stop));
         takes = leads;
         is = sym (append_nil (line.Head (directive.Turn 0) ∷ outcome)) ∙ ap (λ (is : List MsgId). (line.Head (directive.Turn 0) ∷ outcome) ++ puts next 0 is) (sym (routed-drops y.queue));
         leads = leads;
       };
-      stands = sets b k n pt p (node.Ended why) (without p (moved_back p n.ring)) n.inbox next h (record {
+      stands = sets b n pt p (node.Ended why) (without p (moved_back p n.ring)) n.inbox n.routed next h (record {
         format = same.format;
         life_at = λ q e. same.processes q ∙ life_at ran_ p (Life.Ended why) q e;
         life_off = λ q e. same.processes q ∙ life_off ran_ p (Life.Ended why) q e ∙ life_off pt.kernel p (Alive (at_machine x before)) q e;
@@ -198,8 +198,9 @@ advance_ended b k n pt p x y r before why s queue stepped =
         places = same.places;
         linked = λ j. tt;
         few = refl;
+        more = omega arith;
         fits = refl;
         named = tt;
-        routed = λ o u. let e = same.routes o u in let g = h.routed o u in let z : mid.view.routed o u ≡ pt.view.routed o u = refl in omega arith;
+        routed = counts_still n.routed pt.view.routed next.view.routed same.routes h.routed;
       });
     }

@@ -35,13 +35,13 @@ use Rattle.dm_world.proofs.Runs.{Halted}
 use Rattle.dm_world.proofs.CallFacts.{SlotLeft}
 use Rattle.dm_world.proofs.Moves.{stays}
 use Rattle.dm_world.proofs.Frame.{Advances, headed, labelled, after-label}
-use Rattle.dm_world.proofs.Sets.{sets}
+use Rattle.dm_world.proofs.Sets.{counts_still, sets}
 use Rattle.dm_world.proofs.Handles.{is_here}
 use Rattle.dm_world.proofs.Receives.{served_says, life_at, life_off, mail_same, spots_same}
 
 -- a ready process that is the first that can be served, with what its turn's instructions come to
-pub record Serves (b : Boot) (k : ℕ) (n : NodeState) (pt : Point) (p : Pid) (x : Process) : Type 0 where
-  pub stands : Stands b k n pt
+pub record Serves (b : Boot) (n : NodeState) (pt : Point) (p : Pid) (x : Process) : Type 0 where
+  pub stands : Stands b n pt
   pub empty : n.inbox ≡ []
   pub first : turn.first_runnable n.records n.ring ≡ Some p
   pub is : n.records p ≡ Some (node.Here x)
@@ -65,22 +65,22 @@ ready_is x w stopped e f = ap (λ (v : Status). kernel.if_ready x v stopped) e �
 pub running_is : (s : OneKernel) (p : Pid) (x : PlainProcess) → s.processes p ≡ Some (Alive x) → x.status ≡ status.Ready → x.stopped ≡ false → running s p ≡ Some x
 running_is s p x life e f = ap (λ (l : Option Life). kernel.ready (if_alive l)) life ∙ ready_is x x.status x.stopped e f
 
-pub ran_step : (b : Boot) (k : ℕ) (n : NodeState) (pt : Point) (p : Pid) (x : Process) (r : Ran) (before : Machine) → Serves b k n pt p x → Halted n.quantum (machine_of x) r before
+pub ran_step : (b : Boot) (n : NodeState) (pt : Point) (p : Pid) (x : Process) (r : Ran) (before : Machine) → Serves b n pt p x → Halted n.quantum (machine_of x) r before
     → step pt.kernel (label.Ran p r.count) ≡ Some (ran_kernel pt.kernel p x before)
-ran_step b k n pt p x r before v w =
-    ap (kernel.runs pt.kernel p r.count) (running_is pt.kernel p (plain_process x) ((is_here b k n pt p x v.stands v.is).life p (pid_eq-same p)) v.ready v.goes)
+ran_step b n pt p x r before v w =
+    ap (kernel.runs pt.kernel p r.count) (running_is pt.kernel p (plain_process x) ((is_here b n pt p x v.stands v.is).life p (pid_eq-same p)) v.ready v.goes)
     ∙ ap (kernel.moves_on pt.kernel p (plain_process x)) w.steps
 
 -- after the instructions
 abbrev pub ran_point : Point → Pid → Process → ℕ → Machine → Point
 ran_point pt p x count m = labelled (headed pt) (label.Ran p count) (ran_kernel pt.kernel p x m)
 
-pub ran_says : (b : Boot) (k : ℕ) (n : NodeState) (pt : Point) (p : Pid) (x : Process) (lines : List Line) → Serves b k n pt p x → StatusSays b pt p status.Ready lines → TurnSays b pt 0 (pt.view.inbox 0) lines
-ran_says b k n pt p x lines v says =
-    served_says b k n pt p x lines v.stands v.empty v.first v.is (subst (λ (w : Status). StatusSays b pt p w lines) (sym v.ready) says)
+pub ran_says : (b : Boot) (n : NodeState) (pt : Point) (p : Pid) (x : Process) (lines : List Line) → Serves b n pt p x → StatusSays b pt p status.Ready lines → TurnSays b pt 0 (pt.view.inbox 0) lines
+ran_says b n pt p x lines v says =
+    served_says b n pt p x lines v.stands v.empty v.first v.is (subst (λ (w : Status). StatusSays b pt p w lines) (sym v.ready) says)
 
 -- the process is still there after its turn, as y
-pub record Becomes (b : Boot) (k : ℕ) (n : NodeState) (pt : Point) (p : Pid) (x y : Process) (next : Point) : Type 0 where
+pub record Becomes (b : Boot) (n : NodeState) (pt : Point) (p : Pid) (x y : Process) (next : Point) : Type 0 where
   pub life_is : (q : Pid) → pid_eq p q ≡ true → next.kernel.processes q ≡ Some (Alive (plain_process y))
   pub life_rest : (q : Pid) → pid_eq p q ≡ false → next.kernel.processes q ≡ pt.kernel.processes q
   pub format : next.kernel.format ≡ pt.kernel.format
@@ -90,7 +90,7 @@ pub record Becomes (b : Boot) (k : ℕ) (n : NodeState) (pt : Point) (p : Pid) (
   pub queue : y.queue ≡ x.queue
   pub pid : y.pid ≡ x.pid
   pub slots : (j : ℕ) → SlotLeft y.table x.table j
-  pub sent : y.sent ≤ x.sent + 1
+  pub sent : y.sent ≡ x.sent
   pub fits : turn.status_fits y.status (length y.memory) ≡ true
 
 told_as : (pt next : Point) (i : MsgId) → next.kernel.bag i ≡ pt.kernel.bag i → next.view.put i ≡ pt.view.put i → next.addresses.receiver i ≡ pt.addresses.receiver i → info next i ≡ info pt i
@@ -100,15 +100,15 @@ pub slot_linked : (records : Pid → Option Record) (new old : Option Link) → 
 slot_linked records new old (inl e) h = subst (SlotLinks records) (sym e) h
 slot_linked records new old (inr e) h = subst (SlotLinks records) (sym e) tt
 
-pub few_more : (k s t : ℕ) → nat_le s k ≡ true → t ≤ s + 1 → nat_le t (k + 1) ≡ true
+pub few_more : (k s t : ℕ) → nat_le s k ≡ true → t ≡ s + 1 → nat_le t (k + 1) ≡ true
 few_more k s t e f = grind (arith, nat_tests)
 
-pub becomes : (b : Boot) (k : ℕ) (n : NodeState) (pt : Point) (p : Pid) (x y : Process) (next : Point) → Serves b k n pt p x → Becomes b k n pt p x y next
-    → Stands b (k + 1) (turn.with_here (record n { ring = moved_back p n.ring }) p y) next
-becomes b k n pt p x y next v s =
+pub becomes : (b : Boot) (n : NodeState) (pt : Point) (p : Pid) (x y : Process) (next : Point) → Serves b n pt p x → Becomes b n pt p x y next
+    → Stands b (turn.with_here (record n { ring = moved_back p n.ring }) p y) next
+becomes b n pt p x y next v s =
     let h = v.stands in
-    let here = is_here b k n pt p x h v.is in
-    sets b k n pt p (node.Here y) (moved_back p n.ring) n.inbox next h (record {
+    let here = is_here b n pt p x h v.is in
+    sets b n pt p (node.Here y) (moved_back p n.ring) n.inbox n.routed next h (record {
       format = s.format;
       life_at = s.life_is;
       life_off = s.life_rest;
@@ -122,19 +122,20 @@ becomes b k n pt p x y next v s =
       made = h.made;
       places = λ q j. ap (λ (a : Addresses). a.link q j) s.addresses;
       linked = λ j. slot_linked n.records (link_at y.table j) (link_at x.table j) (s.slots j) (here.linked j);
-      few = few_more k x.sent y.sent here.few s.sent;
+      few = subst (λ (t : ℕ). nat_le t n.routed ≡ true) (sym s.sent) here.few;
+      more = omega arith;
       fits = s.fits;
       named = s.pid ∙ here.named;
-      routed = λ o r. let f = h.routed o r in let g : next.view.routed o r ≡ pt.view.routed o r = ap (λ (w : View). w.routed o r) s.view in omega arith;
+      routed = counts_still n.routed pt.view.routed next.view.routed (λ o r. ap (λ (w : View). w.routed o r) s.view) h.routed;
     })
 
 -- all instructions were plain, as many as the quantum allows
-pub advance_whole : (b : Boot) (k : ℕ) (n : NodeState) (pt : Point) (p : Pid) (x : Process) (r : Ran) (before : Machine) → Serves b k n pt p x → Halted n.quantum (machine_of x) r before
-    → r.halt ≡ None → Advances b k pt (turn.halts (record n { ring = moved_back p n.ring }) p (with_machine x r.machine) r.count None)
-advance_whole b k n pt p x r before v w none =
+pub advance_whole : (b : Boot) (n : NodeState) (pt : Point) (p : Pid) (x : Process) (r : Ran) (before : Machine) → Serves b n pt p x → Halted n.quantum (machine_of x) r before
+    → r.halt ≡ None → Advances b pt (turn.halts (record n { ring = moved_back p n.ring }) p (with_machine x r.machine) r.count None)
+advance_whole b n pt p x r before v w none =
     let whole = w.whole none in
     let next : Point = ran_point pt p x r.count before in
-    let leads : after (headed pt) (line.Label (label.Ran p r.count) ∷ []) ≡ Some next = after-label (headed pt) (label.Ran p r.count) [] (ran_kernel pt.kernel p x before) (ran_step b k n pt p x r before v w) in
+    let leads : after (headed pt) (line.Label (label.Ran p r.count) ∷ []) ≡ Some next = after-label (headed pt) (label.Ran p r.count) [] (ran_kernel pt.kernel p x before) (ran_step b n pt p x r before v w) in
     let same : Some (Alive (at_machine x before)) ≡ Some (Alive (plain_process (with_machine x r.machine))) = ap (λ (m : Machine). Some (Alive (at_machine x m))) (sym whole.1) in
     record {
       next = next;
@@ -142,12 +143,12 @@ advance_whole b k n pt p x r before v w none =
       group = record {
         outcome = line.Label (label.Ran p r.count) ∷ [];
         mid = next;
-        says = ran_says b k n pt p x (line.Label (label.Ran p r.count) ∷ []) v (r.count, [], refl, inl (whole.0 ∙ v.stands.quantum, refl));
+        says = ran_says b n pt p x (line.Label (label.Ran p r.count) ∷ []) v (r.count, [], refl, inl (whole.0 ∙ v.stands.quantum, refl));
         takes = leads;
         is = refl;
         leads = leads;
       };
-      stands = becomes b k n pt p x (with_machine x r.machine) next v (record {
+      stands = becomes b n pt p x (with_machine x r.machine) next v (record {
         life_is = λ q e. life_at pt.kernel p (Alive (at_machine x before)) q e ∙ same;
         life_rest = life_off pt.kernel p (Alive (at_machine x before));
         format = refl;
@@ -157,14 +158,14 @@ advance_whole b k n pt p x r before v w none =
         queue = refl;
         pid = refl;
         slots = λ j. inl refl;
-        sent = omega arith;
+        sent = refl;
         fits = ap (λ (s : Status). turn.status_fits s (length r.machine.bytes)) v.ready;
       });
     }
 
 -- what stops the process before the quantum is used up
-pub record Halts (b : Boot) (k : ℕ) (n : NodeState) (pt : Point) (p : Pid) (x : Process) (r : Ran) (before : Machine) (y : Process) : Type 0 where
-  pub serves : Serves b k n pt p x
+pub record Halts (b : Boot) (n : NodeState) (pt : Point) (p : Pid) (x : Process) (r : Ran) (before : Machine) (y : Process) : Type 0 where
+  pub serves : Serves b n pt p x
   pub halted : Halted n.quantum (machine_of x) r before
   pub fewer : r.count < b.quantum
 
@@ -175,17 +176,17 @@ pub record Quiet (l : Label) (p : Pid) : Type 0 where
   pub sends : routed (line.Label l ∷ []) ≡ []
   pub stop : (v : View) → Stops v p (line.Label l ∷ [])
 
-pub advance_quiet : (b : Boot) (k : ℕ) (n : NodeState) (pt : Point) (p : Pid) (x y : Process) (r : Ran) (before : Machine) (l : Label) → Halts b k n pt p x r before y → Quiet l p
+pub advance_quiet : (b : Boot) (n : NodeState) (pt : Point) (p : Pid) (x y : Process) (r : Ran) (before : Machine) (l : Label) → Halts b n pt p x r before y → Quiet l p
     → step (ran_kernel pt.kernel p x before) l ≡ Some (with_process (ran_kernel pt.kernel p x before) p (Alive (plain_process y)))
-    → y.queue ≡ x.queue → y.pid ≡ x.pid → ((j : ℕ) → SlotLeft y.table x.table j) → y.sent ≤ x.sent + 1 → turn.status_fits y.status (length y.memory) ≡ true
-    → Advances b k pt (record { state = turn.with_here (record n { ring = moved_back p n.ring }) p y; lines = line.Label (label.Ran p r.count) ∷ line.Label l ∷ [] })
-advance_quiet b k n pt p x y r before l s t stepped queue pid slots sent fits =
+    → y.queue ≡ x.queue → y.pid ≡ x.pid → ((j : ℕ) → SlotLeft y.table x.table j) → y.sent ≡ x.sent → turn.status_fits y.status (length y.memory) ≡ true
+    → Advances b pt (record { state = turn.with_here (record n { ring = moved_back p n.ring }) p y; lines = line.Label (label.Ran p r.count) ∷ line.Label l ∷ [] })
+advance_quiet b n pt p x y r before l s t stepped queue pid slots sent fits =
     let v = s.serves in
     let mid : Point = ran_point pt p x r.count before in
     let new : OneKernel = with_process (ran_kernel pt.kernel p x before) p (Alive (plain_process y)) in
     let next : Point = labelled mid l new in
     let leads : after (headed pt) (line.Label (label.Ran p r.count) ∷ line.Label l ∷ []) ≡ Some next =
-    after-label (headed pt) (label.Ran p r.count) (line.Label l ∷ []) (ran_kernel pt.kernel p x before) (ran_step b k n pt p x r before v s.halted)
+    after-label (headed pt) (label.Ran p r.count) (line.Label l ∷ []) (ran_kernel pt.kernel p x before) (ran_step b n pt p x r before v s.halted)
     ∙ after-label mid l [] new stepped in
     record {
       next = next;
@@ -193,12 +194,12 @@ advance_quiet b k n pt p x y r before l s t stepped queue pid slots sent fits =
       group = record {
         outcome = line.Label (label.Ran p r.count) ∷ line.Label l ∷ [];
         mid = next;
-        says = ran_says b k n pt p x (line.Label (label.Ran p r.count) ∷ line.Label l ∷ []) v (r.count, line.Label l ∷ [], refl, inr (s.fewer, t.stop pt.view));
+        says = ran_says b n pt p x (line.Label (label.Ran p r.count) ∷ line.Label l ∷ []) v (r.count, line.Label l ∷ [], refl, inr (s.fewer, t.stop pt.view));
         takes = leads;
         is = ap (λ (is : List MsgId). line.Head (directive.Turn 0) ∷ line.Label (label.Ran p r.count) ∷ line.Label l ∷ puts next 0 is) (sym t.sends);
         leads = leads;
       };
-      stands = becomes b k n pt p x y next v (record {
+      stands = becomes b n pt p x y next v (record {
         life_is = life_at (ran_kernel pt.kernel p x before) p (Alive (plain_process y));
         life_rest = λ q apart. life_off (ran_kernel pt.kernel p x before) p (Alive (plain_process y)) q apart ∙ life_off pt.kernel p (Alive (at_machine x before)) q apart;
         format = refl;

@@ -1,5 +1,5 @@
 -- What a turn leaves as it was.
-use Rattle.std.proofs.Common.{◌≡◌, ℕ, ◌+◌, Bool, true, false, not, ◌&&◌, List, [], ◌∷◌, refl, ap, ◌∙◌, sym, arith, subst, is_some, option_map, inl, inr}
+use Rattle.std.proofs.Common.{◌≡◌, ℕ, ◌+◌, ◌≤◌, Bool, true, false, not, ◌&&◌, List, [], ◌∷◌, refl, ap, ◌∙◌, sym, arith, subst, is_some, option_map, inl, inr}
 use Rattle.std.proofs.lemmas.Bool.{cases_Bool}
 use Rattle.std.proofs.lemmas.Bool.Decides.{nat_tests}
 use Rattle.std.specs.declared.option.Option.{Option}
@@ -45,10 +45,10 @@ pub record Constant (pt next : Point) : Type 0 where
   pub groups : next.view.groups ≡ pt.view.groups + 1
 
 -- a turn's lines are a group that leads to where the machine stands after it
-pub record Advances (b : Boot) (k : ℕ) (pt : Point) (t : Turned) : Type 0 where
+pub record Advances (b : Boot) (pt : Point) (t : Turned) : Type 0 where
   pub next : Point
   pub group : IsGroup b pt (directive.Turn 0) (line.Head (directive.Turn 0) ∷ t.lines) next
-  pub stands : Stands b (k + 1) t.state next
+  pub stands : Stands b t.state next
   pub constant : Constant pt next
 
 -- after the head of a turn of machine 0
@@ -78,10 +78,10 @@ set_holds P records p entry at all q = elim (cases_Bool (pid_eq p q)) [
   | inr apart ↦ subst (P q) (let e : records q ≡ with_record records p entry q = grind (arith, nat_tests) in e) (all q)
 ]
 
-pub at_most_more : (k : ℕ) (l : Option Life) → at_most k l ≡ true → at_most (k + 1) l ≡ true
-at_most_more k None e = refl
-at_most_more k (Some (Alive x)) e = grind (arith, nat_tests)
-at_most_more k (Some (Life.Ended y)) e = refl
+pub at_most_more : (k j : ℕ) (l : Option Life) → k ≤ j → at_most k l ≡ true → at_most j l ≡ true
+at_most_more k j None h e = refl
+at_most_more k j (Some (Alive x)) h e = grind (arith, nat_tests)
+at_most_more k j (Some (Life.Ended y)) h e = refl
 
 -- the machine and the group rule agree on which processes can be served
 is_some-map : {X Y : Type 0} (f : X → Y) (o : Option X) → is_some (option_map f o) ≡ is_some o
@@ -93,6 +93,7 @@ goes_on_same : (pt : Point) (x : Process) (s : Status) (queue : List MsgId) → 
 goes_on_same pt x status.Ready queue e t = refl
 goes_on_same pt x (status.Waiting mask base cap) queue e t =
     ap (λ (l : List MsgId). is_some (group.first_awaited pt.kernel mask l)) e ∙ ap is_some (first_awaited-ids pt mask x.queue t) ∙ is_some-map (λ (m : Message). m.id) (first_on mask x.queue)
+goes_on_same pt x (status.Moving dir owner base own left pending) queue e t = refl
 
 runnable_record : (pt : Point) (r : Option Record) (queue : List MsgId) → queue ≡ ids (queue_of r) → AllTold pt (queue_of r)
     → process_is_runnable pt.kernel queue (if_alive (life_of r)) ≡ record_is_runnable r
@@ -100,8 +101,8 @@ runnable_record pt None queue e t = refl
 runnable_record pt (Some (node.Here x)) queue e t = ap (λ (c : Bool). not x.stopped && c) (goes_on_same pt x x.status queue e t)
 runnable_record pt (Some (node.Ended y)) queue e t = refl
 
-pub runnable_same : (b : Boot) (k : ℕ) (n : NodeState) (pt : Point) → Stands b k n pt → (p : Pid) → is_runnable pt p ≡ record_is_runnable (n.records p)
-runnable_same b k n pt h p =
+pub runnable_same : (b : Boot) (n : NodeState) (pt : Point) → Stands b n pt → (p : Pid) → is_runnable pt p ≡ record_is_runnable (n.records p)
+runnable_same b n pt h p =
     ap (λ (l : Option Life). process_is_runnable pt.kernel (pt.view.queue p) (if_alive l)) (h.mirrors.processes p)
     ∙ runnable_record pt (n.records p) (pt.view.queue p) (h.mail.queue p) (h.mail.queue_told p)
 
@@ -109,8 +110,8 @@ ring_same : (pt : Point) (records : Pid → Option Record) (ring : List Pid) →
 ring_same pt records [] e = refl
 ring_same pt records (p ∷ ps) e = let h = e p in grind (arith, nat_tests, ring_same pt records ps e)
 
-pub first_runnable_same : (b : Boot) (k : ℕ) (n : NodeState) (pt : Point) → Stands b k n pt → group.first_runnable pt (pt.view.ring 0) ≡ turn.first_runnable n.records n.ring
-first_runnable_same b k n pt h = ap (group.first_runnable pt) h.mirrors.ring ∙ ring_same pt n.records n.ring (runnable_same b k n pt h)
+pub first_runnable_same : (b : Boot) (n : NodeState) (pt : Point) → Stands b n pt → group.first_runnable pt (pt.view.ring 0) ≡ turn.first_runnable n.records n.ring
+first_runnable_same b n pt h = ap (group.first_runnable pt) h.mirrors.ring ∙ ring_same pt n.records n.ring (runnable_same b n pt h)
 
 pub first_runnable-is : (records : Pid → Option Record) (ring : List Pid) (p : Pid) → turn.first_runnable records ring ≡ Some p → record_is_runnable (records p) ≡ true
 first_runnable-is records [] p e = cc

@@ -37,7 +37,7 @@ use Rattle.dm_world.specs.Stands.{Info, is_user, IsTold, AllTold, AllFor, ids, l
 use Rattle.dm_onemachine.proofs.Equal.{pid_eq-is, pid_eq-same, id_eq-same}
 use Rattle.dm_world.proofs.Mail.{told_bag}
 use Rattle.dm_world.proofs.Moves.{goes_to_queue, goes_from_inbox, set_queue, plain_user}
-use Rattle.dm_world.proofs.Frame.{Advances, headed, labelled, after-label, at_most_more}
+use Rattle.dm_world.proofs.Frame.{Advances, headed, labelled, after-label}
 use Rattle.dm_world.proofs.Sets.{sets, keeps}
 
 user_kind : (w : What) → is_user w ≡ true → kind_of w ≡ kind.User
@@ -52,14 +52,14 @@ pub at_machine_off : {X : Type 0} (f : ℕ → X) (m : ℕ) (x : X) (n : ℕ) �
 at_machine_off f m x n e = grind (arith, nat_tests)
 
 -- what the front of the inbox is told to be
-pub front_told : (b : Boot) (k : ℕ) (n : NodeState) (pt : Point) (m : Message) (rest : List Message) → Stands b k n pt → n.inbox ≡ m ∷ rest → IsTold pt m
-front_told b k n pt m rest h front = (let t : AllTold pt (m ∷ rest) = subst (AllTold pt) front h.mail.told in t).0
+pub front_told : (b : Boot) (n : NodeState) (pt : Point) (m : Message) (rest : List Message) → Stands b n pt → n.inbox ≡ m ∷ rest → IsTold pt m
+front_told b n pt m rest h front = (let t : AllTold pt (m ∷ rest) = subst (AllTold pt) front h.mail.told in t).0
 
 -- the group rule asks for this of a message whose receiver is known so
-pub front_says : (b : Boot) (k : ℕ) (n : NodeState) (pt : Point) (m : Message) (rest : List Message) (known : Known) (lines : List Line) → Stands b k n pt → n.inbox ≡ m ∷ rest
+pub front_says : (b : Boot) (n : NodeState) (pt : Point) (m : Message) (rest : List Message) (known : Known) (lines : List Line) → Stands b n pt → n.inbox ≡ m ∷ rest
     → pt.view.known 0 m.to.pid ≡ known → KnownSays m.id (record { kind = kind.User; receiver = m.to.pid }) known lines → TurnSays b pt 0 (pt.view.inbox 0) lines
-front_says b k n pt m rest known lines h front is says =
-    let told = front_told b k n pt m rest h front in
+front_says b n pt m rest known lines h front is says =
+    let told = front_told b n pt m rest h front in
     let put : pt.view.put m.id ≡ Some (record { kind = kind.User; receiver = m.to.pid }) =
     ap (λ (i : Info). i.put) told.is ∙ ap (λ (w : MessageKind). Some (record { kind = w; receiver = m.to.pid })) (user_kind m.what told.user) in
     subst (λ (l : List MsgId). TurnSays b pt 0 l lines) (sym (h.mail.inbox ∙ ap ids front))
@@ -131,7 +131,7 @@ pub at_pid_off : {X : Type 0} (f : Pid → X) (p : Pid) (x : X) (q : Pid) → pi
 at_pid_off f p x q e = grind (arith, nat_tests)
 
 -- what is known of a process that is here
-pub record IsHere (b : Boot) (k : ℕ) (n : NodeState) (pt : Point) (p : Pid) (x : Process) : Type 0 where
+pub record IsHere (b : Boot) (n : NodeState) (pt : Point) (p : Pid) (x : Process) : Type 0 where
   pub records : (q : Pid) → pid_eq p q ≡ true → n.records q ≡ Some (node.Here x)
   pub life : (q : Pid) → pid_eq p q ≡ true → pt.kernel.processes q ≡ Some (Alive (plain_process x))
   pub known : (q : Pid) → pid_eq p q ≡ true → pt.view.known 0 q ≡ Here
@@ -139,12 +139,12 @@ pub record IsHere (b : Boot) (k : ℕ) (n : NodeState) (pt : Point) (p : Pid) (x
   pub told : AllTold pt x.queue
   pub mine : AllFor p x.queue
   pub linked : (j : ℕ) → SlotLinks n.records (link_at x.table j)
-  pub few : nat_le x.sent k ≡ true
+  pub few : nat_le x.sent n.routed ≡ true
   pub fits : status_fits x.status (length x.memory) ≡ true
   pub named : x.pid ≡ p
 
-pub is_here : (b : Boot) (k : ℕ) (n : NodeState) (pt : Point) (p : Pid) (x : Process) → Stands b k n pt → n.records p ≡ Some (node.Here x) → IsHere b k n pt p x
-is_here b k n pt p x h is = record {
+pub is_here : (b : Boot) (n : NodeState) (pt : Point) (p : Pid) (x : Process) → Stands b n pt → n.records p ≡ Some (node.Here x) → IsHere b n pt p x
+is_here b n pt p x h is = record {
   records = λ q same. ap n.records (sym (pid_eq-is p q same)) ∙ is;
   life = λ q same. h.mirrors.processes q ∙ ap life_of (ap n.records (sym (pid_eq-is p q same)) ∙ is);
   known = λ q same. h.mirrors.known q ∙ ap known_of (ap n.records (sym (pid_eq-is p q same)) ∙ is);
@@ -152,18 +152,18 @@ is_here b k n pt p x h is = record {
   told = subst (λ (r : Option Record). AllTold pt (queue_of r)) is (h.mail.queue_told p);
   mine = subst (λ (r : Option Record). AllFor p (queue_of r)) is (h.mail.mine p);
   linked = λ j. subst (λ (r : Option Record). SlotLinks n.records (link_at (table_of r) j)) is (h.links.linked p j);
-  few = subst (λ (l : Option Life). at_most k l ≡ true) (h.mirrors.processes p ∙ ap life_of is) (h.few p);
+  few = subst (λ (l : Option Life). at_most n.routed l ≡ true) (h.mirrors.processes p ∙ ap life_of is) (h.few p);
   fits = subst (λ (r : Option Record). buffer_fits r ≡ true) is (h.fits p);
   named = subst (IsNamed p) is (h.mirrors.named p);
 }
 
 -- it goes into the queue of a process that is here
-pub advance_queued : (b : Boot) (k : ℕ) (n : NodeState) (pt : Point) (m : Message) (rest : List Message) (x : Process) → Stands b k n pt → n.inbox ≡ m ∷ rest
-    → n.records m.to.pid ≡ Some (node.Here x) → Advances b k pt (handles (record n { inbox = rest }) m (Some (node.Here x)))
-advance_queued b k n pt m rest x h front is =
+pub advance_queued : (b : Boot) (n : NodeState) (pt : Point) (m : Message) (rest : List Message) (x : Process) → Stands b n pt → n.inbox ≡ m ∷ rest
+    → n.records m.to.pid ≡ Some (node.Here x) → Advances b pt (handles (record n { inbox = rest }) m (Some (node.Here x)))
+advance_queued b n pt m rest x h front is =
     let p : Pid = m.to.pid in
-    let here = is_here b k n pt p x h is in
-    let told = front_told b k n pt m rest h front in
+    let here = is_here b n pt p x h is in
+    let told = front_told b n pt m rest h front in
     let next : Point = record (headed pt) { view = view_after (headed pt).view (line.Queued m.id) } in
     let receiver : receiver_of (pt.view.put m.id) ≡ Some p = ap receiver_of (ap (λ (i : Info). i.put) told.is) in
     let inbox : pt.view.inbox 0 ≡ m.id ∷ ids rest = h.mail.inbox ∙ ap ids front in
@@ -175,12 +175,12 @@ advance_queued b k n pt m rest x h front is =
       group = record {
         outcome = line.Queued m.id ∷ [];
         mid = next;
-        says = front_says b k n pt m rest Here (line.Queued m.id ∷ []) h front (h.mirrors.known p ∙ ap known_of is) refl;
+        says = front_says b n pt m rest Here (line.Queued m.id ∷ []) h front (h.mirrors.known p ∙ ap known_of is) refl;
         takes = refl;
         is = refl;
         leads = refl;
       };
-      stands = sets b k n pt p (node.Here (queued x m)) n.ring rest next h (record {
+      stands = sets b n pt p (node.Here (queued x m)) n.ring rest n.routed next h (record {
         format = refl;
         life_at = here.life;
         life_off = λ q apart. refl;
@@ -195,19 +195,20 @@ advance_queued b k n pt m rest x h front is =
         made = (let t : AllMade n.records (m ∷ rest) = subst (AllMade n.records) front h.made in t).1;
         places = λ q j. refl;
         linked = here.linked;
-        few = at_most_more k (Some (Alive (plain_process x))) here.few;
+        few = here.few;
+        more = omega arith;
         fits = here.fits;
         named = here.named;
-        routed = λ o r. let f = h.routed o r in omega arith;
+        routed = h.routed;
       });
     }
 
 -- it goes where its receiver has ended
-pub advance_dropped : (b : Boot) (k : ℕ) (n : NodeState) (pt : Point) (m : Message) (rest : List Message) (y : Why) → Stands b k n pt → n.inbox ≡ m ∷ rest
-    → n.records m.to.pid ≡ Some (node.Ended y) → Advances b k pt (handles (record n { inbox = rest }) m (Some (node.Ended y)))
-advance_dropped b k n pt m rest y h front is =
+pub advance_dropped : (b : Boot) (n : NodeState) (pt : Point) (m : Message) (rest : List Message) (y : Why) → Stands b n pt → n.inbox ≡ m ∷ rest
+    → n.records m.to.pid ≡ Some (node.Ended y) → Advances b pt (handles (record n { inbox = rest }) m (Some (node.Ended y)))
+advance_dropped b n pt m rest y h front is =
     let p : Pid = m.to.pid in
-    let told = front_told b k n pt m rest h front in
+    let told = front_told b n pt m rest h front in
     let pm = plain_user m m.what told.user in
     let bag : pt.kernel.bag m.id ≡ Some pm.0 = told_bag pt m told ∙ pm.1 in
     let life : pt.kernel.processes p ≡ Some (Life.Ended y) = h.mirrors.processes p ∙ ap life_of is in
@@ -226,12 +227,12 @@ advance_dropped b k n pt m rest y h front is =
       group = record {
         outcome = line.Label (label.Dropped m.id) ∷ [];
         mid = next;
-        says = front_says b k n pt m rest Ended (line.Label (label.Dropped m.id) ∷ []) h front (h.mirrors.known p ∙ ap known_of is) refl;
+        says = front_says b n pt m rest Ended (line.Label (label.Dropped m.id) ∷ []) h front (h.mirrors.known p ∙ ap known_of is) refl;
         takes = leads;
         is = refl;
         leads = leads;
       };
-      stands = keeps b k n pt rest next h refl (λ q. refl) (λ q. refl) refl
+      stands = keeps b n pt rest next h refl (λ q. refl) (λ q. refl) refl
           (goes_from_inbox (record { inbox = n.inbox; queue = λ q. queue_of (n.records q) }) pt next m rest h.mail front
           (bag_gone pt.kernel m.id)
           (λ i apart. ap (λ (o : Option PlainMessage). record { message = o; put = pt.view.put i; place = pt.addresses.receiver i }) (bag_off pt.kernel m.id None i apart))

@@ -13,6 +13,7 @@ pub mod Executes
 pub mod Sends
 pub mod Ends
 pub mod Turns
+pub mod Routes
 pub mod Replays
 pub mod Opening
 pub mod LastLines

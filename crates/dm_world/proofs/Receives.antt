@@ -43,7 +43,7 @@ use Rattle.dm_onemachine.proofs.Equal.{pid_eq-is, pid_eq-same}
 use Rattle.dm_world.proofs.Mail.{told_bag, told_first, for_first, told_without, for_without, first_on-is_on, first_on-cons, ids-without, first_awaited-ids}
 use Rattle.dm_world.proofs.Once.{one_of}
 use Rattle.dm_world.proofs.Moves.{goes_from_queue, set_queue, stays}
-use Rattle.dm_world.proofs.Frame.{Advances, headed, labelled, after-label, at_most_more, first_runnable_same}
+use Rattle.dm_world.proofs.Frame.{Advances, headed, labelled, after-label, first_runnable_same}
 use Rattle.dm_world.proofs.Sets.{sets}
 use Rattle.dm_world.proofs.Handles.{is_here, off_queue, at_pid_at, at_pid_off, bag_at, bag_off}
 
@@ -55,12 +55,12 @@ pub life_off : (s : OneKernel) (p : Pid) (life : Life) (q : Pid) → pid_eq p q 
 life_off s p life q e = grind (arith, nat_tests)
 
 -- the group rule asks for this of the process that is served
-pub served_says : (b : Boot) (k : ℕ) (n : NodeState) (pt : Point) (p : Pid) (x : Process) (lines : List Line) → Stands b k n pt → n.inbox ≡ [] → turn.first_runnable n.records n.ring ≡ Some p
+pub served_says : (b : Boot) (n : NodeState) (pt : Point) (p : Pid) (x : Process) (lines : List Line) → Stands b n pt → n.inbox ≡ [] → turn.first_runnable n.records n.ring ≡ Some p
     → n.records p ≡ Some (node.Here x) → StatusSays b pt p x.status lines → TurnSays b pt 0 (pt.view.inbox 0) lines
-served_says b k n pt p x lines h none first is says =
+served_says b n pt p x lines h none first is says =
     subst (λ (l : List MsgId). TurnSays b pt 0 l lines) (sym (h.mail.inbox ∙ ap ids none))
-    (subst (λ (o : Option Pid). RingSays b pt 0 o lines) (sym (first_runnable_same b k n pt h ∙ first))
-    (subst (λ (l : Option Life). ServedSays b pt p (if_alive l) lines) (sym ((is_here b k n pt p x h is).life p (pid_eq-same p))) says))
+    (subst (λ (o : Option Pid). RingSays b pt 0 o lines) (sym (first_runnable_same b n pt h ∙ first))
+    (subst (λ (l : Option Life). ServedSays b pt p (if_alive l) lines) (sym ((is_here b n pt p x h is).life p (pid_eq-same p))) says))
 
 -- a queue that stays as it was
 set_queue_same : (f : Pid → List Message) (p : Pid) (ms : List Message) → f p ≡ ms → (q : Pid) → f q ≡ set_queue f p ms q
@@ -110,8 +110,8 @@ spots_same v w (Inbox m) e f g = f m
 spots_same v w (Untaken a c) e f g = g a c
 
 -- the process, the first message that it waits for, and what that says
-pub record Awaits (b : Boot) (k : ℕ) (n : NodeState) (pt : Point) (p : Pid) (x : Process) (mask base cap : ℕ) (m : Message) (code channel : ℕ) (body : ArrayVec ℕ) (links : ArrayVec Link) : Type 0 where
-  pub stands : Stands b k n pt
+pub record Awaits (b : Boot) (n : NodeState) (pt : Point) (p : Pid) (x : Process) (mask base cap : ℕ) (m : Message) (code channel : ℕ) (body : ArrayVec ℕ) (links : ArrayVec Link) : Type 0 where
+  pub stands : Stands b n pt
   pub empty : n.inbox ≡ []
   pub first : turn.first_runnable n.records n.ring ≡ Some p
   pub is : n.records p ≡ Some (node.Here x)
@@ -120,11 +120,11 @@ pub record Awaits (b : Boot) (k : ℕ) (n : NodeState) (pt : Point) (p : Pid) (x
   pub message : first_on mask x.queue ≡ Some m
   pub what_is : m.what ≡ what.User code channel body links
 
-completes_as : (b : Boot) (k : ℕ) (n : NodeState) (pt : Point) (p : Pid) (x : Process) (mask base cap : ℕ) (m : Message) (code channel : ℕ) (body : ArrayVec ℕ) (links : ArrayVec Link)
-    → Awaits b k n pt p x mask base cap m code channel body links
+completes_as : (b : Boot) (n : NodeState) (pt : Point) (p : Pid) (x : Process) (mask base cap : ℕ) (m : Message) (code channel : ℕ) (body : ArrayVec ℕ) (links : ArrayVec Link)
+    → Awaits b n pt p x mask base cap m code channel body links
     → kernel.completing pt.kernel p m.id ≡ Some (calls.completes (plain_process x) base cap code channel body.items)
-completes_as b k n pt p x mask base cap m code channel body links a =
-    let here = is_here b k n pt p x a.stands a.is in
+completes_as b n pt p x mask base cap m code channel body links a =
+    let here = is_here b n pt p x a.stands a.is in
     let told : IsTold pt m = told_first pt mask x.queue m here.told a.message in
     let pm : PlainMessage = record { id = m.id; to = m.to.pid; sender = m.sender.pid; what = PlainWhat.User code channel body.items (map plain_link links.items) } in
     let bag : pt.kernel.bag m.id ≡ Some pm = told_bag pt m told ∙ ap (λ (w : What). with_what m (plain_what w)) a.what_is in
@@ -134,25 +134,25 @@ completes_as b k n pt p x mask base cap m code channel body links a =
     ∙ ap (kernel.completing_of p (Some (plain_process x))) bag
     ∙ completing_parts (plain_process x) p pm mask base cap code channel body.items (map plain_link links.items) x.status x.stopped a.status_is a.goes refl to on
 
-says_of : (b : Boot) (k : ℕ) (n : NodeState) (pt : Point) (p : Pid) (x : Process) (mask base cap : ℕ) (m : Message) (code channel : ℕ) (body : ArrayVec ℕ) (links : ArrayVec Link) (lines : List Line)
-    → Awaits b k n pt p x mask base cap m code channel body links → AwaitedSays p (Some m.id) lines → TurnSays b pt 0 (pt.view.inbox 0) lines
-says_of b k n pt p x mask base cap m code channel body links lines a says =
-    let here = is_here b k n pt p x a.stands a.is in
+says_of : (b : Boot) (n : NodeState) (pt : Point) (p : Pid) (x : Process) (mask base cap : ℕ) (m : Message) (code channel : ℕ) (body : ArrayVec ℕ) (links : ArrayVec Link) (lines : List Line)
+    → Awaits b n pt p x mask base cap m code channel body links → AwaitedSays p (Some m.id) lines → TurnSays b pt 0 (pt.view.inbox 0) lines
+says_of b n pt p x mask base cap m code channel body links lines a says =
+    let here = is_here b n pt p x a.stands a.is in
     let first : group.first_awaited pt.kernel mask (pt.view.queue p) ≡ Some m.id =
     ap (group.first_awaited pt.kernel mask) here.queue ∙ first_awaited-ids pt mask x.queue here.told ∙ ap (option_map (λ (y : Message). y.id)) a.message in
-    served_says b k n pt p x lines a.stands a.empty a.first a.is
+    served_says b n pt p x lines a.stands a.empty a.first a.is
     (subst (λ (w : Status). StatusSays b pt p w lines) (sym a.status_is) (subst (λ (o : Option MsgId). AwaitedSays p o lines) (sym first) says))
 
-pub advance_received : (b : Boot) (k : ℕ) (n : NodeState) (pt : Point) (p : Pid) (x : Process) (mask base cap : ℕ) (m : Message) (code channel : ℕ) (body : ArrayVec ℕ) (links : ArrayVec Link)
-    → Awaits b k n pt p x mask base cap m code channel body links → nat_lt cap (length body.items) ≡ false
-    → Advances b k pt (turn.takes_body (record n { ring = moved_back p n.ring }) p x m mask base code channel body.items false)
-advance_received b k n pt p x mask base cap m code channel body links a short =
+pub advance_received : (b : Boot) (n : NodeState) (pt : Point) (p : Pid) (x : Process) (mask base cap : ℕ) (m : Message) (code channel : ℕ) (body : ArrayVec ℕ) (links : ArrayVec Link)
+    → Awaits b n pt p x mask base cap m code channel body links → nat_lt cap (length body.items) ≡ false
+    → Advances b pt (turn.takes_body (record n { ring = moved_back p n.ring }) p x m mask base code channel body.items false)
+advance_received b n pt p x mask base cap m code channel body links a short =
     let h = a.stands in
-    let here = is_here b k n pt p x h a.is in
+    let here = is_here b n pt p x h a.is in
     let after_it : PlainProcess = calls.receives (plain_process x) base code channel body.items in
     let new : OneKernel = with_message (with_process pt.kernel p (Alive after_it)) m.id None in
     let completes : kernel.completing pt.kernel p m.id ≡ Some (calls.Receives after_it) =
-    completes_as b k n pt p x mask base cap m code channel body links a ∙ ap (λ (v : Bool). Some (calls.completes_with (plain_process x) base code channel body.items v)) short in
+    completes_as b n pt p x mask base cap m code channel body links a ∙ ap (λ (v : Bool). Some (calls.completes_with (plain_process x) base code channel body.items v)) short in
     let stepped : step pt.kernel (label.Receive p m.id) ≡ Some new = ap (kernel.receives pt.kernel p m.id) completes in
     let next : Point = labelled (headed pt) (label.Receive p m.id) new in
     let leads : after (headed pt) (line.Label (label.Receive p m.id) ∷ []) ≡ Some next = after-label (headed pt) (label.Receive p m.id) [] new stepped in
@@ -163,12 +163,12 @@ advance_received b k n pt p x mask base cap m code channel body links a short =
       group = record {
         outcome = line.Label (label.Receive p m.id) ∷ [];
         mid = next;
-        says = says_of b k n pt p x mask base cap m code channel body links (line.Label (label.Receive p m.id) ∷ []) a (inl refl);
+        says = says_of b n pt p x mask base cap m code channel body links (line.Label (label.Receive p m.id) ∷ []) a (inl refl);
         takes = leads;
         is = refl;
         leads = leads;
       };
-      stands = sets b k n pt p (node.Here (turn.received x mask base code channel body.items)) (moved_back p n.ring) n.inbox next h (record {
+      stands = sets b n pt p (node.Here (turn.received x mask base code channel body.items)) (moved_back p n.ring) n.inbox n.routed next h (record {
         format = refl;
         life_at = life_at pt.kernel p (Alive after_it);
         life_off = life_off pt.kernel p (Alive after_it);
@@ -185,23 +185,24 @@ advance_received b k n pt p x mask base cap m code channel body links a short =
         made = h.made;
         places = λ q j. refl;
         linked = here.linked;
-        few = at_most_more k (Some (Alive (plain_process x))) here.few;
+        few = here.few;
+        more = omega arith;
         fits = refl;
         named = here.named;
-        routed = λ o r. let f = h.routed o r in omega arith;
+        routed = h.routed;
       });
     }
 
-pub advance_refused : (b : Boot) (k : ℕ) (n : NodeState) (pt : Point) (p : Pid) (x : Process) (mask base cap : ℕ) (m : Message) (code channel : ℕ) (body : ArrayVec ℕ) (links : ArrayVec Link)
-    → Awaits b k n pt p x mask base cap m code channel body links → nat_lt cap (length body.items) ≡ true
-    → Advances b k pt (turn.takes_body (record n { ring = moved_back p n.ring }) p x m mask base code channel body.items true)
-advance_refused b k n pt p x mask base cap m code channel body links a long =
+pub advance_refused : (b : Boot) (n : NodeState) (pt : Point) (p : Pid) (x : Process) (mask base cap : ℕ) (m : Message) (code channel : ℕ) (body : ArrayVec ℕ) (links : ArrayVec Link)
+    → Awaits b n pt p x mask base cap m code channel body links → nat_lt cap (length body.items) ≡ true
+    → Advances b pt (turn.takes_body (record n { ring = moved_back p n.ring }) p x m mask base code channel body.items true)
+advance_refused b n pt p x mask base cap m code channel body links a long =
     let h = a.stands in
-    let here = is_here b k n pt p x h a.is in
+    let here = is_here b n pt p x h a.is in
     let after_it : PlainProcess = plain_process (turn.refused x) in
     let new : OneKernel = with_process pt.kernel p (Alive after_it) in
     let completes : kernel.completing pt.kernel p m.id ≡ Some (calls.Refuses reply.TooLong after_it) =
-    completes_as b k n pt p x mask base cap m code channel body links a ∙ ap (λ (v : Bool). Some (calls.completes_with (plain_process x) base code channel body.items v)) long in
+    completes_as b n pt p x mask base cap m code channel body links a ∙ ap (λ (v : Bool). Some (calls.completes_with (plain_process x) base code channel body.items v)) long in
     let stepped : step pt.kernel (label.Refuse p m.id reply.TooLong) ≡ Some new = ap (kernel.refuses pt.kernel p reply.TooLong) completes in
     let next : Point = labelled (headed pt) (label.Refuse p m.id reply.TooLong) new in
     let leads : after (headed pt) (line.Label (label.Refuse p m.id reply.TooLong) ∷ []) ≡ Some next = after-label (headed pt) (label.Refuse p m.id reply.TooLong) [] new stepped in
@@ -211,12 +212,12 @@ advance_refused b k n pt p x mask base cap m code channel body links a long =
       group = record {
         outcome = line.Label (label.Refuse p m.id reply.TooLong) ∷ [];
         mid = next;
-        says = says_of b k n pt p x mask base cap m code channel body links (line.Label (label.Refuse p m.id reply.TooLong) ∷ []) a (inr (reply.TooLong, refl));
+        says = says_of b n pt p x mask base cap m code channel body links (line.Label (label.Refuse p m.id reply.TooLong) ∷ []) a (inr (reply.TooLong, refl));
         takes = leads;
         is = refl;
         leads = leads;
       };
-      stands = sets b k n pt p (node.Here (turn.refused x)) (moved_back p n.ring) n.inbox next h (record {
+      stands = sets b n pt p (node.Here (turn.refused x)) (moved_back p n.ring) n.inbox n.routed next h (record {
         format = refl;
         life_at = life_at pt.kernel p (Alive after_it);
         life_off = life_off pt.kernel p (Alive after_it);
@@ -227,9 +228,10 @@ advance_refused b k n pt p x mask base cap m code channel body links a long =
         made = h.made;
         places = λ q j. refl;
         linked = here.linked;
-        few = at_most_more k (Some (Alive (plain_process x))) here.few;
+        few = here.few;
+        more = omega arith;
         fits = refl;
         named = here.named;
-        routed = λ o r. let f = h.routed o r in omega arith;
+        routed = h.routed;
       });
     }

@@ -33,7 +33,7 @@ use Rattle.dm_node.specs.declared.records.Record.{Record}
 use Rattle.dm_node.specs.declared.records.Record.TheVariants as node
 use Rattle.dm_node.specs.Node as turn
 use Rattle.dm_node.specs.Node.{NodeState, Ran}
-use Rattle.dm_world.specs.Stands.{is_user, is_made, queue_of, SlotLinks, IsLinked, AllMade}
+use Rattle.dm_world.specs.Stands.{is_user, is_made, queue_of, SlotLinks, IsLinked, AllMade, CountsSo}
 use Rattle.dm_onemachine.proofs.Equal.{pid_eq-same, id_eq-same}
 use Rattle.dm_onemachine.proofs.Counted.{is_counted}
 use Rattle.dm_onemachine.proofs.ReceivedOnce.{Sound}
@@ -78,21 +78,24 @@ at_id_at f i x = let e : id_eq i i ≡ true = id_eq-same i in grind (arith, nat_
 at_id_off : {X : Type 0} (f : MsgId → X) (i : MsgId) (x : X) (j : MsgId) → id_eq i j ≡ false → at_id f i x j ≡ f j
 at_id_off f i x j e = grind (arith, nat_tests)
 
-routed_more : (f : ℕ → ℕ → ℕ) (k m o : ℕ) → ((a c : ℕ) → f a c ≤ k) → at_pair f 0 0 (f 0 0 + 1) m o ≤ k + 1
-routed_more f k m o h = let a = h 0 0 in let c = h m o in grind (arith, nat_tests)
+routed_more : (f : ℕ → ℕ → ℕ) (k : ℕ) → CountsSo f k → CountsSo (at_pair f 0 0 (f 0 0 + 1)) (k + 1)
+routed_more f k h = record {
+  alone = ap (λ (c : ℕ). c + 1) h.alone;
+  others = λ m o. let a = h.others 0 0 in let c = h.others m o in grind (arith, nat_tests);
+}
 
 link_of : (records : Pid → Option Record) (slot : Option Link) (l : Link) → slot ≡ Some l → SlotLinks records slot → IsLinked records l
 link_of records slot l e h = subst (SlotLinks records) e h
 
-pub advance_sent : (b : Boot) (k : ℕ) (n : NodeState) (pt : Point) (p : Pid) (x x' y : Process) (r : Ran) (before : Machine) (m : Message) (pm : PlainMessage) (rs : MsgId → ℕ)
-    → Halts b k n pt p x r before y → Sound rs pt.kernel → plain_message m ≡ Some pm → x'.table ≡ x.table → x'.pid ≡ x.pid → x'.sent ≡ x.sent → SentOver x' m
+pub advance_sent : (b : Boot) (n : NodeState) (pt : Point) (p : Pid) (x x' y : Process) (r : Ran) (before : Machine) (m : Message) (pm : PlainMessage) (rs : MsgId → ℕ)
+    → Halts b n pt p x r before y → Sound rs pt.kernel → plain_message m ≡ Some pm → x'.table ≡ x.table → x'.pid ≡ x.pid → x'.sent ≡ x.sent → SentOver x' m
     → step (ran_kernel pt.kernel p x before) (label.Send p m.id) ≡ Some (with_message (with_process (ran_kernel pt.kernel p x before) p (Alive (plain_process y))) m.id (Some pm))
-    → y.queue ≡ x.queue → y.pid ≡ x.pid → ((j : ℕ) → SlotLeft y.table x.table j) → y.sent ≤ x.sent + 1 → turn.status_fits y.status (length y.memory) ≡ true
-    → Advances b k pt (turn.calls_with (record n { ring = moved_back p n.ring }) p r.count 6 y (Rattle.dm_node.specs.declared.calls.Called.TheVariants.Sent m))
-advance_sent b k n pt p x x' y r before m pm rs s sound plain table pid_ sent_ over stepped queue pid slots sent fits =
+    → y.queue ≡ x.queue → y.pid ≡ x.pid → ((j : ℕ) → SlotLeft y.table x.table j) → y.sent ≡ x.sent + 1 → turn.status_fits y.status (length y.memory) ≡ true
+    → Advances b pt (turn.calls_with (record n { ring = moved_back p n.ring }) p r.count 6 y (Rattle.dm_node.specs.declared.calls.Called.TheVariants.Sent m))
+advance_sent b n pt p x x' y r before m pm rs s sound plain table pid_ sent_ over stepped queue pid slots sent fits =
     let v = s.serves in
     let h = v.stands in
-    let here = is_here b k n pt p x h v.is in
+    let here = is_here b n pt p x h v.is in
     let ran_ : OneKernel = ran_kernel pt.kernel p x before in
     let mid1 : Point = ran_point pt p x r.count before in
     let new : OneKernel = with_message (with_process ran_ p (Alive (plain_process y))) m.id (Some pm) in
@@ -110,10 +113,10 @@ advance_sent b k n pt p x x' y r before m pm rs s sound plain table pid_ sent_ o
     ap (λ (o : Option PlainMessage). put_of mid 0 m.id o ++ []) bag
     ∙ (λ i. line.Put 0 ((receiver i).at) m.id (sym same.0 i) (sym same.1.0 i) ∷ []) in
     let start : after (headed pt) (line.Label (label.Ran p r.count) ∷ line.Label (label.Send p m.id) ∷ []) ≡ Some mid =
-    after-label (headed pt) (label.Ran p r.count) (line.Label (label.Send p m.id) ∷ []) ran_ (ran_step b k n pt p x r before v s.halted)
+    after-label (headed pt) (label.Ran p r.count) (line.Label (label.Send p m.id) ∷ []) ran_ (ran_step b n pt p x r before v s.halted)
     ∙ after-label mid1 (label.Send p m.id) [] new stepped in
     let leads : after (headed pt) (line.Label (label.Ran p r.count) ∷ line.Label (label.Send p m.id) ∷ put ∷ []) ≡ Some next =
-    after-label (headed pt) (label.Ran p r.count) (line.Label (label.Send p m.id) ∷ put ∷ []) ran_ (ran_step b k n pt p x r before v s.halted)
+    after-label (headed pt) (label.Ran p r.count) (line.Label (label.Send p m.id) ∷ put ∷ []) ran_ (ran_step b n pt p x r before v s.halted)
     ∙ after-label mid1 (label.Send p m.id) (put ∷ []) new stepped in
     let machine : line.Put n.machine n.machine m.id (kind_of m.what) m.to.pid ≡ put = ap (λ (o : ℕ). line.Put o o m.id (kind_of m.what) m.to.pid) h.mirrors.machine in
     let lines : List Line → List Line = λ ls. line.Head (directive.Turn 0) ∷ line.Label (label.Ran p r.count) ∷ line.Label (label.Send p m.id) ∷ ls in
@@ -123,12 +126,12 @@ advance_sent b k n pt p x x' y r before m pm rs s sound plain table pid_ sent_ o
       group = record {
         outcome = line.Label (label.Ran p r.count) ∷ line.Label (label.Send p m.id) ∷ [];
         mid = mid;
-        says = ran_says b k n pt p x (line.Label (label.Ran p r.count) ∷ line.Label (label.Send p m.id) ∷ []) v (r.count, line.Label (label.Send p m.id) ∷ [], refl, inr (s.fewer, Stops.sends m.id));
+        says = ran_says b n pt p x (line.Label (label.Ran p r.count) ∷ line.Label (label.Send p m.id) ∷ []) v (r.count, line.Label (label.Send p m.id) ∷ [], refl, inr (s.fewer, Stops.sends m.id));
         takes = start;
         is = ap (λ (l : Line). lines (l ∷ [])) machine ∙ ap lines (sym put_is);
         leads = ap (λ (l : Line). after pt (lines (l ∷ []))) machine ∙ leads;
       };
-      stands = sets b k n pt p (node.Here y) (moved_back p n.ring) (n.inbox ++ m ∷ []) next h (record {
+      stands = sets b n pt p (node.Here y) (moved_back p n.ring) (n.inbox ++ m ∷ []) (n.routed + 1) next h (record {
         format = refl;
         life_at = life_at ran_ p (Alive (plain_process y));
         life_off = λ q apart. life_off ran_ p (Alive (plain_process y)) q apart ∙ life_off pt.kernel p (Alive (at_machine x before)) q apart;
@@ -144,9 +147,10 @@ advance_sent b k n pt p x x' y r before m pm rs s sound plain table pid_ sent_ o
         made = made_append n.records n.inbox m h.made (ap (λ (a : Addr). is_made (n.records a.pid)) over.to ∙ linked.made);
         places = λ q j. refl;
         linked = λ j. slot_linked n.records (link_at y.table j) (link_at x.table j) (slots j) (here.linked j);
-        few = few_more k x.sent y.sent here.few sent;
+        few = few_more n.routed x.sent y.sent here.few sent;
+        more = omega arith;
         fits = fits;
         named = pid ∙ here.named;
-        routed = λ o u. routed_more pt.view.routed k o u h.routed;
+        routed = routed_more pt.view.routed n.routed h.routed;
       });
     }

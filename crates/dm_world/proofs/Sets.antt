@@ -16,7 +16,7 @@ use Rattle.dm_trace.specs.Point.{Point}
 use Rattle.dm_node.specs.declared.records.Record.{Record}
 use Rattle.dm_node.specs.Records.{with_record}
 use Rattle.dm_node.specs.Node.{NodeState}
-use Rattle.dm_world.specs.Stands.{life_of, known_of, queue_of, table_of, is_made, IsNamed, SlotLinks, AllMade, MailStands, Stands, at_most, buffer_fits}
+use Rattle.dm_world.specs.Stands.{life_of, known_of, queue_of, table_of, is_made, IsNamed, SlotLinks, AllMade, MailStands, CountsSo, Stands, at_most, buffer_fits}
 use Rattle.dm_world.proofs.Moves.{set_queue}
 use Rattle.dm_world.proofs.Frame.{set_pointwise, set_holds, at_most_more}
 
@@ -44,8 +44,12 @@ queue_set records p entry q = elim (cases_Bool (pid_eq p q)) [
       e ∙ ap queue_of (sym f)
 ]
 
--- the record of process p is set, and the machine has this ring and this inbox then
-pub record Sets (b : Boot) (k : ℕ) (n : NodeState) (pt : Point) (p : Pid) (entry : Record) (ring : List Pid) (inbox : List Message) (next : Point) : Type 0 where
+-- the counts of messages routed stay as they were
+pub counts_still : (c : ℕ) (old new : ℕ → ℕ → ℕ) → ((m o : ℕ) → new m o ≡ old m o) → CountsSo old c → CountsSo new c
+counts_still c old new same h = record { alone = same 0 0 ∙ h.alone; others = λ m o. let e = same m o in let f = h.others m o in omega arith }
+
+-- the record of process p is set, and the machine has this ring, this inbox and this count of messages routed then
+pub record Sets (b : Boot) (n : NodeState) (pt : Point) (p : Pid) (entry : Record) (ring : List Pid) (inbox : List Message) (count : ℕ) (next : Point) : Type 0 where
   pub format : next.kernel.format ≡ pt.kernel.format
   pub life_at : (q : Pid) → pid_eq p q ≡ true → next.kernel.processes q ≡ life_of (Some entry)
   pub life_off : (q : Pid) → pid_eq p q ≡ false → next.kernel.processes q ≡ pt.kernel.processes q
@@ -56,15 +60,17 @@ pub record Sets (b : Boot) (k : ℕ) (n : NodeState) (pt : Point) (p : Pid) (ent
   pub made : AllMade n.records inbox
   pub places : (q : Pid) (j : ℕ) → next.addresses.link q j ≡ pt.addresses.link q j
   pub linked : (j : ℕ) → SlotLinks n.records (link_at (table_of (Some entry)) j)
-  pub few : at_most (k + 1) (life_of (Some entry)) ≡ true
+  pub few : at_most count (life_of (Some entry)) ≡ true
   pub fits : buffer_fits (Some entry) ≡ true
   pub named : IsNamed p (Some entry)
-  pub routed : (m o : ℕ) → next.view.routed m o ≤ k + 1
+  pub more : n.routed ≤ count
+  pub routed : CountsSo next.view.routed count
 
-pub sets : (b : Boot) (k : ℕ) (n : NodeState) (pt : Point) (p : Pid) (entry : Record) (ring : List Pid) (inbox : List Message) (next : Point)
-    → Stands b k n pt → Sets b k n pt p entry ring inbox next → Stands b (k + 1) (record n { records = with_record n.records p entry; ring = ring; inbox = inbox }) next
-sets b k n pt p entry ring inbox next h s = record {
+pub sets : (b : Boot) (n : NodeState) (pt : Point) (p : Pid) (entry : Record) (ring : List Pid) (inbox : List Message) (routed : ℕ) (next : Point)
+    → Stands b n pt → Sets b n pt p entry ring inbox routed next → Stands b (record n { records = with_record n.records p entry; ring = ring; inbox = inbox; routed = routed }) next
+sets b n pt p entry ring inbox routed next h s = record {
   quantum = h.quantum;
+  numbers = h.numbers;
   mirrors = record {
     machine = h.mirrors.machine;
     format = s.format ∙ h.mirrors.format;
@@ -80,21 +86,22 @@ sets b k n pt p entry ring inbox next h s = record {
     linked = λ q j. linked_set n.records p entry _ (set_holds (λ q r. SlotLinks n.records (link_at (table_of r) j)) n.records p entry (s.linked j) (λ q. h.links.linked q j) q);
   };
   few = λ q. elim (cases_Bool (pid_eq p q)) [
-    | inl same ↦ subst (λ (l : Option Life). at_most (k + 1) l ≡ true) (sym (s.life_at q same)) s.few
-    | inr apart ↦ subst (λ (l : Option Life). at_most (k + 1) l ≡ true) (sym (s.life_off q apart)) (at_most_more k (pt.kernel.processes q) (h.few q))
+    | inl same ↦ subst (λ (l : Option Life). at_most routed l ≡ true) (sym (s.life_at q same)) s.few
+    | inr apart ↦ subst (λ (l : Option Life). at_most routed l ≡ true) (sym (s.life_off q apart)) (at_most_more n.routed routed (pt.kernel.processes q) s.more (h.few q))
   ];
   fits = set_holds (λ q r. buffer_fits r ≡ true) n.records p entry s.fits h.fits;
   routed = s.routed;
 }
 
 -- no record is set
-pub keeps : (b : Boot) (k : ℕ) (n : NodeState) (pt : Point) (inbox : List Message) (next : Point) → Stands b k n pt
+pub keeps : (b : Boot) (n : NodeState) (pt : Point) (inbox : List Message) (next : Point) → Stands b n pt
     → next.kernel.format ≡ pt.kernel.format → ((q : Pid) → next.kernel.processes q ≡ pt.kernel.processes q) → ((q : Pid) → next.view.known 0 q ≡ pt.view.known 0 q)
     → next.view.ring 0 ≡ pt.view.ring 0 → MailStands (record { inbox = inbox; queue = λ q. queue_of (n.records q) }) next → AllMade n.records inbox
     → ((q : Pid) (j : ℕ) → next.addresses.link q j ≡ pt.addresses.link q j) → ((m o : ℕ) → next.view.routed m o ≡ pt.view.routed m o)
-    → Stands b (k + 1) (record n { inbox = inbox }) next
-keeps b k n pt inbox next h format life known ring mail made places routed = record {
+    → Stands b (record n { inbox = inbox }) next
+keeps b n pt inbox next h format life known ring mail made places routed = record {
   quantum = h.quantum;
+  numbers = h.numbers;
   mirrors = record {
     machine = h.mirrors.machine;
     format = format ∙ h.mirrors.format;
@@ -106,7 +113,7 @@ keeps b k n pt inbox next h format life known ring mail made places routed = rec
   mail = mail;
   made = made;
   links = record { place = λ q j. places q j ∙ h.links.place q j; linked = h.links.linked };
-  few = λ q. subst (λ (l : Option Life). at_most (k + 1) l ≡ true) (sym (life q)) (at_most_more k (pt.kernel.processes q) (h.few q));
+  few = λ q. subst (λ (l : Option Life). at_most n.routed l ≡ true) (sym (life q)) (h.few q);
   fits = h.fits;
-  routed = λ m o. let r = routed m o in let s = h.routed m o in omega arith;
+  routed = counts_still n.routed pt.view.routed next.view.routed routed h.routed;
 }

@@ -128,6 +128,11 @@ pub record Links (n : NodeState) (pt : Point) : Type 0 where
   pub place : (p : Pid) (k : ℕ) → pt.addresses.link p k ≡ home_place
   pub linked : (p : Pid) (k : ℕ) → SlotLinks n.records (link_at (table_of (n.records p)) k)
 
+-- so many messages were routed on the pair of machine 0 with itself, and no more on another
+pub record CountsSo (routed : ℕ → ℕ → ℕ) (count : ℕ) : Type 0 where
+  pub alone : routed 0 0 ≡ count
+  pub others : (m o : ℕ) → routed m o ≤ count
+
 -- a process has sent at most k messages
 abbrev pub at_most : ℕ → Option Life → Bool
 at_most k (Some (Alive x)) = nat_le x.sent k
@@ -138,13 +143,15 @@ abbrev pub buffer_fits : Option Record → Bool
 buffer_fits (Some (node.Here x)) = status_fits x.status (length x.memory)
 buffer_fits e = true
 
--- the machine stands for the kernel, the view and the addresses, after k turns
-pub record Stands (b : Boot) (k : ℕ) (n : NodeState) (pt : Point) : Type 0 where
+-- the machine stands for the kernel, the view and the addresses
+pub record Stands (b : Boot) (n : NodeState) (pt : Point) : Type 0 where
   pub quantum : n.quantum ≡ b.quantum
+  pub numbers : n.numbers ≡ b.numbers
   pub mirrors : Mirrors n pt
   pub mail : MailStands (record { inbox = n.inbox; queue = λ p. queue_of (n.records p) }) pt
   pub made : AllMade n.records n.inbox
   pub links : Links n pt
-  pub few : (p : Pid) → at_most k (pt.kernel.processes p) ≡ true
+  -- no process has sent more than were routed
+  pub few : (p : Pid) → at_most n.routed (pt.kernel.processes p) ≡ true
   pub fits : (p : Pid) → buffer_fits (n.records p) ≡ true
-  pub routed : (m : ℕ) (o : ℕ) → pt.view.routed m o ≤ k
+  pub routed : CountsSo pt.view.routed n.routed

@@ -5,4 +5,5 @@ pub mod laws;
 pub mod world;
 
 pub use dm_memory::NoMemory;
+pub use dm_node::Stop;
 pub use world::World;

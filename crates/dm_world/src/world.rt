@@ -1,23 +1,22 @@
 //! The world: for now one machine.
-ghost use Rattle.std.specs.Prelude.{◌++◌, IfOk, OnOk, ℕ, ◌+◌, ◌≡◌, ◌<◌, ◌≤◌};
+ghost use Rattle.std.specs.Prelude.{◌∷◌, ◌++◌, IfOk, OnOk, ℕ, ◌≡◌};
 ghost use Rattle.dm_link.specs.Names.{pid_of};
 ghost use Rattle.dm_onekernel.specs.declared.boot.Boot.{Boot as TheBoot};
-ghost use Rattle.dm_onekernel.specs.Boot.{IsValid};
+ghost use Rattle.dm_onemachine.specs.Boot.{IsAlone};
 ghost use Rattle.dm_schedule.specs.declared.Step.TheVariants as directive;
 ghost use Rattle.dm_trace.specs.declared.line.EndLine.TheVariants as end;
 ghost use Rattle.dm_trace.specs.declared.line.Line.TheVariants as line_;
 ghost use Rattle.dm_node.specs.Node.{state_of};
 ghost use Rattle.dm_node.specs.Records.{at};
-ghost use Rattle.dm_world.specs.Run.{group_of};
-ghost use Rattle.dm_world.specs.World.{IsAfter, IsRunning, child_lines_to, last_lines, machine_after, record_line, record_lines};
+ghost use Rattle.dm_world.specs.World.{IsAfter, IsRunning, Lasts, StepSays, child_lines_to, last_lines, record_line, record_lines};
 
 use dm_link::Pid;
 use dm_memory::NoMemory;
-use dm_node::Node;
 use dm_node::records::Record;
+use dm_node::{Node, Stop};
 use dm_onekernel::Boot;
 use dm_schedule::Step;
-use dm_trace::{EndLine, Line};
+use dm_trace::{Doing, EndLine, Line};
 use std::alloc::Global;
 
 /// A system that runs.
@@ -36,8 +35,9 @@ const FIRST_NUMBER: u32 = 3;
 
 impl World {
     /// The system of a boot file, before its first turn.
+    #[tactic(auto, using(crate::proofs::Opening::few_processes))]
     pub fn boot(alloc: Global, boot: &Boot) -> Result<World, NoMemory>
-        requires { IsValid boot.now }
+        requires { IsAlone boot.now }
         ensures { IfOk result (λ w. IsAfter boot.now 0 w) }
     {
         let made = boot.processes.len() as u8;
@@ -50,24 +50,28 @@ impl World {
         })
     }
 
-    /// Does what a directive says: the lines of its group, its head first. Want of memory leaves a world that is not
-    /// to be stepped again.
-    pub fn step(&mut self, step: &Step) -> Result<Vec<Line>, NoMemory>
+    /// Does what a directive says: the lines of its group, its head first. It stops as worn exactly where the machine
+    /// has a message to route while it counts as many as it may. A world that stops is not to be stepped again.
+    pub fn step(&mut self, step: &Step) -> Result<Vec<Line>, Stop>
         requires running { IsRunning self.old }
         requires here { step.now ≡ Step.Turn 0 }
-        ensures { (b : TheBoot) (k : ℕ) → IsValid b → IsAfter b k self.old → IfOk result (λ lines. (lines.items ≡ group_of (machine_after b k)) × IsAfter b (k + 1) self.new) }
+        ensures { (b : TheBoot) (k : ℕ) → IsAlone b → Lasts b k → IsAfter b k self.old → StepSays b k result self.new }
     {
-        let mut lines = Vec::new(self.alloc);
-        lines.push(Line::Head(*step))?;
-        let mut said = self.node.turn()?;
-        lines.append(&mut said)?;
-        self.groups += 1;
-        Ok(lines)
+        match self.node.turn() {
+            Ok(said) => {
+                self.groups += 1;
+                match group(self.alloc, *step, said) {
+                    Ok(lines) => Ok(lines),
+                    Err(NoMemory) => Err(Stop::NoMemory),
+                }
+            }
+            Err(stop) => Err(stop),
+        }
     }
 
     /// The lines at the end of a run.
     pub fn end_lines(&self) -> Result<Vec<Line>, NoMemory>
-        ensures { (b : TheBoot) (k : ℕ) → IsValid b → k ≤ 1000 → IsAfter b k self.now → IfOk result (λ lines. lines.items ≡ last_lines b k) }
+        ensures { (b : TheBoot) (k : ℕ) → IsAlone b → Lasts b k → IsAfter b k self.now → IfOk result (λ lines. lines.items ≡ last_lines b k) }
     {
         let machine = self.node.machine;
         let mut lines = Vec::new(self.alloc);
@@ -108,7 +112,7 @@ impl World {
                 lines.push(Line::End(EndLine::Process {
                     pid,
                     at: self.node.machine,
-                    status: process.status,
+                    doing: Doing::of(process.status),
                     stopped: process.stopped,
                     sent: process.sent,
                 }))?;
@@ -116,6 +120,17 @@ impl World {
             }
         }
     }
+}
+
+/// The lines of a group: its head, and what was said.
+fn group(alloc: Global, step: Step, said: Vec<Line>) -> Result<Vec<Line>, NoMemory>
+    ensures { IfOk result (λ lines. lines.items ≡ line_.Head step ∷ said.items) }
+{
+    let mut said = said;
+    let mut lines = Vec::new(alloc);
+    lines.push(Line::Head(step))?;
+    lines.append(&mut said)?;
+    Ok(lines)
 }
 
 /// The line of a server, which hasn't sent anything yet.

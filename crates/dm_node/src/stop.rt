@@ -1,0 +1,12 @@
+//! Why a turn stops before its end.
+/// Why a turn stops before its end. Its machine is not to be used again then.
+#[derive(Clone, Copy, Debug, PartialEq, Eq)]
+pub enum Stop {
+    /// No memory was left.
+    NoMemory,
+    /// A message was to be routed between two machines that count as many as they may.
+    Worn {
+        from: u8,
+        to: u8,
+    },
+}
