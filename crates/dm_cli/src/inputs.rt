@@ -5,7 +5,7 @@ ghost use Rattle.dm_cli.specs.Inputs.{Accepts, NoBoot, NoRun, NoSteps, SaysBoot,
 
 use crate::read::{ReadNo, read_file};
 use crate::status::{Input, Status};
-use crate::words::names;
+use crate::words::{WordsNo, names};
 use dm_boot::{BootNo, read_boot};
 use dm_onekernel::Boot;
 use dm_outside::Shelf;
@@ -34,9 +34,10 @@ pub fn read_inputs<F: Shelf>(alloc: Global, words: &[&str], shelf: &mut F) -> Re
     ensures same { F.told shelf.new ≡ F.told shelf.old }
     ensures reads { F.faults shelf.old ≤ F.faults shelf.new }
 {
-    match names(words) {
-        Some((boot, schedule)) => read_files(alloc, boot, schedule, shelf),
-        None => Err(Status::Usage),
+    match names(alloc, words) {
+        Ok((boot, schedule)) => read_files(alloc, boot, schedule, shelf),
+        Err(WordsNo::Usage) => Err(Status::Usage),
+        Err(WordsNo::NoMemory) => Err(Status::NoMemory),
     }
 }
 
