@@ -1,10 +1,9 @@
 -- The words, as the command takes them.
-use Rattle.std.proofs.Common.{◌≡◌, List, [], ◌∷◌, ℕ, true, false, arith, refl, ap, sym, subst, ◌∙◌, inl, inr, None, Some, if◌then◌else◌, option_map, codes, ap₂}
+use Rattle.std.proofs.Common.{◌≡◌, List, [], ◌∷◌, true, false, arith, refl, ap, sym, subst, ◌∙◌, inl, inr, None, if◌then◌else◌, option_map, codes, ap₂}
 use Rattle.std.proofs.lemmas.Bool.{ne_eqb}
 use Rattle.std.specs.Prelude.{option_and_then}
 use Rattle.std.specs.declared.option.Option.{Option}
-use Rattle.std.specs.Borrow.{Bor}
-use Rattle.clap.specs.Words.{App, HasKind, HasMatchesOf, IsAmong, Kinds, Text, fault_of, found_of, first_value, is_simple, is_simple_and_free, kind_of, rows_of, subcommand_rows_of}
+use Rattle.clap.specs.Words.{App, HasKind, HasMatchesOf, IsAmong, Kinds, Text, fault_of, first_value, is_simple, is_simple_and_free, kind_of, rows_of, subcommand_rows_of}
 use Rattle.clap.specs.Walk.{first_of, is_empty}
 use Rattle.clap.specs.declared.error.Error.{Error}
 use Rattle.clap.specs.declared.error.kind.ErrorKind.{ErrorKind}

@@ -1,6 +1,5 @@
-use Rattle.std.proofs.Common.{rules, ◌≡◌, List, ℕ, Bor, ap, sym, refl, ◌∙◌, option_map, None, Some, codes}
-use Rattle.clap.specs.Words.{found_of, rows_of}
-use Rattle.dm_cli.specs.Words.{both}
+use Rattle.std.proofs.Common.{rules, ◌≡◌, ap, sym, ◌∙◌, option_map, None, Some}
+use Rattle.clap.specs.Words.{found_of}
 use Rattle.dm_cli.proofs.Names.{no_boot, both_found}
 use Rattle.dm_cli.proofs.words.both_files.Goals as goal
 

@@ -1,8 +1,8 @@
 use Rattle.std.proofs.Common.{rules, ◌≡◌, true, ap, ap₂, ◌∙◌, codes}
 use Rattle.std.proofs.lemmas.Result.{IfOk-weaker}
-use Rattle.clap.specs.Words.{App, app_of, new_app, shape_of, with_rule, with_subcommand}
+use Rattle.clap.specs.Words.{App, app_of, new_app, with_rule, with_subcommand}
 use Rattle.clap.specs.Simple.{app_of_fields, on_top}
-use Rattle.dm_cli.specs.Words.{file_option, run_command}
+use Rattle.dm_cli.specs.Words.{file_option}
 use Rattle.dm_cli.proofs.words.command.Goals as goal
 
 pub returns : goal.returns
