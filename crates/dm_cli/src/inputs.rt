@@ -1,6 +1,7 @@
 //! What the program reads before a run: its words, the boot file and the schedule.
 ghost use Rattle.std.specs.Prelude.{◌≡◌, ◌≤◌, map, IfOk, IfErr};
 ghost use Rattle.dm_onekernel.specs.Boot.{IsValid};
+ghost use Rattle.dm_cli.specs.Words.{IsTaken};
 ghost use Rattle.dm_cli.specs.Inputs.{Accepts, NoBoot, NoRun, NoSteps, SaysBoot, SaysFiles, SaysSteps, NoFiles};
 
 use crate::read::{ReadNo, read_file};
@@ -30,6 +31,7 @@ pub struct Inputs {
 pub fn read_inputs<F: Shelf>(alloc: Global, words: &[&str], shelf: &mut F) -> Result<Inputs, Status>
     ensures accepts { IfOk result (λ i. Accepts (map (λ w. w.now) words.now) (F.told shelf.old) i.boot i.steps.items) }
     ensures valid { IfOk result (λ i. IsValid i.boot) }
+    ensures refused { IfErr result (λ s. s ≡ Status.Usage → IsTaken (map (λ w. w.now) words.now) → ⊥) }
     ensures none { IfErr result (λ s. NoRun (map (λ w. w.now) words.now) (F.told shelf.old) (F.faults shelf.old) (F.faults shelf.new) s) }
     ensures same { F.told shelf.new ≡ F.told shelf.old }
     ensures reads { F.faults shelf.old ≤ F.faults shelf.new }
