@@ -1,3 +1,5 @@
+pub mod Names
+pub mod Given
 pub mod Reading
 pub mod Writing
 pub mod Turns

@@ -102,7 +102,9 @@ pub record Refuses (words : List (List ℕ)) (files : Option (List ℕ → Optio
   pub names : names_of words ≡ Some (boot, schedule)
   pub why : NoFiles files boot schedule old new s
 
--- why there is no run: the words, the boot file or the schedule, the first of these that is at fault
+-- why there is no run: the words, the boot file or the schedule, the first of these that is at fault; memory may lack
+-- before the words are read
 abbrev pub NoRun : List (List ℕ) → Option (List ℕ → Option (List ℕ)) → ℕ → ℕ → Status → Type 0
 NoRun words files old new status.Usage = names_of words ≡ None
+NoRun words files old new status.NoMemory = ⊤
 NoRun words files old new s = Refuses words files old new s

@@ -1,11 +1,12 @@
 //! What the program reads before a run: its words, the boot file and the schedule.
 ghost use Rattle.std.specs.Prelude.{◌≡◌, ◌≤◌, map, IfOk, IfErr};
 ghost use Rattle.dm_onekernel.specs.Boot.{IsValid};
+ghost use Rattle.dm_cli.specs.Words.{IsTaken};
 ghost use Rattle.dm_cli.specs.Inputs.{Accepts, NoBoot, NoRun, NoSteps, SaysBoot, SaysFiles, SaysSteps, NoFiles};
 
 use crate::read::{ReadNo, read_file};
 use crate::status::{Input, Status};
-use crate::words::names;
+use crate::words::{WordsNo, names};
 use dm_boot::{BootNo, read_boot};
 use dm_onekernel::Boot;
 use dm_outside::Shelf;
@@ -30,13 +31,15 @@ pub struct Inputs {
 pub fn read_inputs<F: Shelf>(alloc: Global, words: &[&str], shelf: &mut F) -> Result<Inputs, Status>
     ensures accepts { IfOk result (λ i. Accepts (map (λ w. w.now) words.now) (F.told shelf.old) i.boot i.steps.items) }
     ensures valid { IfOk result (λ i. IsValid i.boot) }
+    ensures refused { IfErr result (λ s. s ≡ Status.Usage → IsTaken (map (λ w. w.now) words.now) → ⊥) }
     ensures none { IfErr result (λ s. NoRun (map (λ w. w.now) words.now) (F.told shelf.old) (F.faults shelf.old) (F.faults shelf.new) s) }
     ensures same { F.told shelf.new ≡ F.told shelf.old }
     ensures reads { F.faults shelf.old ≤ F.faults shelf.new }
 {
-    match names(words) {
-        Some((boot, schedule)) => read_files(alloc, boot, schedule, shelf),
-        None => Err(Status::Usage),
+    match names(alloc, words) {
+        Ok((boot, schedule)) => read_files(alloc, boot, schedule, shelf),
+        Err(WordsNo::Usage) => Err(Status::Usage),
+        Err(WordsNo::NoMemory) => Err(Status::NoMemory),
     }
 }
 

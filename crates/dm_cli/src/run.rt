@@ -7,7 +7,7 @@ ghost use Rattle.dm_trace.specs.Text.{text};
 ghost use Rattle.dm_world.specs.Run.{group_of, turns_of};
 ghost use Rattle.dm_world.specs.World.{IsAfter, IsRunning, last_lines, machine_after};
 ghost use Rattle.dm_outside.specs.Outside.{RoseOrFull, appended};
-ghost use Rattle.dm_cli.specs.Words.{names_of};
+ghost use Rattle.dm_cli.specs.Words.{IsTaken, names_of};
 ghost use Rattle.dm_cli.specs.declared.status.Status.{Status as TheStatus};
 ghost use Rattle.dm_cli.specs.Inputs.{Accepts, NoRun};
 ghost use Rattle.dm_cli.specs.Progress.{Offered, Stopped, StoppedLate, text_after};
@@ -49,7 +49,8 @@ pub fn run_program<F: Shelf, K: Sink>(
       writes_before = K.faults out.old;
       writes_after = K.faults out.new;
     }) result }
-    ensures usage { names_of (map (λ w. w.now) words.now) ≡ None → result ≡ Status.Usage }
+    ensures usage { names_of (map (λ w. w.now) words.now) ≡ None → (result ≡ Status.Usage) ⊎ (result ≡ Status.NoMemory) }
+    ensures refused { result ≡ Status.Usage → IsTaken (map (λ w. w.now) words.now) → ⊥ }
     ensures complete { (files : List ℕ → Option (List ℕ)) (b : TheBoot) (steps : List TheStep) → F.told shelf.old ≡ Some files → Accepts (map (λ w. w.now) words.now) (Some files) b steps → (RoseOrFull (F.faults shelf.old) (F.faults shelf.new) → ⊥) → (RoseOrFull (K.faults out.old) (K.faults out.new) → ⊥) → (result ≡ Status.Done) ⊎ (result ≡ Status.NoMemory) }
     ensures refuses { (files : List ℕ → Option (List ℕ)) (s : TheStatus) → F.told shelf.old ≡ Some files → NoRun (map (λ w. w.now) words.now) (Some files) (F.faults shelf.old) (F.faults shelf.new) s → (s ≡ Status.NoMemory → ⊥) → (RoseOrFull (F.faults shelf.old) (F.faults shelf.new) → ⊥) → (result ≡ s) ⊎ (result ≡ Status.NoMemory) }
     ensures same { F.told shelf.new ≡ F.told shelf.old }

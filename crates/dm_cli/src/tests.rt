@@ -141,12 +141,56 @@ fn writes_the_whole_run(rt: HostRuntime) -> Result<(), Fail> {
 }
 
 #[test]
+fn reads_the_words(rt: HostRuntime) -> Result<(), Fail> {
+    let table: [&[&str]; 4] = [
+        &["demosmp", "run", "--schedule", "schedule", "--boot", "boot"],
+        &["demosmp", "run", "--boot=boot", "--schedule=schedule"],
+        &["demosmp", "run", "--boot", "boot", "--schedule=schedule"],
+        &["other", "run", "--boot", "boot", "--schedule", "schedule"],
+    ];
+    for words in table {
+        let end = run_over(rt.alloc(), words, (NOBODY, b""), (&[], &[]), 0)?;
+        assert_eq!(rt; end.status, Status::Done);
+        assert_eq!(rt; end.written.as_slice(), NO_RUN);
+    }
+    Ok(())
+}
+
+#[test]
 fn reads_and_writes_nothing_for_other_words(rt: HostRuntime) -> Result<(), Fail> {
-    let words = ["demosmp", "run", "--boot", "b"];
-    let end = run_over(rt.alloc(), &words, (HI, EIGHT_TURNS), (&[], &[]), 0)?;
-    assert_eq!(rt; end.status, Status::Usage);
-    assert_eq!(rt; end.written.as_slice(), b"".as_slice());
-    assert_eq!(rt; end.calls, 0);
+    let table: [&[&str]; 16] = [
+        &[],
+        &["demosmp"],
+        &["demosmp", "run", "--boot", "b"],
+        &["demosmp", "run", "--schedule", "s"],
+        &["demosmp", "run", "--boot", "--schedule", "s"],
+        &["demosmp", "run", "--schedule", "s", "--boot"],
+        &[
+            "demosmp",
+            "run",
+            "--boot",
+            "b",
+            "--boot",
+            "b",
+            "--schedule",
+            "s",
+        ],
+        &["demosmp", "run", "--boot", "b", "--schedule", "s", "again"],
+        &["demosmp", "--boot", "b", "--schedule", "s", "run"],
+        &["demosmp", "go", "--boot", "b", "--schedule", "s"],
+        &["demosmp", "drill", "--seed", "1"],
+        &["demosmp", "check", "--boot", "b", "--trace", "t"],
+        &["demosmp", "--help"],
+        &["demosmp", "--version"],
+        &["demosmp", "help"],
+        &["demosmp", "run", "--boot", "b", "--schedule", "s", "--help"],
+    ];
+    for words in table {
+        let end = run_over(rt.alloc(), words, (HI, EIGHT_TURNS), (&[], &[]), 0)?;
+        assert_eq!(rt; end.status, Status::Usage);
+        assert_eq!(rt; end.written.as_slice(), b"".as_slice());
+        assert_eq!(rt; end.calls, 0);
+    }
     Ok(())
 }
 
