@@ -85,7 +85,7 @@ impl<H, L, A, E> Records<H, L, A, E> {
         ensures after { (q : Pid) → at self.new q ≡ with_record (at self.old) pid entry q }
         ensures grows { Grows (at self.old) (at self.new) }
     {
-        std::mem::replace(self.map.get_mut(&pid).unwrap(), entry)
+        std::mem::replace(self.get_mut(pid).unwrap(), entry)
     }
 
     /// Puts another record in the place of a process's, and lets that go.
