@@ -1,1 +1,5 @@
+pub mod Keywords
+pub mod Lines
+pub mod Numbers
+pub mod Operands
 pub mod Schedule

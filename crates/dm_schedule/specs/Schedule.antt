@@ -1,42 +1,79 @@
 -- The directives of a schedule's text.
-use Rattle.std.specs.Prelude.{◌≡◌, ℕ, zero, suc, ◌+◌, ◌==◌, List, [], ◌∷◌, length, drop, nat_eq, ⊤, if◌then◌else◌}
-use Rattle.std.specs.List.{starts_with}
-use Rattle.dm_schedule.specs.declared.Step.{Step}
-use Rattle.dm_schedule.specs.declared.Step.TheVariants.{Turn}
+use Rattle.std.specs.Prelude.{◌≡◌, ℕ, Bool, false, ◌+◌, ◌==◌, Option, Some, None, Result, Ok, Err, List, [], ◌∷◌, length, ⊤, if◌then◌else◌}
+use Rattle.dm_schedule.specs.declared.Step.TheVariants as step
+use Rattle.dm_schedule.specs.declared.Directive.{Directive}
+use Rattle.dm_schedule.specs.declared.Directive.TheVariants as directive
+use Rattle.dm_schedule.specs.declared.LineFault.{LineFault}
+use Rattle.dm_schedule.specs.declared.LineFault.TheVariants.{UnknownWord, WrongCount, NotANumber, OutOfRange, SameMachine}
 use Rattle.dm_schedule.specs.declared.SchedNo.{SchedNo}
 use Rattle.dm_schedule.specs.declared.SchedNo.TheVariants as no
+use Rattle.dm_schedule.specs.declared.keywords.Keyword.{Keyword}
+use Rattle.dm_schedule.specs.declared.keywords.Keyword.TheVariants.{Turn, Tick, Deliver, Migrate, Round, Spin}
+use Rattle.dm_schedule.specs.Keywords.{keyword_of, operands}
+use Rattle.dm_schedule.specs.Lines.{lines, words}
+use Rattle.dm_schedule.specs.Operands.{Values, values_of, ◌>>=◌}
 
--- what a text says: its directives, or the number of its first bad line, from 1, and what is wrong there
+-- what a text says: its directives, or its first bad line, counted from 1, and what is wrong there
 pub data Schedule : Type 0 where
-  Accepted : List Step → Schedule
-  Refused : ℕ → ℕ → Schedule
+  Accepted : List Directive → Schedule
+  Refused : ℕ → LineFault → Schedule
 
--- the greatest number of lines
-abbrev pub most_lines : ℕ
-most_lines = 1000
+-- the numbers of the faults
+abbrev pub number_of_fault : LineFault → ℕ
+number_of_fault UnknownWord = 1
+number_of_fault WrongCount = 2
+number_of_fault NotANumber = 3
+number_of_fault OutOfRange = 4
+number_of_fault SameMachine = 5
 
--- `turn 0` and the end of its line
-abbrev pub turn_line : List ℕ
-turn_line = 116 ∷ 117 ∷ 114 ∷ 110 ∷ 32 ∷ 48 ∷ 10 ∷ []
+-- the directive of a keyword and its operands; packets go from one machine to another
+abbrev pub made : (k : Keyword) → Values (operands k) → Result Directive LineFault
+made Turn v = Ok (directive.One (step.Turn v.0))
+made Tick v = Ok (directive.One (step.Tick v.0))
+made Deliver v = if v.0 == v.1.0 then Err SameMachine else Ok (directive.One (step.Deliver v.0 v.1.0 v.1.1.0))
+made Migrate v = Ok (directive.One (step.Migrate v.0 v.1.0))
+made Round v = Ok directive.Round
+made Spin v = Ok (directive.Spin v.0)
+
+-- the directive of a keyword, if there is one, and the words behind it
+unfoldable pub directive_of : ℕ → Option Keyword → List (List ℕ) → Result Directive LineFault
+directive_of machines None ws = Err UnknownWord
+directive_of machines (Some k) ws =
+    if length ws == length (operands k) then values_of machines (operands k) ws >>= made k else Err WrongCount
+
+-- a number sign stands first
+abbrev pub begins_comment : List ℕ → Bool
+begins_comment [] = false
+begins_comment (c ∷ cs) = c == 35
+
+-- the directive of a line's words; a line without a word and a comment have none
+unfoldable pub line_directive : ℕ → List (List ℕ) → Result (Option Directive) LineFault
+line_directive machines [] = Ok None
+line_directive machines (w ∷ ws) =
+    if begins_comment w then Ok None else directive_of machines (keyword_of w) ws >>= λ d. Ok (Some d)
 
 -- a directive, and then those that follow
-abbrev pub also : Step → Schedule → Schedule
-also step (Accepted steps) = Accepted (step ∷ steps)
-also step (Refused line why) = Refused line why
+abbrev pub also : Directive → Schedule → Schedule
+also d (Accepted ds) = Accepted (d ∷ ds)
+also d (Refused line fault) = Refused line fault
 
--- the directives of a text of at most so many lines, which are numbered from a line on
-unfoldable pub lines_from : ℕ → ℕ → List ℕ → Schedule
-lines_from zero line text = if length text == 0 then Accepted [] else Refused line 0
-lines_from (suc most) line text =
-    if length text == 0 then Accepted []
-    else if starts_with nat_eq text turn_line then also (Turn 0) (lines_from most (line + 1) (drop 7 text))
-    else Refused line 0
+-- what a line with this number says, and then what the lines behind it say
+abbrev pub with_line : ℕ → Result (Option Directive) LineFault → Schedule → Schedule
+with_line line (Ok None) rest = rest
+with_line line (Ok (Some d)) rest = also d rest
+with_line line (Err fault) rest = Refused line fault
 
--- the directives of a schedule
-unfoldable pub directives_of : List ℕ → Schedule
-directives_of text = lines_from most_lines 1 text
+-- what lines say that are numbered from a number on
+unfoldable pub lines_from : ℕ → ℕ → List (List ℕ) → Schedule
+lines_from machines line [] = Accepted []
+lines_from machines line (l ∷ ls) =
+    with_line line (line_directive machines (words l)) (lines_from machines (line + 1) ls)
+
+-- the directives of a text, with so many machines
+unfoldable pub directives_of : List ℕ → ℕ → Schedule
+directives_of text machines = lines_from machines 1 (lines text)
 
 -- a text is refused so; want of memory says nothing of it
-abbrev pub RefusedSo : List ℕ → SchedNo → Type 0
-RefusedSo text (no.Refused line why) = directives_of text ≡ Refused line why
-RefusedSo text no.NoMemory = ⊤
+abbrev pub RefusedSo : List ℕ → ℕ → SchedNo → Type 0
+RefusedSo text machines (no.Refused line fault) = directives_of text machines ≡ Refused line fault
+RefusedSo text machines no.NoMemory = ⊤

@@ -1,10 +1,20 @@
 //! The schedule: what is done, one directive after the other.
 #![tactic(auto)]
 
-ghost use Rattle.std.specs.Prelude.{[], ◌∷◌, ◌++◌, IfErr, IfNone, IfOk, IfSome, OnOk, drop, false, nat_eq, true, ◌≡◌};
-ghost use Rattle.std.specs.List.{starts_with};
-ghost use Rattle.dm_schedule.specs.Schedule.{Accepted, RefusedSo, directives_of, turn_line};
+mod directives;
+mod keywords;
+mod lines;
+mod numbers;
+mod operands;
+#[cfg(test)]
+mod tests;
 
+ghost use Rattle.std.specs.Prelude.{◌++◌, IfErr, IfOk, OnOk, option_to_list, ◌≡◌};
+ghost use Rattle.dm_schedule.specs.Schedule.{Accepted, RefusedSo, directives_of, number_of_fault};
+ghost use Rattle.dm_schedule.specs.declared.SchedNo.TheVariants as no;
+
+use crate::directives::line_directive;
+use crate::lines::first_line;
 use dm_link::Pid;
 use std::alloc::Global;
 use thiserror::Error;
@@ -17,16 +27,9 @@ pub enum Step {
     /// A machine sends again what went out and isn't acknowledged.
     Tick(u8),
     /// Packet `k`, counted from 0, of those that ever went from machine `a` to machine `b` arrives.
-    Deliver {
-        a: u8,
-        b: u8,
-        k: u64,
-    },
+    Deliver { a: u8, b: u8, k: u64 },
     /// A process is asked to move to a machine.
-    Migrate {
-        pid: Pid,
-        to: u8,
-    },
+    Migrate { pid: Pid, to: u8 },
 }
 
 /// What a line of a schedule says.
@@ -39,72 +42,82 @@ pub enum Directive {
     Spin(u32),
 }
 
+/// What is wrong with a line.
+#[derive(Clone, Copy, Debug, PartialEq, Eq, Error)]
+pub enum LineFault {
+    #[error("unknown word")]
+    UnknownWord,
+    #[error("wrong number of operands")]
+    WrongCount,
+    #[error("not a number, or not the name of a process")]
+    NotANumber,
+    #[error("out of range")]
+    OutOfRange,
+    #[error("the two machines are one")]
+    SameMachine,
+}
+
+impl LineFault {
+    /// The number of the fault: 1 to 5.
+    pub fn number(self) -> u8
+        ensures { result ≡ number_of_fault self }
+    {
+        match self {
+            LineFault::UnknownWord => 1,
+            LineFault::WrongCount => 2,
+            LineFault::NotANumber => 3,
+            LineFault::OutOfRange => 4,
+            LineFault::SameMachine => 5,
+        }
+    }
+}
+
 /// Why a schedule was not read.
 #[derive(Clone, Copy, Debug, PartialEq, Eq, Error)]
 pub enum SchedNo {
     /// The first bad line, counted from 1, and what is wrong with it.
-    #[error("line {line}, why {why}")]
-    Refused { line: u32, why: u8 },
+    #[error("line {line}: {fault}")]
+    Refused { line: u64, fault: LineFault },
     #[error("no memory")]
     NoMemory,
 }
 
-/// The greatest number of lines.
-const MOST_LINES: u32 = 1000;
-
-/// The one form of a line.
-const TURN: &[u8; 7] = b"turn 0\n";
-
-/// Reads the directives of a schedule: lines that are `turn 0`, each with its end.
-#[tactic(auto, unfolding(crate::specs::Schedule::directives_of), using(crate::proofs::Lines::before_none, crate::proofs::Lines::ends, crate::proofs::Lines::stops_below, crate::proofs::Lines::goes_on_below, crate::proofs::Lines::is_too_long))]
-pub fn read_schedule(alloc: Global, bytes: &[u8]) -> Result<Vec<Step>, SchedNo>
-    ensures ok { IfOk result (λ steps. directives_of bytes.now ≡ Accepted steps.items) }
-    ensures refused { IfErr result (λ e. RefusedSo bytes.now e) }
+/// Reads the directives of a schedule for so many machines, 1 to 16 in use: one a line, in order.
+#[tactic(auto, unfolding(crate::specs::Schedule::directives_of))]
+pub fn read_schedule(alloc: Global, bytes: &[u8], machines: u8) -> Result<Vec<Directive>, SchedNo>
+    ensures ok { IfOk result (λ directives. directives_of bytes.now machines ≡ Accepted directives.items) }
+    ensures refused { IfErr result (λ e. RefusedSo bytes.now machines e) }
 {
-    let mut steps = Vec::new(alloc);
+    let mut directives = Vec::new(alloc);
     let mut rest = bytes;
-    for line in 0..MOST_LINES {
-        if rest.is_empty() {
-            return Ok(steps);
+    let mut number = 1;
+    while !rest.is_empty() {
+        let (line, others) = first_line(rest);
+        match line_directive(machines, line) {
+            Ok(found) => add(&mut directives, found)?,
+            Err(fault) => {
+                return Err(SchedNo::Refused {
+                    line: number,
+                    fault,
+                });
+            }
         }
-        match after_turn(rest) {
-            Some(after) => rest = after,
-            None => return Err(refused(line + 1)),
-        }
-        push(&mut steps, Step::Turn(0))?;
+        number += 1;
+        rest = others;
     }
-    if rest.is_empty() {
-        Ok(steps)
-    } else {
-        Err(refused(MOST_LINES + 1))
-    }
+    Ok(directives)
 }
 
-/// A line that is no directive.
-fn refused(line: u32) -> SchedNo
-    ensures { result ≡ SchedNo.Refused line 0 }
+/// Adds a directive at the end, if there is one.
+fn add(directives: &mut Vec<Directive>, found: Option<Directive>) -> Result<(), SchedNo>
+    ensures ok { OnOk result (directives.new.items ≡ directives.old.items ++ option_to_list found) }
+    ensures err { IfErr result (λ e. e ≡ no.NoMemory) }
 {
-    SchedNo::Refused { line, why: 0 }
-}
-
-/// What follows a first line that is `turn 0`.
-fn after_turn(text: &[u8]) -> Option<&[u8]>
-    ensures some { IfSome result (λ rest. (starts_with nat_eq text.now turn_line ≡ true) × (rest.now ≡ drop 7 text.now)) }
-    ensures none { IfNone result (starts_with nat_eq text.now turn_line ≡ false) }
-{
-    text.strip_prefix(TURN)
-}
-
-/// Adds a directive at the end.
-fn push(steps: &mut Vec<Step>, step: Step) -> Result<(), SchedNo>
-    ensures ok { OnOk result (steps.new.items ≡ steps.old.items ++ step ∷ []) }
-    ensures err { IfErr result (λ e. e ≡ SchedNo.NoMemory) }
-{
-    match steps.push(step) {
+    let Some(directive) = found else {
+        return Ok(());
+    };
+    match directives.push(directive) {
         Ok(()) => Ok(()),
         Err(_) => Err(SchedNo::NoMemory),
     }
 }
-
-#[cfg(test)]
-mod tests;

@@ -1,49 +1,108 @@
-use crate::{SchedNo, Step, read_schedule};
+//! Schedules worked out by hand, for two machines.
+use crate::{Directive, SchedNo, Step, read_schedule};
+use dm_link::Pid;
+use std::alloc::Global;
 use std::test::Fail;
 
-#[test]
-fn lines_that_are_turns(rt: HostRuntime) -> Result<(), Fail> {
-    let table: [(&[u8], Result<usize, u32>); 10] = [
-        (b"", Ok(0)),
-        (b"turn 0\n", Ok(1)),
-        (b"turn 0\nturn 0\nturn 0\n", Ok(3)),
-        (b"turn 0", Err(1)),
-        (b"\n", Err(1)),
-        (b"turn 1\n", Err(1)),
-        (b"turn  0\n", Err(1)),
-        (b"turn 0\r\n", Err(1)),
-        (b"turn 0\n\nturn 0\n", Err(2)),
-        (b"turn 0\nturn 0\ntick 0\n", Err(3)),
-    ];
-    for (text, answer) in table {
-        match read_schedule(rt.alloc(), text) {
-            Ok(steps) => {
-                assert_eq!(rt; Ok(steps.len()), answer);
-                for step in &steps {
-                    assert_eq!(rt; *step, Step::Turn(0));
-                }
-            }
-            Err(SchedNo::Refused { line, why }) => {
-                assert_eq!(rt; Err(line), answer);
-                assert_eq!(rt; why, 0);
-            }
-            Err(SchedNo::NoMemory) => assert!(rt; false, "no memory"),
-        }
+/// The bad line and the number of its fault, (0, 0) where there is none.
+fn refusal(alloc: Global, text: &[u8]) -> (u64, u8) {
+    match read_schedule(alloc, text, 2) {
+        Ok(_) => (0, 0),
+        Err(SchedNo::Refused { line, fault }) => (line, fault.number()),
+        Err(SchedNo::NoMemory) => (0, 255),
     }
-    Ok(())
 }
 
 #[test]
-fn at_most_a_thousand_lines(rt: HostRuntime) -> Result<(), Fail> {
-    let mut text = Vec::new(rt.alloc());
-    for _ in 0..1000 {
-        text.extend_from_slice(b"turn 0\n")?;
+fn words_lines_and_counts(rt: HostRuntime) {
+    let table: [(&[u8], u64, u8); 23] = [
+        (b"hop", 1, 1),
+        (b"\xff", 1, 1),
+        (b"Turn 0", 1, 1),
+        (b"turn\r0", 1, 1),
+        (b"\r", 1, 1),
+        (b"\r\r\n", 1, 1),
+        (b"\r\n\t\n", 0, 0),
+        (b"turn", 1, 2),
+        (b"turn # 0", 1, 2),
+        (b"tick 0 0", 1, 2),
+        (b"tick x 0", 1, 2),
+        (b"deliver 0 0", 1, 2),
+        (b"migrate 0.3", 1, 2),
+        (b"round 0", 1, 2),
+        (b"spin", 1, 2),
+        (b"turn #", 1, 3),
+        (b"turn 0\r", 1, 3),
+        (b"turn 0\r0\n", 1, 3),
+        (b"turn 0\r\r\n", 1, 3),
+        (b"  # hop\n#hop\r\n\t#", 0, 0),
+        (b"turn 0\nturn 2", 2, 4),
+        (b"turn 2\nhop", 1, 4),
+        (b"#\n\n \t\r\nhop\nturn 2", 4, 1),
+    ];
+    for (text, line, fault) in table {
+        assert_eq!(rt; refusal(rt.alloc(), text), (line, fault));
     }
-    assert_eq!(rt; read_schedule(rt.alloc(), &text)?.len(), 1000);
-    text.extend_from_slice(b"turn 0\n")?;
-    match read_schedule(rt.alloc(), &text) {
-        Ok(_) => assert!(rt; false, "a line too many was read"),
-        Err(e) => assert_eq!(rt; e, SchedNo::Refused { line: 1001, why: 0 }),
+}
+
+#[test]
+fn numbers_and_limits(rt: HostRuntime) {
+    let table: [(&[u8], u64, u8); 31] = [
+        (b"turn x", 1, 3),
+        (b"turn +1", 1, 3),
+        (b"turn 00000000000", 1, 3),
+        (b"turn 99999999999", 1, 3),
+        (b"turn 9999999999", 1, 4),
+        (b"turn 0000000001", 0, 0),
+        (b"turn 2", 1, 4),
+        (b"tick 256", 1, 4),
+        (b"deliver 9 x 0", 1, 4),
+        (b"deliver x 9 0", 1, 3),
+        (b"deliver 0 0 x", 1, 3),
+        (b"deliver 0 0 4294967296", 1, 4),
+        (b"deliver 0 0 0", 1, 5),
+        (b"deliver 1 01 0", 1, 5),
+        (b"deliver 0 1 4294967295", 0, 0),
+        (b"deliver 0 1 4294967296", 1, 4),
+        (b"migrate 0.3.1 1", 1, 3),
+        (b"migrate 0 1", 1, 3),
+        (b"migrate 0. 1", 1, 3),
+        (b"migrate .3 1", 1, 3),
+        (b"migrate 9.x 1", 1, 3),
+        (b"migrate 0.00000000003 1", 1, 3),
+        (b"migrate 2.3 x", 1, 4),
+        (b"migrate 1.3 1", 0, 0),
+        (b"migrate 0.4294967295 1", 0, 0),
+        (b"migrate 0.4294967296 1", 1, 4),
+        (b"migrate 0.3 2", 1, 4),
+        (b"spin 0", 1, 4),
+        (b"spin 1", 0, 0),
+        (b"spin 65536", 0, 0),
+        (b"spin 65537", 1, 4),
+    ];
+    for (text, line, fault) in table {
+        assert_eq!(rt; refusal(rt.alloc(), text), (line, fault));
     }
+}
+
+#[test]
+fn directives_in_order(rt: HostRuntime) -> Result<(), Fail> {
+    let text =
+        b"turn 00\r\n\n\t tick\t1 \n# turn 1\nround\ndeliver 1 0 7\nspin 65536\nmigrate 00.03 01";
+    let directives = read_schedule(rt.alloc(), text, 2)?;
+    let wanted = [
+        Directive::One(Step::Turn(0)),
+        Directive::One(Step::Tick(1)),
+        Directive::Round,
+        Directive::One(Step::Deliver { a: 1, b: 0, k: 7 }),
+        Directive::Spin(65_536),
+        Directive::One(Step::Migrate {
+            pid: Pid { home: 0, num: 3 },
+            to: 1,
+        }),
+    ];
+    assert_eq!(rt; directives.as_slice(), wanted.as_slice());
+    assert_eq!(rt; read_schedule(rt.alloc(), b"", 0)?.len(), 0);
+    assert_eq!(rt; read_schedule(rt.alloc(), b"turn 254", 255)?.len(), 1);
     Ok(())
 }

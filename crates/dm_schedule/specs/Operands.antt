@@ -1,0 +1,63 @@
+-- The values of operands, from left to right.
+use Rattle.std.specs.Prelude.{ℕ, Bool, ◌&&◌, nat_lt, nat_le, if◌then◌else◌, Option, Some, None, Result, Ok, Err, List, [], ◌∷◌}
+use Rattle.dm_link.specs.declared.Pid.{Pid}
+use Rattle.dm_schedule.specs.declared.LineFault.{LineFault}
+use Rattle.dm_schedule.specs.declared.LineFault.TheVariants.{WrongCount, NotANumber, OutOfRange}
+use Rattle.dm_schedule.specs.Keywords.{Operand, Machine, Process, Packet, Rounds}
+use Rattle.dm_schedule.specs.Numbers.{number_of, process_of}
+
+-- the values of an operand
+abbrev pub Value : Operand → Type 0
+Value Machine = ℕ
+Value Process = Pid
+Value Packet = ℕ
+Value Rounds = ℕ
+
+-- the values of some operands
+abbrev pub Values : List Operand → Type 0
+Values [] = Unit {0}
+Values (o ∷ os) = Value o × Values os
+
+-- a value that must be there, and in its range
+abbrev pub within : {A : Type 0} → (A → Bool) → Option A → Result A LineFault
+within fits None = Err NotANumber
+within fits (Some x) = if fits x then Ok x else Err OutOfRange
+
+-- a machine: below the number of machines
+abbrev pub machine_in : ℕ → List ℕ → Result ℕ LineFault
+machine_in machines word = within (λ m. nat_lt m machines) (number_of word)
+
+-- a process: its home is below the number of machines, its number below 2^32
+abbrev pub process_in : ℕ → List ℕ → Result Pid LineFault
+process_in machines word = within (λ p. nat_lt p.home machines && nat_le p.num 4294967295) (process_of word)
+
+-- the place of a packet: below 2^32
+abbrev pub packet_in : List ℕ → Result ℕ LineFault
+packet_in word = within (λ k. nat_le k 4294967295) (number_of word)
+
+-- a number of rounds: 1 to 65,536
+abbrev pub rounds_in : List ℕ → Result ℕ LineFault
+rounds_in word = within (λ n. nat_le 1 n && nat_le n 65536) (number_of word)
+
+-- the value of an operand that is written as a word, with so many machines
+abbrev pub value_of : ℕ → (o : Operand) → List ℕ → Result (Value o) LineFault
+value_of machines Machine word = machine_in machines word
+value_of machines Process word = process_in machines word
+value_of machines Packet word = packet_in word
+value_of machines Rounds word = rounds_in word
+
+-- what follows a value, or the fault in its place
+infixl 10 ◌>>=◌
+abbrev pub ◌>>=◌ : {A B : Type 0} → Result A LineFault → (A → Result B LineFault) → Result B LineFault
+(Ok x) >>= f = f x
+(Err fault) >>= f = Err fault
+
+-- the values of some operands, each written as a word
+abbrev pub values_of : ℕ → (os : List Operand) → List (List ℕ) → Result (Values os) LineFault
+values_of machines [] [] = Ok tt
+values_of machines [] (w ∷ ws) = Err WrongCount
+values_of machines (o ∷ os) [] = Err WrongCount
+values_of machines (o ∷ os) (w ∷ ws) = do
+  v ← value_of machines o w
+  vs ← values_of machines os ws
+  Ok (v, vs)

@@ -1,0 +1,48 @@
+//! The words that lines begin with.
+ghost use Rattle.std.specs.Prelude.{◌≡◌};
+ghost use Rattle.dm_schedule.specs.Keywords.{keyword_of, word_of};
+
+/// What a line is to do.
+#[derive(Clone, Copy, Debug, PartialEq, Eq)]
+pub enum Keyword {
+    Turn,
+    Tick,
+    Deliver,
+    Migrate,
+    Round,
+    Spin,
+}
+
+/// All keywords.
+const KEYWORDS: [Keyword; 6] = [
+    Keyword::Turn,
+    Keyword::Tick,
+    Keyword::Deliver,
+    Keyword::Migrate,
+    Keyword::Round,
+    Keyword::Spin,
+];
+
+impl Keyword {
+    /// The word that this keyword is.
+    fn word(self) -> &'static [u8]
+        ensures { result.now ≡ word_of self }
+    {
+        match self {
+            Keyword::Turn => b"turn",
+            Keyword::Tick => b"tick",
+            Keyword::Deliver => b"deliver",
+            Keyword::Migrate => b"migrate",
+            Keyword::Round => b"round",
+            Keyword::Spin => b"spin",
+        }
+    }
+
+    /// The keyword that a word is.
+    #[tactic(auto, unfolding(crate::specs::Keywords::keyword_of))]
+    pub fn from_word(word: &[u8]) -> Option<Keyword>
+        ensures { result ≡ keyword_of word.now }
+    {
+        KEYWORDS.iter().copied().find(|k| word == k.word())
+    }
+}

@@ -1,0 +1,56 @@
+//! Numbers and names of processes as they are written.
+ghost use Rattle.std.specs.Prelude.{◌≡◌, ◌≤◌, length, option_map};
+ghost use Rattle.std.specs.List.{position};
+ghost use Rattle.dm_link.specs.Names.{pid_of};
+ghost use Rattle.dm_schedule.specs.Numbers.{going_on, is_point, number_of, process_of};
+
+/// The most digits of a number.
+const MOST_DIGITS: usize = 10;
+
+/// The number that so many digits are.
+fn digits_value(digits: &[u8]) -> Option<u64>
+    requires { length digits.now ≤ 10 }
+    ensures { result ≡ going_on 0 digits.now }
+{
+    let mut value: u64 = 0;
+    for c in digits {
+        if !c.is_ascii_digit() {
+            return None;
+        }
+        value = value * 10 + u64::from(*c - b'0');
+    }
+    Some(value)
+}
+
+/// The number that a word is: one to ten digits.
+#[tactic(auto, unfolding(crate::specs::Numbers::number_of))]
+pub fn number(word: &[u8]) -> Option<u64>
+    ensures { result ≡ number_of word.now }
+{
+    if word.is_empty() || word.len() > MOST_DIGITS {
+        None
+    } else {
+        digits_value(word)
+    }
+}
+
+/// Where the first point of a word stands.
+fn point(word: &[u8]) -> Option<usize>
+    ensures { result ≡ position is_point word.now }
+{
+    word.iter().position(|c| *c == b'.')
+}
+
+/// The two numbers of the name of a process that a word is: its machine, and its number there.
+#[tactic(auto, unfolding(crate::specs::Numbers::process_of))]
+pub fn process_numbers(word: &[u8]) -> Option<(u64, u64)>
+    ensures { option_map (λ p. pid_of p.0 p.1) result ≡ process_of word.now }
+{
+    match point(word) {
+        None => None,
+        Some(at) => match (number(&word[..at]), number(&word[at + 1..])) {
+            (Some(home), Some(num)) => Some((home, num)),
+            _ => None,
+        },
+    }
+}
