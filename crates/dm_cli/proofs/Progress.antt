@@ -1,22 +1,25 @@
 -- What is written while a run goes on.
-use Rattle.std.proofs.Common.{◌≡◌, ℕ, zero, suc, ◌+◌, ◌<◌, List, [], ◌∷◌, ◌++◌, take, drop, refl, ap, sym, ◌∙◌, subst, append_assoc, add-zero, add-suc, add-one, arith, ◌⊎◌, inl, inr, None, Some}
+use Rattle.std.proofs.Common.{◌≡◌, ℕ, suc, ◌+◌, ◌<◌, false, List, [], ◌∷◌, ◌++◌, take, drop, refl, ap, sym, ◌∙◌, subst, append_assoc, add-one, arith, ◌⊎◌, inl, inr, None, Some}
+use Rattle.std.proofs.lemmas.Bool.{cases_eq, false≢true}
 use Rattle.std.proofs.lemmas.List.{append-nil, take-append-drop}
 use Rattle.std.specs.declared.option.Option.{Option}
-use Rattle.std.specs.declared.result.Result.TheVariants.{Err}
+use Rattle.std.specs.Result.{IfErr, IsErr, IsErrAnd}
+use Rattle.std.specs.declared.result.Result.{Result}
+use Rattle.std.specs.declared.result.Result.TheVariants.{Ok, Err}
 use Rattle.dm_onekernel.specs.declared.boot.Boot.{Boot}
 use Rattle.dm_trace.specs.declared.line.Line.{Line}
 use Rattle.dm_trace.specs.Good.{joined}
 use Rattle.dm_trace.specs.Text.{text}
 use Rattle.dm_trace.proofs.TextLaws.{text-empty, text-append}
-use Rattle.dm_node.specs.Node.{NodeState}
+use Rattle.dm_node.specs.Node.{is_worn}
 use Rattle.dm_node.specs.Opened.{opened}
-use Rattle.dm_world.specs.Run.{after_turns, group_of, groups}
-use Rattle.dm_world.specs.World.{last_lines, machine_after}
+use Rattle.dm_world.specs.Run.{group_of, groups}
+use Rattle.dm_world.specs.World.{Lasts, last_lines, machine_after}
 use Rattle.dm_outside.specs.Outside.{appended}
 use Rattle.dm_cli.specs.declared.run.Stop.{Stop}
-use Rattle.dm_cli.specs.declared.run.Stop.TheVariants.{NoMemory, WriteFault}
+use Rattle.dm_cli.specs.declared.run.Stop.TheVariants.{NoMemory, WriteFault, Worn}
 use Rattle.dm_cli.specs.Output.{IsCutShort}
-use Rattle.dm_cli.specs.Progress.{Offered, LacksAfter, FailsIn, Stopped, StoppedLate, text_after}
+use Rattle.dm_cli.specs.Progress.{Offered, Took, LacksAfter, FailsIn, FailsLate, WornAfter, Stopped, StoppedLate, text_after}
 use Rattle.dm_cli.proofs.Writing.{appended_twice}
 
 pub joined-append : (a b : List (List Line)) → joined (a ++ b) ≡ joined a ++ joined b
@@ -45,29 +48,51 @@ more_written b i old now new e f =
     ∙ ap (λ t. appended old t) (text_more b i)
     ∙ ap (λ k. appended old (text_after b k)) (sym (add-one i))
 
+-- no turn yet was worn
+pub lasts_none : (b : Boot) → Lasts b 0
+lasts_none b j h = absurd (omega (arith, h))
+
+-- one more turn that wasn't
+pub lasts_more : (b : Boot) (k : ℕ) → Lasts b k → is_worn (machine_after b k) ≡ false → Lasts b (suc k)
+lasts_more b k l w j h = elim (cases_eq j k) [
+  | inl same ↦ subst (λ i. is_worn (machine_after b i) ≡ false) (sym same) w
+  | inr other ↦ l j (omega arith)
+]
+
+pub lasts_next : (b : Boot) (k : ℕ) → Lasts b k → is_worn (machine_after b k) ≡ false → Lasts b (k + 1)
+lasts_next b k l w = subst (Lasts b) (sym (add-one k)) (lasts_more b k l w)
+
 pub lacks_first : (b : Boot) (n : ℕ) (old : Option (List ℕ)) → LacksAfter b n old old
-lacks_first b n old = record { turns = 0; within = omega arith; written = nothing_yet b old }
+lacks_first b n old = record { turns = 0; within = omega arith; lasts = lasts_none b; written = nothing_yet b old }
+
+-- the lines of a turn were offered
+pub took : (A : Type 0) (b : Boot) (k : ℕ) (old new : Option (List ℕ)) (lines : List Line) (r : Result A Stop) → is_worn (machine_after b k) ≡ false → lines ≡ group_of (machine_after b k) → Offered old (text lines) new r → Took b k old new r
+took A b k old new lines (Ok x) lasts e o = (lasts, o ∙ ap (λ l. appended old (text l)) e)
+took A b k old new lines (Err NoMemory) lasts e o = o
+took A b k old new lines (Err WriteFault) lasts e o = (lasts, subst (λ l. IsCutShort old (text l) new) e o)
+took A b k old new lines (Err (Worn from to)) lasts e o = absurd o
+
+-- what holds of the one error holds of the error there is
+pub if_err : (A : Type 0) (r : Result A Stop) (e : Stop) (P : Stop → Type 0) → IsErr r × IsErrAnd r (λ y. y ≡ e) → P e → IfErr r P
+if_err A (Ok x) e P h p = absurd (false≢true h.0)
+if_err A (Err y) e P h p = subst P (sym h.1) p
 
 -- a turn that came to no end
-pub stopped_here : (A : Type 0) (b : Boot) (n i : ℕ) (old now new : Option (List ℕ)) (e : Stop) → i < n → now ≡ appended old (text_after b i) → Offered {A = A} now (text (group_of (machine_after b i))) new (Err e) → Stopped b n old new e
-stopped_here A b n i old now new NoMemory h w o = record { turns = i; within = omega arith; written = o ∙ w }
-stopped_here A b n i old now new WriteFault h w o = record { turns = i; within = h; cut = subst (λ t. IsCutShort t (text (group_of (machine_after b i))) new) w o }
+pub stopped_here : (A : Type 0) (b : Boot) (n i : ℕ) (old now new : Option (List ℕ)) (e : Stop) → i < n → Lasts b i → now ≡ appended old (text_after b i) → Took {A = A} b i now new (Err e) → Stopped b n old new e
+stopped_here A b n i old now new NoMemory h l w o = record { turns = i; within = omega arith; lasts = l; written = o ∙ w }
+stopped_here A b n i old now new WriteFault h l w o = record { turns = i; within = h; lasts = lasts_more b i l o.0; cut = subst (λ t. IsCutShort t (text (group_of (machine_after b i))) new) w o.1 }
+stopped_here A b n i old now new (Worn from to) h l w o = record { turns = i; within = h; lasts = l; worn = o.0; written = o.1 ∙ w; from_is = o.2; to_is = o.3 }
 
 -- lines at the end that came to no end
-pub stopped_late : (A : Type 0) (b : Boot) (n : ℕ) (old now new : Option (List ℕ)) (e : Stop) → now ≡ appended old (text_after b n) → Offered {A = A} now (text (last_lines b n)) new (Err e) → StoppedLate b n old new e
-stopped_late A b n old now new NoMemory w o = record { turns = n; within = omega arith; written = o ∙ w }
-stopped_late A b n old now new WriteFault w o = inr (subst (λ t. IsCutShort t (text (last_lines b n)) new) w o)
+pub stopped_late : (A : Type 0) (b : Boot) (n : ℕ) (old now new : Option (List ℕ)) (e : Stop) → Lasts b n → now ≡ appended old (text_after b n) → Offered {A = A} now (text (last_lines b n)) new (Err e) → StoppedLate b n old new e
+stopped_late A b n old now new NoMemory l w o = record { turns = n; within = omega arith; lasts = l; written = o ∙ w }
+stopped_late A b n old now new WriteFault l w o = inr (record { lasts = l; cut = subst (λ t. IsCutShort t (text (last_lines b n)) new) w o })
+stopped_late A b n old now new (Worn from to) l w o = absurd o
 
 pub stopped_before : (b : Boot) (n : ℕ) (old new : Option (List ℕ)) (e : Stop) → Stopped b n old new e → StoppedLate b n old new e
 stopped_before b n old new NoMemory s = s
 stopped_before b n old new WriteFault s = inl s
-
--- groups of a run, and then more
-pub groups_add : (i k : ℕ) (n : NodeState) → (more : List (List Line)) × (groups (i + k) n ≡ groups i n ++ more)
-groups_add i zero n = ([], ap (λ k. groups k n) (add-zero i) ∙ sym (append-nil (groups i n)))
-groups_add i (suc k) n =
-    let h = groups_add i k n in
-    (h.0 ++ group_of (after_turns (i + k) n) ∷ [], ap (λ j. groups j n) (add-suc i k) ∙ ap (λ l. l ++ group_of (after_turns (i + k) n) ∷ []) h.1 ∙ append_assoc (groups i n) h.0 (group_of (after_turns (i + k) n) ∷ []))
+stopped_before b n old new (Worn from to) s = s
 
 -- some of a text, and what is left
 pub begun_text : (gs more all : List (List Line)) (g ends : List Line) (c : ℕ) → all ≡ (gs ++ g ∷ []) ++ more → text (joined all ++ ends) ≡ (text (joined gs) ++ take c (text g)) ++ (drop c (text g) ++ text (joined more ++ ends))
@@ -84,9 +109,12 @@ begun_text gs more all g ends c e =
     ∙ ap (λ x. x ++ R) (text-append J g ∙ ap (λ x. text J ++ x) (sym (take-append-drop c t)) ∙ sym (append_assoc (text J) (take c t) (drop c t)))
     ∙ append_assoc (text J ++ take c t) (drop c t) R
 
--- which of the two it was
+-- which of the three it was
 pub lacks_of : (b : Boot) (n : ℕ) (old new : Option (List ℕ)) (e : Stop) → StoppedLate b n old new e → e ≡ NoMemory → LacksAfter b n old new
 lacks_of b n old new e s f = subst (λ x. StoppedLate b n old new x) f s
 
-pub fails_of : (b : Boot) (n : ℕ) (old new : Option (List ℕ)) (e : Stop) → StoppedLate b n old new e → e ≡ WriteFault → FailsIn b n old new ⊎ IsCutShort (appended old (text_after b n)) (text (last_lines b n)) new
+pub fails_of : (b : Boot) (n : ℕ) (old new : Option (List ℕ)) (e : Stop) → StoppedLate b n old new e → e ≡ WriteFault → FailsIn b n old new ⊎ FailsLate b n old new
 fails_of b n old new e s f = subst (λ x. StoppedLate b n old new x) f s
+
+pub worn_of : (b : Boot) (n : ℕ) (old new : Option (List ℕ)) (e : Stop) (from to : ℕ) → StoppedLate b n old new e → e ≡ Worn from to → WornAfter b n old new from to
+worn_of b n old new e from to s f = subst (λ x. StoppedLate b n old new x) f s

@@ -1,11 +1,18 @@
 -- What the words, the boot file and the schedule say.
-use Rattle.std.specs.Prelude.{◌≡◌, ℕ, ◌≤◌, ⊤, List, length}
+use Rattle.std.specs.Prelude.{◌≡◌, ℕ, ◌+◌, ◌≤◌, ◌⊎◌, ◌==◌, ◌&&◌, Bool, true, false, if◌then◌else◌, ⊤, List, [], ◌∷◌, length}
+use Rattle.std.specs.declared.result.Result.TheVariants.{Ok, Err}
 use Rattle.std.specs.declared.option.Option.{Option}
 use Rattle.std.specs.declared.option.Option.TheVariants.{None, Some}
 use Rattle.dm_onekernel.specs.declared.boot.Boot.{Boot}
+use Rattle.dm_onemachine.specs.Boot.{speak_alone}
+use Rattle.dm_boot.specs.declared.rules.BootRule.{BootRule}
+use Rattle.dm_boot.specs.Rules.{rule_number}
 use Rattle.dm_boot.specs.Boot.{boot_of}
-use Rattle.dm_schedule.specs.declared.Step.{Step}
-use Rattle.dm_schedule.specs.Schedule.{Accepted, Refused, directives_of}
+use Rattle.dm_schedule.specs.declared.Step.TheVariants as step
+use Rattle.dm_schedule.specs.declared.Directive.{Directive}
+use Rattle.dm_schedule.specs.declared.Directive.TheVariants as directive
+use Rattle.dm_schedule.specs.declared.LineFault.{LineFault}
+use Rattle.dm_schedule.specs.Schedule.{Accepted, Refused, directives_of, number_of_fault}
 use Rattle.dm_outside.specs.Outside.{RoseOrFull}
 use Rattle.dm_cli.specs.declared.status.Input.TheVariants as input
 use Rattle.dm_cli.specs.declared.status.Status.{Status}
@@ -29,32 +36,34 @@ pub record HasFile (files : Option (List ℕ → Option (List ℕ))) (name : Lis
 pub record SaysBoot (files : Option (List ℕ → Option (List ℕ))) (name : List ℕ) (b : Boot) : Type 0 where
   pub bytes : List ℕ
   pub file : HasFile files name most_boot bytes
-  pub says : boot_of bytes ≡ Some b
+  pub says : boot_of bytes ≡ Ok b
 
--- the boot file of this name says no system
+-- the boot file of this name breaks the rule of this number, at this place
 pub record RefusesBoot (files : Option (List ℕ → Option (List ℕ))) (name : List ℕ) (number place : ℕ) : Type 0 where
   pub bytes : List ℕ
   pub file : HasFile files name most_boot bytes
-  pub refused : boot_of bytes ≡ None
-  pub number_is : number ≡ 0
-  pub place_is : place ≡ 0
+  pub rule : BootRule
+  pub refused : boot_of bytes ≡ Err (rule, place)
+  pub number_is : number ≡ rule_number rule
 
--- the schedule of this name says these directives
-pub record SaysSteps (files : Option (List ℕ → Option (List ℕ))) (name : List ℕ) (steps : List Step) : Type 0 where
+-- the schedule of this name says these directives for so many machines
+pub record SaysDirectives (files : Option (List ℕ → Option (List ℕ))) (name : List ℕ) (machines : ℕ) (ds : List Directive) : Type 0 where
   pub bytes : List ℕ
   pub file : HasFile files name most_schedule bytes
-  pub says : directives_of bytes ≡ Accepted steps
+  pub says : directives_of bytes machines ≡ Accepted ds
 
 -- the schedule of this name is refused at a line, for a reason
-pub record RefusesSteps (files : Option (List ℕ → Option (List ℕ))) (name : List ℕ) (line why : ℕ) : Type 0 where
+pub record RefusesSchedule (files : Option (List ℕ → Option (List ℕ))) (name : List ℕ) (machines line why : ℕ) : Type 0 where
   pub bytes : List ℕ
   pub file : HasFile files name most_schedule bytes
-  pub refused : directives_of bytes ≡ Refused line why
+  pub fault : LineFault
+  pub refused : directives_of bytes machines ≡ Refused line fault
+  pub why_is : why ≡ number_of_fault fault
 
 -- files of these names say this system and these directives
-pub record SaysFiles (files : Option (List ℕ → Option (List ℕ))) (boot schedule : List ℕ) (b : Boot) (steps : List Step) : Type 0 where
+pub record SaysFiles (files : Option (List ℕ → Option (List ℕ))) (boot schedule : List ℕ) (b : Boot) (ds : List Directive) : Type 0 where
   pub says_boot : SaysBoot files boot b
-  pub says_steps : SaysSteps files schedule steps
+  pub says_directives : SaysDirectives files schedule (length b.machines) ds
 
 -- why the boot file of this name gives no system
 abbrev pub NoBoot : Option (List ℕ → Option (List ℕ)) → List ℕ → ℕ → ℕ → Status → Type 0
@@ -65,35 +74,86 @@ NoBoot files name old new (status.TooLong input.Boot) = IsLonger files name most
 NoBoot files name old new _ = ⊥
 
 -- why the schedule of this name gives no directives
-abbrev pub NoSteps : Option (List ℕ → Option (List ℕ)) → List ℕ → ℕ → ℕ → Status → Type 0
-NoSteps files name old new status.ReadFault = RoseOrFull old new
-NoSteps files name old new status.NoMemory = ⊤
-NoSteps files name old new (status.ScheduleRefused line why) = RefusesSteps files name line why
-NoSteps files name old new (status.TooLong input.Schedule) = IsLonger files name most_schedule
-NoSteps files name old new _ = ⊥
+abbrev pub NoDirectives : Option (List ℕ → Option (List ℕ)) → List ℕ → ℕ → ℕ → ℕ → Status → Type 0
+NoDirectives files name machines old new status.ReadFault = RoseOrFull old new
+NoDirectives files name machines old new status.NoMemory = ⊤
+NoDirectives files name machines old new (status.ScheduleRefused line why) = RefusesSchedule files name machines line why
+NoDirectives files name machines old new (status.TooLong input.Schedule) = IsLonger files name most_schedule
+NoDirectives files name machines old new _ = ⊥
 
--- the boot file says a system, and this holds too
-pub record AfterBoot (files : Option (List ℕ → Option (List ℕ))) (boot : List ℕ) (Holds : Type 0) : Type 0 where
+-- a system that the program can run today: one machine, and no link to a server
+abbrev pub can_run : Boot → Bool
+can_run b = (length b.machines == 1) && speak_alone b.processes
+
+-- a turn of machine 0, the one directive that the program can do today
+abbrev pub is_turn : Directive → Bool
+is_turn (directive.One (step.Turn m)) = m == 0
+is_turn (directive.One (step.Tick m)) = false
+is_turn (directive.One (step.Deliver a b k)) = false
+is_turn (directive.One (step.Migrate p m)) = false
+is_turn directive.Round = false
+is_turn (directive.Spin k) = false
+
+-- the number of the first directive that is no turn of machine 0, the next one having number n
+unfoldable pub first_other : ℕ → List Directive → Option ℕ
+first_other n [] = None
+first_other n (d ∷ ds) = if is_turn d then first_other (n + 1) ds else Some n
+
+-- the boot file says a system, and the schedule is at fault
+pub record AfterBoot (files : Option (List ℕ → Option (List ℕ))) (boot : List ℕ) (Holds : ℕ → Type 0) : Type 0 where
   pub b : Boot
   pub says : SaysBoot files boot b
-  pub holds : Holds
+  pub holds : Holds (length b.machines)
+
+-- files say a system and directives, and the program can't run the system yet
+pub record CannotRun (files : Option (List ℕ → Option (List ℕ))) (boot schedule : List ℕ) : Type 0 where
+  pub b : Boot
+  pub ds : List Directive
+  pub says : SaysFiles files boot schedule b ds
+  pub system : can_run b ≡ false
+
+-- files say a system and directives, and the program can't do the directive of this number yet
+pub record CannotDo (files : Option (List ℕ → Option (List ℕ))) (boot schedule : List ℕ) (number : ℕ) : Type 0 where
+  pub b : Boot
+  pub ds : List Directive
+  pub says : SaysFiles files boot schedule b ds
+  pub system : can_run b ≡ true
+  pub directive : first_other 1 ds ≡ Some number
+
+-- the boot file is at fault: it breaks a rule, or the program can't run its system yet, which has number 0
+abbrev pub BadBoot : Option (List ℕ → Option (List ℕ)) → List ℕ → List ℕ → ℕ → ℕ → Type 0
+BadBoot files boot schedule number place =
+    RefusesBoot files boot number place ⊎ (CannotRun files boot schedule × (number ≡ 0) × (place ≡ 0))
+
+-- the schedule is at fault: a bad line, or a directive that the program can't do yet, which is told by its number with why 0
+abbrev pub BadSchedule : Option (List ℕ → Option (List ℕ)) → List ℕ → List ℕ → ℕ → ℕ → Type 0
+BadSchedule files boot schedule line why =
+    AfterBoot files boot (λ machines. RefusesSchedule files schedule machines line why) ⊎ (CannotDo files boot schedule line × (why ≡ 0))
 
 -- why files of these names give no run: the first that is at fault
 abbrev pub NoFiles : Option (List ℕ → Option (List ℕ)) → List ℕ → List ℕ → ℕ → ℕ → Status → Type 0
 NoFiles files boot schedule old new status.ReadFault = RoseOrFull old new
 NoFiles files boot schedule old new status.NoMemory = ⊤
-NoFiles files boot schedule old new (status.BootRefused number place) = RefusesBoot files boot number place
-NoFiles files boot schedule old new (status.ScheduleRefused line why) = AfterBoot files boot (RefusesSteps files schedule line why)
+NoFiles files boot schedule old new (status.BootRefused number place) = BadBoot files boot schedule number place
+NoFiles files boot schedule old new (status.ScheduleRefused line why) = BadSchedule files boot schedule line why
 NoFiles files boot schedule old new (status.TooLong input.Boot) = IsLonger files boot most_boot
-NoFiles files boot schedule old new (status.TooLong input.Schedule) = AfterBoot files boot (IsLonger files schedule most_schedule)
+NoFiles files boot schedule old new (status.TooLong input.Schedule) = AfterBoot files boot (λ machines. IsLonger files schedule most_schedule)
 NoFiles files boot schedule old new _ = ⊥
 
--- the words name a boot file and a schedule that say this system and these directives
-pub record Accepts (words : List (List ℕ)) (files : Option (List ℕ → Option (List ℕ))) (b : Boot) (steps : List Step) : Type 0 where
+-- files of these names say this system, which the program can run, and so many turns of its machine
+pub record AcceptsFiles (files : Option (List ℕ → Option (List ℕ))) (boot schedule : List ℕ) (b : Boot) (turns : ℕ) : Type 0 where
+  pub ds : List Directive
+  pub says : SaysFiles files boot schedule b ds
+  pub system : can_run b ≡ true
+  pub directives : first_other 1 ds ≡ None
+  pub count : length ds ≡ turns
+
+-- the words name such files
+pub record Accepts (words : List (List ℕ)) (files : Option (List ℕ → Option (List ℕ))) (b : Boot) (turns : ℕ) : Type 0 where
   pub boot : List ℕ
   pub schedule : List ℕ
   pub names : names_of words ≡ Some (boot, schedule)
-  pub says : SaysFiles files boot schedule b steps
+  pub says : AcceptsFiles files boot schedule b turns
 
 -- the words name files that give no run
 pub record Refuses (words : List (List ℕ)) (files : Option (List ℕ → Option (List ℕ))) (old new : ℕ) (s : Status) : Type 0 where

@@ -4,7 +4,7 @@ use Rattle.std.specs.Fmt.{decimal}
 use Rattle.dm_cli.specs.declared.status.Input.{Input}
 use Rattle.dm_cli.specs.declared.status.Input.TheVariants.{Boot, Schedule}
 use Rattle.dm_cli.specs.declared.status.Status.{Status}
-use Rattle.dm_cli.specs.declared.status.Status.TheVariants.{Done, Usage, ReadFault, NoMemory, WriteFault, BootRefused, ScheduleRefused, TooLong}
+use Rattle.dm_cli.specs.declared.status.Status.TheVariants.{Done, Usage, ReadFault, NoMemory, WriteFault, BootRefused, ScheduleRefused, TooLong, Worn}
 
 -- the number that the program ends with
 abbrev pub code_of : Status → ℕ
@@ -16,6 +16,7 @@ code_of WriteFault = 5
 code_of (BootRefused number place) = 6
 code_of (ScheduleRefused line why) = 7
 code_of (TooLong input) = 8
+code_of (Worn from to) = 9
 
 -- the name of a file that is too long
 abbrev pub input_text : Input → List ℕ
@@ -32,3 +33,4 @@ text_of WriteFault = codes "write fault"
 text_of (BootRefused number place) = codes "boot refused: " ++ decimal number ++ codes " at " ++ decimal place
 text_of (ScheduleRefused line why) = codes "schedule refused: line " ++ decimal line ++ codes ", why " ++ decimal why
 text_of (TooLong input) = codes "too long: " ++ input_text input
+text_of (Worn from to) = codes "worn: " ++ decimal from ++ codes " to " ++ decimal to

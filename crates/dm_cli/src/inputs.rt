@@ -1,16 +1,18 @@
 //! What the program reads before a run: its words, the boot file and the schedule.
 ghost use Rattle.std.specs.Prelude.{◌≡◌, ◌≤◌, map, IfOk, IfErr};
 ghost use Rattle.dm_onekernel.specs.Boot.{IsValid};
+ghost use Rattle.dm_onemachine.specs.Boot.{IsAlone};
 ghost use Rattle.dm_cli.specs.Words.{IsTaken};
-ghost use Rattle.dm_cli.specs.Inputs.{Accepts, NoBoot, NoRun, NoSteps, SaysBoot, SaysFiles, SaysSteps, NoFiles};
+ghost use Rattle.dm_cli.specs.Inputs.{Accepts, AcceptsFiles, NoBoot, NoDirectives, NoFiles, NoRun, SaysBoot, SaysDirectives};
 
 use crate::read::{ReadNo, read_file};
 use crate::status::{Input, Status};
+use crate::today::{can_run, first_other};
 use crate::words::{WordsNo, names};
 use dm_boot::{BootNo, read_boot};
 use dm_onekernel::Boot;
 use dm_outside::Shelf;
-use dm_schedule::{SchedNo, Step, read_schedule};
+use dm_schedule::{Directive, SchedNo, read_schedule};
 use std::alloc::Global;
 
 /// The most bytes of a boot file.
@@ -23,14 +25,15 @@ const MOST_SCHEDULE: u32 = 16_777_216;
 #[derive(Drop)]
 pub struct Inputs {
     pub boot: Boot,
-    pub steps: Vec<Step>,
+    /// How many turns its machine takes.
+    pub turns: usize,
 }
 
 /// What the words name, or why there is no run: of the words, the boot file and the schedule the first that is at
 /// fault.
 pub fn read_inputs<F: Shelf>(alloc: Global, words: &[&str], shelf: &mut F) -> Result<Inputs, Status>
-    ensures accepts { IfOk result (λ i. Accepts (map (λ w. w.now) words.now) (F.told shelf.old) i.boot i.steps.items) }
-    ensures valid { IfOk result (λ i. IsValid i.boot) }
+    ensures accepts { IfOk result (λ i. Accepts (map (λ w. w.now) words.now) (F.told shelf.old) i.boot i.turns) }
+    ensures alone { IfOk result (λ i. IsAlone i.boot) }
     ensures refused { IfErr result (λ s. s ≡ Status.Usage → IsTaken (map (λ w. w.now) words.now) → ⊥) }
     ensures none { IfErr result (λ s. NoRun (map (λ w. w.now) words.now) (F.told shelf.old) (F.faults shelf.old) (F.faults shelf.new) s) }
     ensures same { F.told shelf.new ≡ F.told shelf.old }
@@ -50,15 +53,28 @@ fn read_files<F: Shelf>(
     schedule: &str,
     shelf: &mut F,
 ) -> Result<Inputs, Status>
-    ensures accepts { IfOk result (λ i. SaysFiles (F.told shelf.old) boot.now schedule.now i.boot i.steps.items) }
-    ensures valid { IfOk result (λ i. IsValid i.boot) }
+    ensures accepts { IfOk result (λ i. AcceptsFiles (F.told shelf.old) boot.now schedule.now i.boot i.turns) }
+    ensures alone { IfOk result (λ i. IsAlone i.boot) }
     ensures none { IfErr result (λ s. NoFiles (F.told shelf.old) boot.now schedule.now (F.faults shelf.old) (F.faults shelf.new) s) }
     ensures same { F.told shelf.new ≡ F.told shelf.old }
     ensures reads { F.faults shelf.old ≤ F.faults shelf.new }
 {
     let boot = read_system(alloc, boot, shelf)?;
-    let steps = read_directives(alloc, schedule, shelf)?;
-    Ok(Inputs { boot, steps })
+    let machines = boot.machines.len() as u8;
+    let directives = read_directives(alloc, schedule, machines, shelf)?;
+    if !can_run(&boot) {
+        return Err(Status::BootRefused {
+            number: 0,
+            place: 0,
+        });
+    }
+    match first_other(directives.as_slice()) {
+        Some(line) => Err(Status::ScheduleRefused { line, why: 0 }),
+        None => Ok(Inputs {
+            boot,
+            turns: directives.len(),
+        }),
+    }
 }
 
 /// The system that the boot file of this name says.
@@ -72,7 +88,10 @@ fn read_system<F: Shelf>(alloc: Global, name: &str, shelf: &mut F) -> Result<Boo
     match read_file(alloc, shelf, name, MOST_BOOT) {
         Ok(bytes) => match read_boot(alloc, bytes.as_slice()) {
             Ok(boot) => Ok(boot),
-            Err(BootNo::Refused { number, place }) => Err(Status::BootRefused { number, place }),
+            Err(BootNo::Refused { rule, place }) => Err(Status::BootRefused {
+                number: rule.number(),
+                place,
+            }),
             Err(BootNo::NoMemory) => Err(Status::NoMemory),
         },
         Err(ReadNo::Fault) => Err(Status::ReadFault),
@@ -81,17 +100,25 @@ fn read_system<F: Shelf>(alloc: Global, name: &str, shelf: &mut F) -> Result<Boo
     }
 }
 
-/// The directives that the schedule of this name says.
-fn read_directives<F: Shelf>(alloc: Global, name: &str, shelf: &mut F) -> Result<Vec<Step>, Status>
-    ensures says { IfOk result (λ steps. SaysSteps (F.told shelf.old) name.now steps.items) }
-    ensures none { IfErr result (λ s. NoSteps (F.told shelf.old) name.now (F.faults shelf.old) (F.faults shelf.new) s) }
+/// The directives that the schedule of this name says for so many machines.
+fn read_directives<F: Shelf>(
+    alloc: Global,
+    name: &str,
+    machines: u8,
+    shelf: &mut F,
+) -> Result<Vec<Directive>, Status>
+    ensures says { IfOk result (λ ds. SaysDirectives (F.told shelf.old) name.now machines ds.items) }
+    ensures none { IfErr result (λ s. NoDirectives (F.told shelf.old) name.now machines (F.faults shelf.old) (F.faults shelf.new) s) }
     ensures same { F.told shelf.new ≡ F.told shelf.old }
     ensures reads { F.faults shelf.old ≤ F.faults shelf.new }
 {
     match read_file(alloc, shelf, name, MOST_SCHEDULE) {
-        Ok(bytes) => match read_schedule(alloc, bytes.as_slice()) {
-            Ok(steps) => Ok(steps),
-            Err(SchedNo::Refused { line, why }) => Err(Status::ScheduleRefused { line, why }),
+        Ok(bytes) => match read_schedule(alloc, bytes.as_slice(), machines) {
+            Ok(directives) => Ok(directives),
+            Err(SchedNo::Refused { line, fault }) => Err(Status::ScheduleRefused {
+                line,
+                why: fault.number(),
+            }),
             Err(SchedNo::NoMemory) => Err(Status::NoMemory),
         },
         Err(ReadNo::Fault) => Err(Status::ReadFault),

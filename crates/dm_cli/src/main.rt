@@ -5,6 +5,7 @@ mod inputs;
 mod read;
 mod run;
 mod status;
+mod today;
 mod words;
 mod write;
 

@@ -1,16 +1,15 @@
 //! The run: what the program does with its words, its files and its output.
-ghost use Rattle.std.specs.Prelude.{◌≡◌, ◌≤◌, ◌+◌, ℕ, List, ◌⊎◌, Option, map, length, IfOk, IfErr, OnOk, Some};
+ghost use Rattle.std.specs.Prelude.{◌≡◌, ◌≤◌, ◌+◌, ℕ, List, ◌⊎◌, Option, map, IfOk, IfErr, OnOk, Some, false};
 ghost use Rattle.dm_onekernel.specs.declared.boot.Boot.{Boot as TheBoot};
-ghost use Rattle.dm_onekernel.specs.Boot.{IsValid};
-ghost use Rattle.dm_schedule.specs.declared.Step.{Step as TheStep};
+ghost use Rattle.dm_onemachine.specs.Boot.{IsAlone};
 ghost use Rattle.dm_trace.specs.Text.{text};
-ghost use Rattle.dm_world.specs.Run.{group_of, turns_of};
-ghost use Rattle.dm_world.specs.World.{IsAfter, IsRunning, last_lines, machine_after};
+ghost use Rattle.dm_node.specs.Node.{is_worn};
+ghost use Rattle.dm_world.specs.World.{IsAfter, IsRunning, Lasts, last_lines, machine_after};
 ghost use Rattle.dm_outside.specs.Outside.{RoseOrFull, appended};
 ghost use Rattle.dm_cli.specs.Words.{IsTaken, names_of};
 ghost use Rattle.dm_cli.specs.declared.status.Status.{Status as TheStatus};
 ghost use Rattle.dm_cli.specs.Inputs.{Accepts, NoRun};
-ghost use Rattle.dm_cli.specs.Progress.{Offered, Stopped, StoppedLate, text_after};
+ghost use Rattle.dm_cli.specs.Progress.{Offered, Stopped, StoppedLate, Took, text_after};
 ghost use Rattle.dm_cli.specs.Program.{RunSays, Says};
 
 use crate::inputs::{Inputs, read_inputs};
@@ -20,7 +19,7 @@ use dm_onekernel::Boot;
 use dm_outside::{Shelf, Sink};
 use dm_schedule::Step;
 use dm_trace::{Line, write_lines};
-use dm_world::World;
+use dm_world::{Stop as WorldStop, World};
 use std::alloc::Global;
 
 /// Why a run stopped before its end.
@@ -30,6 +29,8 @@ pub enum Stop {
     NoMemory,
     /// The sink failed.
     WriteFault,
+    /// A message was to be routed between two machines that count as many as they may.
+    Worn { from: u8, to: u8 },
 }
 
 /// Runs the schedule that the words name on the system of the boot file that they name, and writes what happens.
@@ -51,45 +52,44 @@ pub fn run_program<F: Shelf, K: Sink>(
     }) result }
     ensures usage { names_of (map (λ w. w.now) words.now) ≡ None → (result ≡ Status.Usage) ⊎ (result ≡ Status.NoMemory) }
     ensures refused { result ≡ Status.Usage → IsTaken (map (λ w. w.now) words.now) → ⊥ }
-    ensures complete { (files : List ℕ → Option (List ℕ)) (b : TheBoot) (steps : List TheStep) → F.told shelf.old ≡ Some files → Accepts (map (λ w. w.now) words.now) (Some files) b steps → (RoseOrFull (F.faults shelf.old) (F.faults shelf.new) → ⊥) → (RoseOrFull (K.faults out.old) (K.faults out.new) → ⊥) → (result ≡ Status.Done) ⊎ (result ≡ Status.NoMemory) }
+    ensures complete { (files : List ℕ → Option (List ℕ)) (b : TheBoot) (turns : ℕ) → F.told shelf.old ≡ Some files → Accepts (map (λ w. w.now) words.now) (Some files) b turns → Lasts b turns → (RoseOrFull (F.faults shelf.old) (F.faults shelf.new) → ⊥) → (RoseOrFull (K.faults out.old) (K.faults out.new) → ⊥) → (result ≡ Status.Done) ⊎ (result ≡ Status.NoMemory) }
+    ensures wears { (files : List ℕ → Option (List ℕ)) (b : TheBoot) (turns : ℕ) → F.told shelf.old ≡ Some files → Accepts (map (λ w. w.now) words.now) (Some files) b turns → (Lasts b turns → ⊥) → (RoseOrFull (F.faults shelf.old) (F.faults shelf.new) → ⊥) → (RoseOrFull (K.faults out.old) (K.faults out.new) → ⊥) → (result ≡ Status.Worn 0 0) ⊎ (result ≡ Status.NoMemory) }
     ensures refuses { (files : List ℕ → Option (List ℕ)) (s : TheStatus) → F.told shelf.old ≡ Some files → NoRun (map (λ w. w.now) words.now) (Some files) (F.faults shelf.old) (F.faults shelf.new) s → (s ≡ Status.NoMemory → ⊥) → (RoseOrFull (F.faults shelf.old) (F.faults shelf.new) → ⊥) → (result ≡ s) ⊎ (result ≡ Status.NoMemory) }
     ensures same { F.told shelf.new ≡ F.told shelf.old }
     ensures reads { F.faults shelf.old ≤ F.faults shelf.new }
     ensures writes { K.faults out.old ≤ K.faults out.new }
 {
     match read_inputs(alloc, words, shelf) {
-        Ok(Inputs { boot, steps }) => run(alloc, &boot, steps.as_slice(), out),
+        Ok(Inputs { boot, turns }) => run(alloc, &boot, turns, out),
         Err(status) => status,
     }
 }
 
-/// Runs a system by directives that are turns of its machine, and writes the lines of the run.
-fn run<K: Sink>(alloc: Global, boot: &Boot, steps: &[Step], out: &mut K) -> Status
-    requires valid { IsValid boot.now }
-    requires turns { steps.now ≡ turns_of (length steps.now) }
-    requires few { length steps.now ≤ 1000 }
-    ensures says { RunSays boot.now steps.now (K.told out.old) (K.told out.new) (K.faults out.old) (K.faults out.new) result }
+/// Runs a system by so many turns of its machine, and writes the lines of the run.
+fn run<K: Sink>(alloc: Global, boot: &Boot, turns: usize, out: &mut K) -> Status
+    requires { IsAlone boot.now }
+    ensures says { RunSays boot.now turns (K.told out.old) (K.told out.new) (K.faults out.old) (K.faults out.new) result }
     ensures writes { K.faults out.old ≤ K.faults out.new }
 {
-    match run_and_end(alloc, boot, steps, out) {
+    match run_and_end(alloc, boot, turns, out) {
         Ok(()) => Status::Done,
         Err(Stop::NoMemory) => Status::NoMemory,
         Err(Stop::WriteFault) => Status::WriteFault,
+        Err(Stop::Worn { from, to }) => Status::Worn { from, to },
     }
 }
 
 /// Runs the system by these turns, and writes the lines of each and the lines at the end.
-fn run_and_end<K: Sink>(alloc: Global, boot: &Boot, steps: &[Step], out: &mut K) -> Result<(), Stop>
-    requires valid { IsValid boot.now }
-    requires turns { steps.now ≡ turns_of (length steps.now) }
-    requires few { length steps.now ≤ 1000 }
-    ensures whole { OnOk result (K.told out.new ≡ appended (appended (K.told out.old) (text_after boot.now (length steps.now))) (text (last_lines boot.now (length steps.now)))) }
-    ensures stopped { IfErr result (λ e. StoppedLate boot.now (length steps.now) (K.told out.old) (K.told out.new) e) }
+fn run_and_end<K: Sink>(alloc: Global, boot: &Boot, turns: usize, out: &mut K) -> Result<(), Stop>
+    requires { IsAlone boot.now }
+    ensures lasts { OnOk result (Lasts boot.now turns) }
+    ensures whole { OnOk result (K.told out.new ≡ appended (appended (K.told out.old) (text_after boot.now turns)) (text (last_lines boot.now turns))) }
+    ensures stopped { IfErr result (λ e. StoppedLate boot.now turns (K.told out.old) (K.told out.new) e) }
     ensures fault { IfErr result (λ e. e ≡ Stop.WriteFault → RoseOrFull (K.faults out.old) (K.faults out.new)) }
     ensures writes { K.faults out.old ≤ K.faults out.new }
 {
     let mut page = Vec::new(alloc);
-    let world = run_groups(alloc, boot, steps, &mut page, out)?;
+    let world = run_groups(alloc, boot, turns, &mut page, out)?;
     say_end(alloc, &world, &mut page, out)
 }
 
@@ -97,16 +97,15 @@ fn run_and_end<K: Sink>(alloc: Global, boot: &Boot, steps: &[Step], out: &mut K)
 fn run_groups<K: Sink>(
     alloc: Global,
     boot: &Boot,
-    steps: &[Step],
+    turns: usize,
     page: &mut Vec<u8>,
     out: &mut K,
 ) -> Result<World, Stop>
-    requires valid { IsValid boot.now }
-    requires turns { steps.now ≡ turns_of (length steps.now) }
-    requires few { length steps.now ≤ 1000 }
-    ensures after { IfOk result (λ w. IsAfter boot.now (length steps.now) w) }
-    ensures written { OnOk result (K.told out.new ≡ appended (K.told out.old) (text_after boot.now (length steps.now))) }
-    ensures stopped { IfErr result (λ e. Stopped boot.now (length steps.now) (K.told out.old) (K.told out.new) e) }
+    requires { IsAlone boot.now }
+    ensures after { IfOk result (λ w. IsAfter boot.now turns w) }
+    ensures lasts { OnOk result (Lasts boot.now turns) }
+    ensures written { OnOk result (K.told out.new ≡ appended (K.told out.old) (text_after boot.now turns)) }
+    ensures stopped { IfErr result (λ e. Stopped boot.now turns (K.told out.old) (K.told out.new) e) }
     ensures fault { IfErr result (λ e. e ≡ Stop.WriteFault → RoseOrFull (K.faults out.old) (K.faults out.new)) }
     ensures writes { K.faults out.old ≤ K.faults out.new }
 {
@@ -114,8 +113,8 @@ fn run_groups<K: Sink>(
         Ok(world) => world,
         Err(_) => return Err(Stop::NoMemory),
     };
-    'groups: for step in steps {
-        one_group(alloc, &mut world, step, page, out)?;
+    'groups: for _turn in 0..turns {
+        one_group(alloc, &mut world, page, out)?;
     }
     Ok(world)
 }
@@ -124,20 +123,19 @@ fn run_groups<K: Sink>(
 fn one_group<K: Sink>(
     alloc: Global,
     world: &mut World,
-    step: &Step,
     page: &mut Vec<u8>,
     out: &mut K,
 ) -> Result<(), Stop>
-    requires running { IsRunning world.old }
-    requires here { step.now ≡ Step.Turn 0 }
-    ensures after { (b : TheBoot) (k : ℕ) → IsValid b → IsAfter b k world.old → OnOk result (IsAfter b (k + 1) world.new) }
-    ensures says { (b : TheBoot) (k : ℕ) → IsValid b → IsAfter b k world.old → Offered (K.told out.old) (text (group_of (machine_after b k))) (K.told out.new) result }
+    requires { IsRunning world.old }
+    ensures after { (b : TheBoot) (k : ℕ) → IsAlone b → Lasts b k → IsAfter b k world.old → OnOk result (IsAfter b (k + 1) world.new) }
+    ensures says { (b : TheBoot) (k : ℕ) → IsAlone b → Lasts b k → IsAfter b k world.old → Took b k (K.told out.old) (K.told out.new) result }
     ensures fault { IfErr result (λ e. e ≡ Stop.WriteFault → RoseOrFull (K.faults out.old) (K.faults out.new)) }
     ensures writes { K.faults out.old ≤ K.faults out.new }
 {
-    match world.step(step) {
+    match world.step(&Step::Turn(0)) {
         Ok(lines) => offer(alloc, lines.as_slice(), page, out),
-        Err(_) => Err(Stop::NoMemory),
+        Err(WorldStop::NoMemory) => Err(Stop::NoMemory),
+        Err(WorldStop::Worn { from, to }) => Err(Stop::Worn { from, to }),
     }
 }
 
@@ -148,7 +146,7 @@ fn say_end<K: Sink>(
     page: &mut Vec<u8>,
     out: &mut K,
 ) -> Result<(), Stop>
-    ensures says { (b : TheBoot) (k : ℕ) → IsValid b → k ≤ 1000 → IsAfter b k world.now → Offered (K.told out.old) (text (last_lines b k)) (K.told out.new) result }
+    ensures says { (b : TheBoot) (k : ℕ) → IsAlone b → Lasts b k → IsAfter b k world.now → Offered (K.told out.old) (text (last_lines b k)) (K.told out.new) result }
     ensures fault { IfErr result (λ e. e ≡ Stop.WriteFault → RoseOrFull (K.faults out.old) (K.faults out.new)) }
     ensures writes { K.faults out.old ≤ K.faults out.new }
 {

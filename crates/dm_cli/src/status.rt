@@ -26,11 +26,13 @@ pub enum Status {
     /// The sink failed.
     WriteFault,
     /// The boot file breaks this rule, at the element of this place.
-    BootRefused { number: u8, place: u32 },
+    BootRefused { number: u8, place: u64 },
     /// The first bad line of the schedule, counted from 1, and what is wrong with it.
-    ScheduleRefused { line: u32, why: u8 },
+    ScheduleRefused { line: u64, why: u8 },
     /// A file is longer than it may be.
     TooLong(Input),
+    /// A message was to be routed between two machines that count as many as they may.
+    Worn { from: u8, to: u8 },
 }
 
 impl Status {
@@ -47,12 +49,13 @@ impl Status {
             Status::BootRefused { .. } => 6,
             Status::ScheduleRefused { .. } => 7,
             Status::TooLong(_) => 8,
+            Status::Worn { .. } => 9,
         }
     }
 }
 
 /// What a status says in one line, nothing where all is done. It takes no memory.
-pub fn status_text(status: &Status) -> ArrayString<64>
+pub fn status_text(status: &Status) -> ArrayString<96>
     ensures { result.bytes ≡ text_of status.now }
 {
     match *status {
@@ -65,12 +68,13 @@ pub fn status_text(status: &Status) -> ArrayString<64>
         Status::ScheduleRefused { line, why } => schedule_refused(line, why),
         Status::TooLong(Input::Boot) => words("too long: boot"),
         Status::TooLong(Input::Schedule) => words("too long: schedule"),
+        Status::Worn { from, to } => worn(from, to),
     }
 }
 
 /// A text of these words.
-fn words(s: &str) -> ArrayString<64>
-    requires { length s.now ≤ 64 }
+fn words(s: &str) -> ArrayString<96>
+    requires { length s.now ≤ 96 }
     ensures { result.bytes ≡ s.now }
 {
     let mut text = ArrayString::new();
@@ -79,32 +83,43 @@ fn words(s: &str) -> ArrayString<64>
 }
 
 /// What a refused boot file is told.
-fn boot_refused(number: u8, place: u32) -> ArrayString<64>
+fn boot_refused(number: u8, place: u64) -> ArrayString<96>
     ensures { result.bytes ≡ text_of (Status.BootRefused number place) }
 {
     let mut text = words("boot refused: ");
-    push_number(&mut text, number as u32);
+    push_number(&mut text, number as u64);
     text.push_str(" at ");
     push_number(&mut text, place);
     text
 }
 
 /// What a refused schedule is told.
-fn schedule_refused(line: u32, why: u8) -> ArrayString<64>
+fn schedule_refused(line: u64, why: u8) -> ArrayString<96>
     ensures { result.bytes ≡ text_of (Status.ScheduleRefused line why) }
 {
     let mut text = words("schedule refused: line ");
     push_number(&mut text, line);
     text.push_str(", why ");
-    push_number(&mut text, why as u32);
+    push_number(&mut text, why as u64);
+    text
+}
+
+/// What is told of two machines that count as many messages as they may.
+fn worn(from: u8, to: u8) -> ArrayString<96>
+    ensures { result.bytes ≡ text_of (Status.Worn from to) }
+{
+    let mut text = words("worn: ");
+    push_number(&mut text, from as u64);
+    text.push_str(" to ");
+    push_number(&mut text, to as u64);
     text
 }
 
 /// Adds a number in decimal digits.
-fn push_number(text: &mut ArrayString<64>, n: u32)
-    requires { length text.old.bytes + 10 ≤ 64 }
+fn push_number(text: &mut ArrayString<96>, n: u64)
+    requires { length text.old.bytes + 20 ≤ 96 }
     ensures written { text.new.bytes ≡ text.old.bytes ++ decimal n }
-    ensures room { length text.new.bytes ≤ length text.old.bytes + 10 }
+    ensures room { length text.new.bytes ≤ length text.old.bytes + 20 }
 {
     let mut digits = Buffer::new();
     text.push_str(digits.format(n));

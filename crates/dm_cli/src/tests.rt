@@ -33,6 +33,56 @@ slots = 0
 blocks = 0
 ";
 
+const TO_SERVER: &[u8] = b"[[machine]]
+slots = 1
+blocks = 1
+[[image]]
+name = \"a\"
+blocks = 1
+text = \"\"
+[[process]]
+name = \"a\"
+machine = 0
+image = \"a\"
+links = [{ to = \"switchboard\" }]
+";
+
+/// A process with a link to itself sends four messages; its machine may count three.
+const WORN: &[u8] = b"numbers = 3
+[[machine]]
+slots = 1
+blocks = 1
+[[image]]
+name = \"a\"
+blocks = 1
+text = \"sys 6\\nsys 6\\nsys 6\\nsys 6\"
+[[process]]
+name = \"a\"
+machine = 0
+image = \"a\"
+links = [{ to = \"a\" }]
+";
+
+const WORN_RUN: &[u8] = b"turn 0
+ran 0.3 0
+send 0.3 0.3#0
+put 0 0 0.3#0 user 0.3
+turn 0
+queued 0.3#0
+turn 0
+ran 0.3 0
+send 0.3 0.3#1
+put 0 0 0.3#1 user 0.3
+turn 0
+queued 0.3#1
+turn 0
+ran 0.3 0
+send 0.3 0.3#2
+put 0 0 0.3#2 user 0.3
+turn 0
+queued 0.3#2
+";
+
 const EIGHT_TURNS: &[u8] = b"turn 0\nturn 0\nturn 0\nturn 0\nturn 0\nturn 0\nturn 0\nturn 0\n";
 
 const FIRST_GROUP: &[u8] = b"turn 0
@@ -210,10 +260,26 @@ fn says_which_side_failed(rt: HostRuntime) -> Result<(), Fail> {
 }
 
 #[test]
+fn stops_where_a_machine_may_count_no_more(rt: HostRuntime) -> Result<(), Fail> {
+    let end = run_over(rt.alloc(), &WORDS, (WORN, EIGHT_TURNS), (&[], &[]), 0)?;
+    assert_eq!(rt; end.status, Status::Worn { from: 0, to: 0 });
+    assert_eq!(rt; end.written.as_slice(), WORN_RUN);
+    Ok(())
+}
+
+#[test]
 fn refuses_files(rt: HostRuntime) -> Result<(), Fail> {
-    let table: [(&[u8], &[u8], &str, u8); 2] = [
-        (b"", EIGHT_TURNS, "boot refused: 0 at 0", 6),
-        (HI, b"turn 1", "schedule refused: line 1, why 0", 7),
+    let table: [(&[u8], &[u8], &str, u8); 5] = [
+        (b"", EIGHT_TURNS, "boot refused: 4 at 0", 6),
+        (HI, b"turn 0\nturn 1", "schedule refused: line 2, why 4", 7),
+        (TO_SERVER, b"turn 1", "schedule refused: line 1, why 4", 7),
+        (TO_SERVER, b"turn 0", "boot refused: 0 at 0", 6),
+        (
+            HI,
+            b"# ticks\nturn 0\ntick 0",
+            "schedule refused: line 2, why 0",
+            7,
+        ),
     ];
     for (boot, schedule, text, code) in table {
         let end = run_over(rt.alloc(), &WORDS, (boot, schedule), (&[], &[]), 0)?;
@@ -227,9 +293,9 @@ fn refuses_files(rt: HostRuntime) -> Result<(), Fail> {
 #[test]
 fn keeps_to_the_lengths(rt: HostRuntime) -> Result<(), Fail> {
     let table = [
-        (1_048_576, 0, "boot refused: 0 at 0"),
+        (1_048_576, 0, "boot refused: 4 at 0"),
         (1_048_577, 0, "too long: boot"),
-        (0, 16_777_216, "schedule refused: line 1, why 0"),
+        (0, 16_777_216, ""),
         (0, 16_777_217, "too long: schedule"),
     ];
     for (boot_len, schedule_len, text) in table {
@@ -264,6 +330,7 @@ fn says_each_status(rt: HostRuntime) -> Result<(), Fail> {
         (Status::NoMemory, 4, "no memory"),
         (Status::WriteFault, 5, "write fault"),
         (Status::TooLong(Input::Schedule), 8, "too long: schedule"),
+        (Status::Worn { from: 0, to: 15 }, 9, "worn: 0 to 15"),
     ];
     for (status, code, text) in table {
         assert_eq!(rt; status.code(), code);

@@ -5,8 +5,5 @@ pub enum Stop {
     /// No memory was left.
     NoMemory,
     /// A message was to be routed between two machines that count as many as they may.
-    Worn {
-        from: u8,
-        to: u8,
-    },
+    Worn { from: u8, to: u8 },
 }

@@ -190,7 +190,6 @@ spelt_label (label.Dropped i) h = record {
   are_words = (refl, (word_id i h, tt));
   read = rw (read_id_back i h) refl;
 }
-
 spelt_label (label.Served i) h = record {
   first = codes "served";
   others = id_text i ∷ [];
@@ -242,7 +241,6 @@ spelt_process p m (doing.Waiting a b c) go sent h = record {
   are_words = (refl, (word_pid 32 p (omega arith) h.0, (refl, (word_u8 m h.1, (refl, (refl, (word_u32 a h.2.0, (word_u32 b h.2.1, (word_u32 c h.2.2, (word_go go, (word_u32 sent h.3, tt)))))))))));
   read = rw (read_pid_back p h.0, read_u8_back m h.1, read_u32_back a h.2.0, read_u32_back b h.2.1, read_u32_back c h.2.2, read_go_back go, read_u32_back sent h.3) refl;
 }
-
 spelt_process p m (doing.Moving d q a b c) go sent h = record {
   first = codes "process";
   others = pid_text p ∷ codes "at" ∷ decimal m ∷ codes "here" ∷ codes "moving" ∷ dir_text d ∷ pid_text q ∷ decimal a ∷ decimal b ∷ decimal c ∷ go_text go ∷ decimal sent ∷ [];

@@ -31,7 +31,6 @@ drops_put_nothing : (ms : List Message) → has_put (turn.drops ms) ≡ false
 drops_put_nothing [] = refl
 drops_put_nothing (m ∷ ms) = drops_put_nothing ms
 
-
 routes_call : (s : NodeState) (p : Pid) (k n : ℕ) (x : Process) (c : Called) → RoutesOne s.routed (turn.calls_with s p k n x c)
 routes_call s p k n x (called.Replied c) = inl (refl, refl)
 routes_call s p k n x (called.Sent m) = inr (refl, refl)
