@@ -1,6 +1,4 @@
 pub mod Keys
-pub mod Gathered
 pub mod Elements
-pub mod Documents
-pub mod Inverse
-pub mod Validity
+pub mod Rows
+pub mod Texts
