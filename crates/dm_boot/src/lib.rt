@@ -7,8 +7,10 @@ mod limits;
 mod links;
 mod machines;
 mod names;
+mod processes;
 mod rules;
 mod shapes;
+mod starts;
 mod tables;
 mod targets;
 

@@ -1,9 +1,9 @@
 //! What the elements of a boot file must be, one function for each rule.
-ghost use Rattle.std.specs.Prelude.{◌≡◌, IfSome, ◌≤◌, length};
+ghost use Rattle.std.specs.Prelude.{◌≡◌, ◌<◌, ◌≤◌, IfSome};
 ghost use Rattle.toml.specs.View.{items_view, view};
 ghost use Rattle.dm_onekernel.specs.Boot.{slots_of};
-ghost use Rattle.dm_boot.specs.Tables.{or_zero};
-ghost use Rattle.dm_boot.specs.Build.{format_number, format_of, image_blocks, image_place, link_tables, machine_number, numbers_of, quantum_of};
+ghost use Rattle.dm_boot.specs.Tables.{count};
+ghost use Rattle.dm_boot.specs.Build.{format_number, format_of, image_blocks, image_place, image_tables, machine_number, numbers_of, quantum_of};
 ghost use Rattle.dm_boot.specs.Rules.{has_good_image_count, has_good_machine_count, has_good_room, has_good_settings, has_link_count, has_machine, has_own_name, has_process_name};
 
 use crate::names::{is_name, is_server};
@@ -127,8 +127,10 @@ pub fn has_machine(top: &Value, process: &Value) -> bool
 }
 
 /// The place of a process's image.
+#[tactic(auto, using(crate::proofs::Elements::count_lemmas))]
 pub fn image_place(top: &Value, process: &Value) -> Option<usize>
-    ensures { result ≡ image_place (view top.now) (view process.now) }
+    ensures place { result ≡ image_place (view top.now) (view process.now) }
+    ensures within { IfSome result (λ k. k < count (image_tables (view top.now))) }
 {
     place_of(items_at(top, "image"), text_at(process, "image"))
 }

@@ -1,0 +1,8 @@
+use Rattle.std.proofs.Common.{◌≡◌, ◌++◌, drop}
+use Rattle.toml.specs.View.{items_view, view}
+use Rattle.dm_boot.specs.Build.{linked_all}
+use Rattle.dm_boot.proofs.processes.processes_of.Given as goal
+
+abbrev pub invariant-loop-i : goal.invariant-loop-i
+invariant-loop-i l =
+    l.processes ++ linked_all (view l.top) l.starts (drop l.i l.starts) (items_view (drop l.i l.tables)) ≡ linked_all (view l.top) l.starts l.starts (items_view l.tables)

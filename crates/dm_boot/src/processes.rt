@@ -1,0 +1,38 @@
+//! The processes with their links.
+ghost use Rattle.std.specs.Prelude.{◌≡◌, ◌≤◌, IfOk};
+ghost use Rattle.toml.specs.View.{items_view, view};
+ghost use Rattle.dm_boot.specs.Tables.{count};
+ghost use Rattle.dm_boot.specs.Build.{linked, linked_all, links_of, process_tables};
+
+use crate::links::links_of;
+use crate::tables::items_at;
+use dm_lists::Items;
+use dm_onekernel::boot::BootProcess;
+use std::alloc::{AllocError, Global};
+use toml::Value;
+
+/// These processes, each with the links of its table.
+#[tactic(auto, using(crate::proofs::Linked::linked_lemmas))]
+pub fn processes_of(
+    alloc: Global,
+    top: &Value,
+    starts: &[BootProcess],
+) -> Result<Items<BootProcess>, AllocError>
+    requires few { count (process_tables (view top.now)) ≤ 4080 }
+    ensures { IfOk result (λ ps. ps ≡ linked_all (view top.now) starts.now starts.now (process_tables (view top.now))) }
+{
+    let tables = items_at(top, "process");
+    let mut processes = Items::new(alloc);
+    for (i, start) in starts.iter().enumerate() {
+        if i >= tables.len() {
+            return Ok(processes);
+        }
+        let links = links_of(alloc, top, starts, &tables[i])?;
+        processes.push(BootProcess {
+            pid: start.pid,
+            image: start.image,
+            links,
+        })?;
+    }
+    Ok(processes)
+}
