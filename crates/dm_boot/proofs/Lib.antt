@@ -5,3 +5,5 @@ pub mod Texts
 pub mod Counted
 pub mod Placed
 pub mod Linked
+pub mod Documents
+pub mod Parts

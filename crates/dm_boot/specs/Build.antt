@@ -182,13 +182,17 @@ linked_all d starts (p ∷ ps) (item t ts) = linked p (links_of d starts t) ∷ 
 abbrev pub processes_of : Data → List BootProcess
 processes_of d = linked_all d (starts_of d) (starts_of d) (process_tables d)
 
--- the system of the top table
-unfoldable pub system_of : Data → Boot
-system_of d = record {
+-- a system with these machines, images and processes
+unfoldable pub system_with : Data → List BootMachine → List BootImage → List BootProcess → Boot
+system_with d machines images processes = record {
   numbers = or_zero (numbers_of d);
   quantum = or_zero (quantum_of d);
   format = format_of d;
-  machines = machines_of d;
-  images = images_of d;
-  processes = processes_of d;
+  machines = machines;
+  images = images;
+  processes = processes;
 }
+
+-- the system of the top table
+abbrev pub system_of : Data → Boot
+system_of d = system_with d (machines_of d) (images_of d) (processes_of d)

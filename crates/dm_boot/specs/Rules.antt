@@ -245,13 +245,23 @@ unfoldable pub first_broken : List BootRule → Data → Option (BootRule × ℕ
 first_broken [] d = None
 first_broken (rule ∷ rules) d = broken_or rule (broken_at rule d) (first_broken rules d)
 
--- the rules of a document's top table, in the order of their numbers
-abbrev pub rules : List BootRule
-rules =
+-- the rules of the top table, the machines and the images
+abbrev pub image_rules : List BootRule
+image_rules =
     TopKeys ∷ Settings ∷ MachineCount ∷ MachineKeys ∷ MachineRoom
-    ∷ ImageCount ∷ ImageKeys ∷ ImageName ∷ ImageBlocks ∷ ImageText ∷ ImageBytes
-    ∷ ProcessKeys ∷ ProcessName ∷ ProcessMachine ∷ ProcessImage ∷ ProcessRoom
-    ∷ LinkCount ∷ LinkTarget ∷ LinkLimits ∷ []
+    ∷ ImageCount ∷ ImageKeys ∷ ImageName ∷ ImageBlocks ∷ ImageText ∷ ImageBytes ∷ []
+
+-- the rules of the processes
+abbrev pub process_rules : List BootRule
+process_rules = ProcessKeys ∷ ProcessName ∷ ProcessMachine ∷ ProcessImage ∷ ProcessRoom ∷ []
+
+-- the rules of the links
+abbrev pub link_rules : List BootRule
+link_rules = LinkCount ∷ LinkTarget ∷ LinkLimits ∷ []
+
+-- the rules of a document, in the order of their numbers
+abbrev pub rules : List BootRule
+rules = image_rules ++ (process_rules ++ link_rules)
 
 -- the rules that tables alone decide; the others need the images' bytes or the processes before
 unfoldable pub is_of_tables : BootRule → Bool

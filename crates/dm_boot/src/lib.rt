@@ -1,6 +1,10 @@
 //! The boot file: which machines, images and processes a system starts with.
 #![tactic(auto)]
 
+ghost use Rattle.std.specs.Prelude.{◌≡◌};
+ghost use Rattle.toml.specs.View.{view};
+ghost use Rattle.dm_boot.specs.Boot.{Answers, boot_of};
+
 mod checks;
 mod images;
 mod limits;
@@ -11,7 +15,43 @@ mod processes;
 mod rules;
 mod shapes;
 mod starts;
+mod system;
 mod tables;
 mod targets;
 
 pub use rules::{BootNo, BootRule};
+
+use dm_onekernel::boot::Boot;
+use std::alloc::Global;
+use system::system_of;
+use toml::Value;
+
+/// Reads the system that a boot file describes, or the first rule that it breaks.
+pub fn read_boot(alloc: Global, bytes: &[u8]) -> Result<Boot, BootNo>
+    ensures answers { Answers (boot_of bytes.now) result }
+{
+    read(alloc, bytes)
+}
+
+/// Reads the document, and then its top table.
+#[tactic(auto, unfolding(crate::specs::Boot::boot_of), using(crate::proofs::Documents::document_lemmas))]
+fn read(alloc: Global, bytes: &[u8]) -> Result<Boot, BootNo>
+    ensures { Answers (boot_of bytes.now) result }
+{
+    match toml::table_from_slice(alloc, bytes) {
+        Ok(table) => system_of(alloc, &Value::Table(table)),
+        Err(e) => {
+            if e.is_memory() {
+                Err(BootNo::NoMemory)
+            } else {
+                Err(BootNo::Refused {
+                    rule: BootRule::Document,
+                    place: 0,
+                })
+            }
+        }
+    }
+}
+
+#[cfg(test)]
+mod tests;

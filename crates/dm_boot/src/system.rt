@@ -1,0 +1,148 @@
+//! The system of a document's top table.
+ghost use Rattle.std.specs.Prelude.{◌≡◌, ◌≤◌, OnOk, true};
+ghost use Rattle.toml.specs.View.{items_view, view};
+ghost use Rattle.dm_boot.specs.Tables.{count};
+ghost use Rattle.dm_boot.specs.Build.{image_tables, images_of, machines_of, process_tables, processes_of, starts_of, system_with};
+ghost use Rattle.dm_boot.specs.Rules.{first_broken, image_rules, link_rules, process_rules};
+ghost use Rattle.dm_boot.specs.Boot.{Answers, boot_of_table, unless};
+
+use crate::checks::first_broken;
+use crate::images::{first_long, images_of};
+use crate::limits::{format_of, numbers_of, quantum_of};
+use crate::machines::machines_of;
+use crate::processes::processes_of;
+use crate::rules::{BootNo, BootRule};
+use crate::starts::starts_of;
+use crate::tables::items_at;
+use dm_lists::Items;
+use dm_onekernel::boot::{Boot, BootImage, BootMachine, BootProcess};
+use std::alloc::Global;
+use toml::Value;
+
+/// The system of the top table, or the first rule that it breaks.
+pub fn system_of(alloc: Global, top: &Value) -> Result<Boot, BootNo>
+    ensures { Answers (boot_of_table (view top.now)) result }
+{
+    let images = match read_images(alloc, top) {
+        Ok(images) => images,
+        Err(e) => return Err(e),
+    };
+    let Ok(machines) = machines_of(alloc, items_at(top, "machine")) else {
+        return Err(BootNo::NoMemory);
+    };
+    let starts = match read_starts(alloc, top, machines.as_slice(), images.as_slice()) {
+        Ok(starts) => starts,
+        Err(e) => return Err(e),
+    };
+    match read_processes(alloc, top, starts.as_slice()) {
+        Ok(processes) => Ok(system_with(top, machines, images, processes)),
+        Err(e) => Err(e),
+    }
+}
+
+/// A system with these machines, images and processes.
+#[tactic(auto, unfolding(crate::specs::Build::system_with))]
+fn system_with(
+    top: &Value,
+    machines: Items<BootMachine>,
+    images: Items<BootImage>,
+    processes: Items<BootProcess>,
+) -> Boot
+    ensures { result ≡ system_with (view top.now) machines images processes }
+{
+    Boot {
+        numbers: numbers_of(top).unwrap_or(0),
+        quantum: quantum_of(top).unwrap_or(0),
+        format: format_of(top),
+        machines,
+        images,
+        processes,
+    }
+}
+
+/// The images, where no rule before those of the processes is broken.
+#[tactic(auto, unfolding(crate::specs::Rules::is_of_tables))]
+fn read_images(alloc: Global, top: &Value) -> Result<Items<BootImage>, BootNo>
+    ensures images { Answers (unless (first_broken image_rules (view top.now)) (images_of (view top.now))) result }
+    ensures few { OnOk result (count (image_tables (view top.now)) ≤ 256) }
+{
+    let before = [
+        BootRule::TopKeys,
+        BootRule::Settings,
+        BootRule::MachineCount,
+        BootRule::MachineKeys,
+        BootRule::MachineRoom,
+        BootRule::ImageCount,
+        BootRule::ImageKeys,
+        BootRule::ImageName,
+        BootRule::ImageBlocks,
+    ];
+    if let Some((rule, place)) = first_broken(top, &before) {
+        return Err(BootNo::Refused { rule, place });
+    }
+    let images = match images_of(alloc, items_at(top, "image")) {
+        Ok(images) => images,
+        Err(e) => return Err(e),
+    };
+    if let Some(place) = first_long(images.as_slice()) {
+        return Err(BootNo::Refused {
+            rule: BootRule::ImageBytes,
+            place: place as u64,
+        });
+    }
+    Ok(images)
+}
+
+/// The processes without their links, where no rule of processes is broken.
+#[tactic(auto, unfolding(crate::specs::Rules::is_of_tables))]
+fn read_starts(
+    alloc: Global,
+    top: &Value,
+    machines: &[BootMachine],
+    images: &[BootImage],
+) -> Result<Items<BootProcess>, BootNo>
+    requires machines { machines.now ≡ machines_of (view top.now) }
+    requires images { images.now ≡ images_of (view top.now) }
+    requires few { count (image_tables (view top.now)) ≤ 256 }
+    ensures starts { Answers (unless (first_broken process_rules (view top.now)) (starts_of (view top.now))) result }
+    ensures few { OnOk result (count (process_tables (view top.now)) ≤ 4080) }
+{
+    let before = [
+        BootRule::ProcessKeys,
+        BootRule::ProcessName,
+        BootRule::ProcessMachine,
+        BootRule::ProcessImage,
+    ];
+    if let Some((rule, place)) = first_broken(top, &before) {
+        return Err(BootNo::Refused { rule, place });
+    }
+    match starts_of(alloc, top, machines, images) {
+        Ok(starts) => Ok(starts),
+        Err(e) => Err(e),
+    }
+}
+
+/// The processes with their links, where no rule of links is broken.
+#[tactic(auto, unfolding(crate::specs::Rules::is_of_tables))]
+fn read_processes(
+    alloc: Global,
+    top: &Value,
+    starts: &[BootProcess],
+) -> Result<Items<BootProcess>, BootNo>
+    requires starts { starts.now ≡ starts_of (view top.now) }
+    requires few { count (process_tables (view top.now)) ≤ 4080 }
+    ensures { Answers (unless (first_broken link_rules (view top.now)) (processes_of (view top.now))) result }
+{
+    let rules = [
+        BootRule::LinkCount,
+        BootRule::LinkTarget,
+        BootRule::LinkLimits,
+    ];
+    if let Some((rule, place)) = first_broken(top, &rules) {
+        return Err(BootNo::Refused { rule, place });
+    }
+    match processes_of(alloc, top, starts) {
+        Ok(processes) => Ok(processes),
+        Err(_) => Err(BootNo::NoMemory),
+    }
+}
