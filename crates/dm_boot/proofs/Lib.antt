@@ -7,3 +7,8 @@ pub mod Placed
 pub mod Linked
 pub mod Documents
 pub mod Parts
+pub mod Bounds
+pub mod Rooms
+pub mod Found
+pub mod Leads
+pub mod Validity

@@ -113,7 +113,7 @@ if_none : (b : Bool) → ◌≡◌ {A = Option ℕ} (if b then None else Some 0)
 if_none true h = refl
 if_none false h = absurd (cc)
 
-at_top : (rule : BootRule) (d : Data) → subjects rule d ≡ item d no_items → broken_at rule d ≡ None → keeps rule d 0 d ≡ true
+pub at_top : (rule : BootRule) (d : Data) → subjects rule d ≡ item d no_items → broken_at rule d ≡ None → keeps rule d 0 d ≡ true
 unfolding broken_at first_failing
 at_top rule d alone h =
     let e = rw alone at h in

@@ -25,7 +25,7 @@ starts-more d done vs i v within read =
     ∙ sym (append_assoc done (s ∷ []) (starts_from d (done ++ s ∷ []) (items_view (drop (i + 1) vs))))
 
 -- whether a process has a place, seen from those that were built so far
-place-here : (d : Data) (done rest : List BootProcess) (i : ℕ) (t : Data) → done ++ rest ≡ starts_of d → length done ≡ i → has_place d i t ≡ fits_after (machines_of d) (images_of d) done (start_of d done t)
+pub place-here : (d : Data) (done rest : List BootProcess) (i : ℕ) (t : Data) → done ++ rest ≡ starts_of d → length done ≡ i → has_place d i t ≡ fits_after (machines_of d) (images_of d) done (start_of d done t)
 unfolding has_place
 place-here d done rest i t whole many =
     let e : take i (starts_of d) ≡ done = rw (← whole, ← many) (take-append_seam done rest) in

@@ -1,8 +1,9 @@
 //! The boot file: which machines, images and processes a system starts with.
 #![tactic(auto)]
 
-ghost use Rattle.std.specs.Prelude.{◌≡◌};
+ghost use Rattle.std.specs.Prelude.{◌≡◌, IfOk};
 ghost use Rattle.toml.specs.View.{view};
+ghost use Rattle.dm_onekernel.specs.Boot.{IsValid};
 ghost use Rattle.dm_boot.specs.Boot.{Answers, boot_of};
 
 mod checks;
@@ -27,8 +28,10 @@ use system::system_of;
 use toml::Value;
 
 /// Reads the system that a boot file describes, or the first rule that it breaks.
+#[tactic(auto, using(crate::proofs::Validity::valid_lemmas))]
 pub fn read_boot(alloc: Global, bytes: &[u8]) -> Result<Boot, BootNo>
     ensures answers { Answers (boot_of bytes.now) result }
+    ensures valid { IfOk result (λ b. IsValid b) }
 {
     read(alloc, bytes)
 }
