@@ -96,9 +96,9 @@ numbered-push d done t old q h =
     let pushed = starting-push q.home done s in
     let fewer : first_number + starting_at q.home done ≤ q.num = omega arith in
     let new : pid_eq s.pid q ≡ false = apart s.pid q (first_number + starting_at s.pid.home done) (start-number d done t) (λ (same : s.pid.home ≡ q.home).
-      let here : starting_at q.home (done ++ s ∷ []) ≡ starting_at q.home done + 1 = pushed ∙ ap (λ (b : Bool). starting_at q.home done + cond b 1 0) (same-test s.pid.home q.home same) in
-      let e : starting_at s.pid.home done ≡ starting_at q.home done = ap (λ (m : ℕ). starting_at m done) same in
-      omega arith) in
+    let here : starting_at q.home (done ++ s ∷ []) ≡ starting_at q.home done + 1 = pushed ∙ ap (λ (b : Bool). starting_at q.home done + cond b 1 0) (same-test s.pid.home q.home same) in
+    let e : starting_at s.pid.home done ≡ starting_at q.home done = ap (λ (m : ℕ). starting_at m done) same in
+    omega arith) in
     named-append q done (s ∷ []) (old q fewer) ∙ ap (λ (b : Bool). cond b (Some s) None) new
 
 pid-itself : (p : Pid) → pid_eq p p ≡ true

@@ -56,9 +56,9 @@ unfolding fits_after
 fit-push machines images ps p fit fits m r at =
     let n = blocks_of_image (slice_get images p.image) in
     let parts : ((p.pid.home == m) ≡ true) → (starting_at m ps < r.slots) × (blocks_at m images ps + n ≤ r.blocks) = λ here.
-      let e = same_number p.pid.home m here in
-      fits-parts (slice_get machines m) r (starting_at m ps) (blocks_at m images ps) n at
-      (ap (λ (k : ℕ). fits_machine (slice_get machines k) (starting_at k ps) (blocks_at k images ps) n) (sym e) ∙ fits) in
+    let e = same_number p.pid.home m here in
+    fits-parts (slice_get machines m) r (starting_at m ps) (blocks_at m images ps) n at
+    (ap (λ (k : ℕ). fits_machine (slice_get machines k) (starting_at k ps) (blocks_at k images ps) n) (sym e) ∙ fits) in
     let old = fit m r at in
     record {
       slots = fit-here (p.pid.home == m) (starting_at m ps) (starting_at m (ps ++ p ∷ [])) r.slots (starting-push m ps p) (λ here. (parts here).0) old.slots;

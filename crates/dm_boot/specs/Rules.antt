@@ -179,7 +179,7 @@ unfoldable pub is_limited : Data → Data → Bool
 is_limited d l =
     is_some (channel_in l)
     && (if is_control l || is_server (text_at (codes "to") l) then is_plain l
-        else is_some (code_in 4294967295 l) && has_area (memory_of d (text_at (codes "to") l)) l)
+    else is_some (code_in 4294967295 l) && has_area (memory_of d (text_at (codes "to") l)) l)
 
 -- what element i of those that a rule speaks of must be
 unfoldable pub keeps : BootRule → Data → ℕ → Data → Bool

@@ -36,10 +36,7 @@ fn broken_at(top: &Value, rule: BootRule) -> Option<usize>
     ensures { result ≡ broken_at rule (view top.now) }
 {
     match rule {
-        BootRule::TopKeys
-        | BootRule::Settings
-        | BootRule::MachineCount
-        | BootRule::ImageCount => {
+        BootRule::TopKeys | BootRule::Settings | BootRule::MachineCount | BootRule::ImageCount => {
             if keeps(top, rule, 0, top) {
                 None
             } else {
@@ -59,10 +56,8 @@ fn broken_at(top: &Value, rule: BootRule) -> Option<usize>
         | BootRule::LinkCount
         | BootRule::LinkTarget
         | BootRule::LinkLimits => first_failing(top, rule, items_at(top, "process")),
-        BootRule::Document
-        | BootRule::ImageText
-        | BootRule::ImageBytes
-        | BootRule::ProcessRoom => unreachable!(),
+        BootRule::Document | BootRule::ImageText | BootRule::ImageBytes | BootRule::ProcessRoom =>
+            unreachable!(),
     }
 }
 
@@ -103,9 +98,7 @@ fn keeps(top: &Value, rule: BootRule, place: usize, element: &Value) -> bool
         BootRule::LinkCount => has_link_count(top, element),
         BootRule::LinkTarget => have_targets(top, items_at(element, "links")),
         BootRule::LinkLimits => are_limited(top, items_at(element, "links")),
-        BootRule::Document
-        | BootRule::ImageText
-        | BootRule::ImageBytes
-        | BootRule::ProcessRoom => unreachable!(),
+        BootRule::Document | BootRule::ImageText | BootRule::ImageBytes | BootRule::ProcessRoom =>
+            unreachable!(),
     }
 }

@@ -20,9 +20,8 @@ mod system;
 mod tables;
 mod targets;
 
-pub use rules::{BootNo, BootRule};
-
 use dm_onekernel::boot::Boot;
+pub use rules::{BootNo, BootRule};
 use std::alloc::Global;
 use system::system_of;
 use toml::Value;

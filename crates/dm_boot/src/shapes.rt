@@ -14,7 +14,9 @@ use toml::Value;
 pub fn is_top(value: &Value) -> bool
     ensures { result ≡ is_top (view value.now) }
 {
-    let keys = ["format", "numbers", "quantum", "machine", "image", "process"];
+    let keys = [
+        "format", "numbers", "quantum", "machine", "image", "process",
+    ];
     has_only(value, &keys)
         && may_have_integer(value, "format")
         && may_have_integer(value, "numbers")

@@ -26,8 +26,8 @@ returns-in-Err-clause-images c =
     pass-err (unless_at ImageText (first_unassembled 0 ts) (map_items image_of ts)) (unless (first_broken image_rules d) (images_of d)) c.in-Err.e
     (λ (x : BootRule × ℕ) h.
     let said : broken_or ImageText (first_unassembled 0 (image_tables d)) (broken_or ImageBytes (first_long 0 (images_of d)) None) ≡ Some x =
-        ap (λ (us : Items). broken_or ImageText (first_unassembled 0 us) (broken_or ImageBytes (first_long 0 (images_of d)) None)) (sym same)
-        ∙ at-err ImageText (first_unassembled 0 ts) (broken_or ImageBytes (first_long 0 (images_of d)) None) (map_items image_of ts) x h in
+    ap (λ (us : Items). broken_or ImageText (first_unassembled 0 us) (broken_or ImageBytes (first_long 0 (images_of d)) None)) (sym same)
+    ∙ at-err ImageText (first_unassembled 0 ts) (broken_or ImageBytes (first_long 0 (images_of d)) None) (map_items image_of ts) x h in
     rw (images-whole d, none, said))
     c.in-Err.ensures
 
