@@ -1,22 +1,21 @@
 -- Each link of a boot file leads somewhere.
-use Rattle.std.proofs.Common.{◌≡◌, ℕ, ◌+◌, ◌*◌, ◌<◌, ◌≤◌, ◌==◌, ◌&&◌, ◌||◌, not, zero, suc, Bool, true, false, cond, if◌then◌else◌, nat_le, nat_lt, List, [], ◌∷◌, ◌++◌, length, slice_get, codes, Option, Some, None, refl, ap, sym, subst, ◌∙◌, arith}
+use Rattle.std.proofs.Common.{◌≡◌, ℕ, ◌+◌, ◌*◌, ◌<◌, ◌≤◌, ◌==◌, ◌&&◌, ◌||◌, not, Bool, true, false, if◌then◌else◌, nat_le, List, [], length, slice_get, codes, Option, Some, None, refl, ap, sym, subst, ◌∙◌, arith}
 use Rattle.std.proofs.lemmas.Bool.{and_parts}
 use Rattle.std.proofs.lemmas.Bool.Decides.{nat_tests}
 use Rattle.std.specs.Option.{is_some}
-use Rattle.toml.specs.Data.{Data, Items, no_items, item, get_item}
+use Rattle.toml.specs.Data.{Data, get_item}
 use Rattle.dm_link.specs.declared.Pid.{Pid}
 use Rattle.dm_link.specs.declared.Link.{Link}
 use Rattle.dm_link.specs.Names.{pid_of, pid_eq}
-use Rattle.dm_onekernel.specs.declared.boot.BootImage.{BootImage}
 use Rattle.dm_onekernel.specs.declared.boot.BootProcess.{BootProcess}
 use Rattle.dm_onekernel.specs.declared.boot.Boot.{Boot}
-use Rattle.dm_onekernel.specs.Boot.{first_number, starting_at, process_named, switchboard, manager, blocks_of_image, memory_size, leads_to_process, leads_to_server, controls_child, leads_somewhere, link_is_valid, area_is_within, area_is_empty}
-use Rattle.dm_boot.specs.Tables.{count, or_zero, number_at, text_at, truth_at, place_of, named, element_at, all_items, map_items}
+use Rattle.dm_onekernel.specs.Boot.{first_number, process_named, switchboard, manager, blocks_of_image, memory_size, leads_to_process, leads_to_server, controls_child, link_is_valid, area_is_within}
+use Rattle.dm_boot.specs.Tables.{count, or_zero, text_at, truth_at, place_of, named}
 use Rattle.dm_boot.specs.Text.{is_switchboard, is_manager, is_server}
-use Rattle.dm_boot.specs.Build.{process_tables, image_tables, image_place, image_blocks, image_of, images_of, home_of, starts_from, starts_of, processes_of, linked, linked_all, link_of, link_to, links_of, link_tables, control_of, pid_named, pid_of_start, is_control, code_in, channel_in, base_in, len_in, system_of, system_with}
-use Rattle.dm_boot.specs.Rules.{has_target, is_plain, is_limited, has_area, memory_of, blocks_of_named, blocks_of_process}
-use Rattle.dm_boot.proofs.Bounds.{none-is, number-bounds, number-zero, length-map, map-at, place-within, item-at}
-use Rattle.dm_boot.proofs.Found.{Start, starts-length, linked-length, start-at, numbered-none, found-start, found-linked}
+use Rattle.dm_boot.specs.Build.{process_tables, image_tables, image_place, image_of, images_of, starts_of, processes_of, linked, link_of, link_to, control_of, pid_named, pid_of_start, is_control, code_in, channel_in, base_in, len_in, system_of, system_with}
+use Rattle.dm_boot.specs.Rules.{has_target, is_plain, is_limited, has_area, memory_of}
+use Rattle.dm_boot.proofs.Bounds.{none-is, number-bounds, number-zero, map-at, place-within, item-at}
+use Rattle.dm_boot.proofs.Found.{Start, linked-length, start-at, numbered-none, found-start, found-linked}
 
 -- the parts of a system
 built-images : (d : Data) → (system_of d).images ≡ images_of d

@@ -3,7 +3,7 @@ use Rattle.std.proofs.Common.{◌≡◌, ℕ, ◌+◌, ◌<◌, ◌≤◌, List,
 use Rattle.std.proofs.lemmas.List.{append-nil, drop_more}
 use Rattle.std.proofs.Math.ListN.{drop_of_length-le}
 use Rattle.toml.specs.declared.value.Value.{Value}
-use Rattle.toml.specs.Data.{Data, Items, no_items, item}
+use Rattle.toml.specs.Data.{Data, no_items}
 use Rattle.toml.specs.View.{view, items_view}
 use Rattle.dm_link.specs.declared.Link.{Link}
 use Rattle.dm_onekernel.specs.declared.boot.BootProcess.{BootProcess}

@@ -1,10 +1,7 @@
 -- Rules in parts, one after the other.
-use Rattle.std.proofs.Common.{◌≡◌, ℕ, ◌+◌, ◌≤◌, Bool, true, false, nat_le, if◌then◌else◌, List, [], ◌∷◌, ◌++◌, Option, Some, None, Result, Ok, Err, refl, ap, sym, ◌∙◌, arith}
-use Rattle.std.proofs.lemmas.Option.{none-some, same_Some}
+use Rattle.std.proofs.Common.{◌≡◌, ℕ, ◌+◌, ◌≤◌, Bool, true, false, nat_le, if◌then◌else◌, List, [], ◌∷◌, ◌++◌, Option, Some, None, Result, Ok, Err, refl, ap, ◌∙◌, arith}
 use Rattle.std.proofs.lemmas.Bool.Decides.{nat_tests}
-use Rattle.std.specs.Result.{IfOk}
 use Rattle.toml.specs.Data.{Data, Items, no_items, item}
-use Rattle.dm_onekernel.specs.declared.boot.BootImage.{BootImage}
 use Rattle.dm_onekernel.specs.declared.boot.Boot.{Boot}
 use Rattle.dm_boot.specs.declared.rules.BootRule.{BootRule}
 use Rattle.dm_boot.specs.declared.rules.BootRule.TheVariants.{TopKeys, Settings, MachineCount, MachineKeys, MachineRoom, ImageCount, ImageKeys, ImageName, ImageBlocks, ImageText, ImageBytes, ProcessKeys, ProcessName, ProcessMachine, ProcessImage, ProcessRoom}

@@ -1,5 +1,5 @@
 -- The system of a boot file is one that may start.
-use Rattle.std.proofs.Common.{◌≡◌, ℕ, ◌+◌, ◌*◌, ◌<◌, ◌≤◌, ◌==◌, ◌&&◌, zero, suc, Bool, true, false, if◌then◌else◌, nat_le, nat_lt, List, [], ◌∷◌, ◌++◌, length, slice_get, codes, Option, Some, None, Result, Ok, Err, refl, ap, sym, subst, ◌∙◌, arith, append_assoc}
+use Rattle.std.proofs.Common.{◌≡◌, ℕ, ◌+◌, ◌≤◌, ◌==◌, ◌&&◌, zero, suc, Bool, true, false, if◌then◌else◌, nat_le, nat_lt, List, [], ◌∷◌, ◌++◌, length, slice_get, codes, Option, Some, None, Result, Ok, Err, refl, ap, sym, subst, ◌∙◌, arith}
 use Rattle.std.proofs.lemmas.Bool.{and_parts}
 use Rattle.std.proofs.lemmas.Bool.Decides.{nat_tests}
 use Rattle.std.specs.List.{list_all}
@@ -10,21 +10,19 @@ use Rattle.dm_onekernel.specs.declared.boot.BootMachine.{BootMachine}
 use Rattle.dm_onekernel.specs.declared.boot.BootImage.{BootImage}
 use Rattle.dm_onekernel.specs.declared.boot.BootProcess.{BootProcess}
 use Rattle.dm_onekernel.specs.declared.boot.Boot.{Boot}
-use Rattle.dm_onekernel.specs.Boot.{IsValid, first_number, slots_of, starting_at, blocks_at, link_is_valid, links_are_valid, image_is_valid, images_are_valid, process_is_valid, processes_are_valid, machine_is_valid, machines_are_valid}
-use Rattle.dm_boot.specs.declared.rules.BootRule.{BootRule}
+use Rattle.dm_onekernel.specs.Boot.{IsValid, first_number, slots_of, starting_at, blocks_at, links_are_valid, image_is_valid, images_are_valid, process_is_valid, processes_are_valid, machine_is_valid, machines_are_valid}
 use Rattle.dm_boot.specs.declared.rules.BootRule.TheVariants.{TopKeys, Settings, MachineCount, MachineKeys, MachineRoom, ImageCount, ImageKeys, ImageName, ImageBlocks, ImageText, ImageBytes, ProcessKeys, ProcessName, ProcessMachine, ProcessImage, ProcessRoom, LinkCount, LinkTarget, LinkLimits}
 use Rattle.dm_boot.specs.declared.rules.BootNo.{BootNo}
-use Rattle.dm_boot.specs.declared.rules.BootNo.TheVariants.{Refused, NoMemory}
-use Rattle.dm_boot.specs.Tables.{count, or_zero, number_at, all_items, first_failing, map_items}
+use Rattle.dm_boot.specs.Tables.{count, or_zero, all_items, first_failing, map_items}
 use Rattle.dm_boot.specs.Build.{machine_tables, image_tables, process_tables, link_tables, numbers_of, quantum_of, format_number, format_of, slots_in, blocks_in, machine_of, machines_of, image_blocks, image_of, images_of, machine_number, home_of, image_place, start_of, starts_from, starts_of, links_of, link_of, linked, linked_all, processes_of, is_control, system_of, system_with}
-use Rattle.dm_boot.specs.Rules.{keeps, subjects, broken_at, first_broken, rules, has_good_settings, has_good_machine_count, has_good_room, has_good_image_count, image_fits, is_below, has_machine, has_place, has_link_count, has_target, is_limited}
-use Rattle.dm_boot.specs.Boot.{Answers, boot_of, boot_of_table, boot_of_document, document_of, unless}
+use Rattle.dm_boot.specs.Rules.{keeps, subjects, broken_at, first_broken, rules, has_good_settings, has_good_machine_count, has_good_room, has_good_image_count, image_fits, is_below, has_machine, has_link_count, has_target, is_limited}
+use Rattle.dm_boot.specs.Boot.{Answers, boot_of, boot_of_table, boot_of_document, document_of}
 use Rattle.dm_boot.proofs.Parts.{none-head, at_top, unless-ok}
 use Rattle.dm_boot.proofs.Bounds.{if-none, none-is, number-bounds, both-pass, length-map, place-within}
-use Rattle.dm_boot.proofs.Rooms.{Fit, AllFit, fit-none, fit-from}
+use Rattle.dm_boot.proofs.Rooms.{AllFit, fit-none, fit-from}
 use Rattle.dm_boot.proofs.Counted.{starting-push}
-use Rattle.dm_boot.proofs.Found.{starts-length, linked-starting, linked-blocks}
-use Rattle.dm_boot.proofs.Leads.{link-valid, processes-length}
+use Rattle.dm_boot.proofs.Found.{linked-starting, linked-blocks}
+use Rattle.dm_boot.proofs.Leads.{link-valid}
 
 -- the rules that a document keeps
 pub record Kept (d : Data) : Type 0 where

@@ -1,5 +1,5 @@
 -- The rules that a boot file keeps, and the first that it breaks.
-use Rattle.std.specs.Prelude.{ℕ, ◌+◌, ◌*◌, ◌==◌, ◌&&◌, ◌||◌, not, Bool, true, false, nat_le, nat_lt, List, [], ◌∷◌, ◌++◌, codes, length, take, slice_get, Some, None, if◌then◌else◌}
+use Rattle.std.specs.Prelude.{ℕ, ◌+◌, ◌*◌, ◌&&◌, ◌||◌, not, Bool, true, false, nat_le, nat_lt, List, [], ◌∷◌, ◌++◌, codes, length, take, slice_get, Some, None, if◌then◌else◌}
 use Rattle.std.specs.Option.{is_some}
 use Rattle.std.specs.declared.option.Option.{Option}
 use Rattle.toml.specs.Data.{Data, Items, no_items, item}
@@ -9,7 +9,7 @@ use Rattle.dm_onekernel.specs.declared.boot.BootProcess.{BootProcess}
 use Rattle.dm_onekernel.specs.Boot.{slots_of, starting_at, blocks_at, blocks_of_image}
 use Rattle.dm_boot.specs.declared.rules.BootRule.{BootRule}
 use Rattle.dm_boot.specs.declared.rules.BootRule.TheVariants.{Document, TopKeys, Settings, MachineCount, MachineKeys, MachineRoom, ImageCount, ImageKeys, ImageName, ImageBlocks, ImageText, ImageBytes, ProcessKeys, ProcessName, ProcessMachine, ProcessImage, ProcessRoom, LinkCount, LinkTarget, LinkLimits}
-use Rattle.dm_boot.specs.Tables.{has_only, is_integer, is_text, is_truth, is_array, is_table, has, may_have, text_at, truth_at, number_at, or_zero, count, all_items, first_failing, place_of, named, is_place, items_at}
+use Rattle.dm_boot.specs.Tables.{has_only, is_integer, is_text, is_truth, is_array, is_table, has, may_have, text_at, truth_at, or_zero, count, all_items, first_failing, place_of, named, is_place, items_at}
 use Rattle.dm_boot.specs.Text.{is_name, is_server, bytes_of}
 use Rattle.dm_boot.specs.Build.{machine_tables, image_tables, process_tables, link_tables, numbers_of, quantum_of, format_number, format_of, slots_in, blocks_in, machines_of, image_blocks, image_of, images_of, machine_number, image_place, start_of, starts_of, code_in, channel_in, base_in, len_in, is_control}
 

@@ -1,4 +1,4 @@
-use Rattle.std.proofs.Common.{◌≡◌, ℕ, Option, Some, None, Result, Ok, Err, List, refl, ap, sym, ◌∙◌}
+use Rattle.std.proofs.Common.{◌≡◌, ℕ, Some, None, Ok, List, ap, sym, ◌∙◌}
 use Rattle.toml.specs.Data.{Items}
 use Rattle.toml.specs.View.{items_view, view}
 use Rattle.dm_onekernel.specs.declared.boot.BootImage.{BootImage}
@@ -7,7 +7,7 @@ use Rattle.dm_boot.specs.declared.rules.BootRule.TheVariants.{ImageText, ImageBy
 use Rattle.dm_boot.specs.Tables.{map_items}
 use Rattle.dm_boot.specs.Build.{image_tables, images_of, image_of}
 use Rattle.dm_boot.specs.Rules.{broken_or, first_broken, image_rules, first_unassembled, first_long}
-use Rattle.dm_boot.specs.Boot.{Answers, unless, unless_at}
+use Rattle.dm_boot.specs.Boot.{unless, unless_at}
 use Rattle.dm_boot.proofs.Parts.{before_images, images-whole, at-ok, at-err, pass-err, few-images}
 use Rattle.dm_boot.proofs.system.read_images.Goals as goal
 

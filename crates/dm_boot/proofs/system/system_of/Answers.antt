@@ -1,10 +1,9 @@
-use Rattle.std.proofs.Common.{◌≡◌, ℕ, Option, Some, None, Result, Ok, Err, List, refl, ap, sym, ◌∙◌}
-use Rattle.toml.specs.View.{items_view, view}
-use Rattle.dm_onekernel.specs.declared.boot.Boot.{Boot}
+use Rattle.std.proofs.Common.{◌≡◌, ℕ, sym}
+use Rattle.toml.specs.View.{view}
 use Rattle.dm_boot.specs.declared.rules.BootRule.{BootRule}
-use Rattle.dm_boot.specs.Build.{images_of, machines_of, starts_of, processes_of, system_of, system_with}
+use Rattle.dm_boot.specs.Build.{images_of, machines_of, starts_of, processes_of, system_of}
 use Rattle.dm_boot.specs.Rules.{first_broken, image_rules, process_rules, link_rules}
-use Rattle.dm_boot.specs.Boot.{Answers, unless, boot_of_table}
+use Rattle.dm_boot.specs.Boot.{unless, boot_of_table}
 use Rattle.dm_boot.proofs.Parts.{unless-ok, pass-err, whole-stops-images, whole-stops-starts, whole-stops-links, whole-ok}
 use Rattle.dm_boot.proofs.system.system_of.Goals as goal
 
