@@ -1,6 +1,14 @@
 pub mod Keys
-pub mod Gathered
 pub mod Elements
+pub mod Rows
+pub mod Texts
+pub mod Counted
+pub mod Placed
+pub mod Linked
 pub mod Documents
-pub mod Inverse
+pub mod Parts
+pub mod Bounds
+pub mod Rooms
+pub mod Found
+pub mod Leads
 pub mod Validity

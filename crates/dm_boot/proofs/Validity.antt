@@ -1,262 +1,259 @@
 -- The system of a boot file is one that may start.
-use Rattle.std.proofs.Common.{◌≡◌, ℕ, ◌+◌, ◌*◌, ◌<◌, true, ◌&&◌, not, nat_le, nat_lt, List, [], ◌∷◌, length, Option, Some, Result, refl, ap, subst, ◌∙◌, codes, arith}
-use Rattle.std.proofs.lemmas.Option.{same_Some, option_and_then_some}
+use Rattle.std.proofs.Common.{◌≡◌, ℕ, ◌+◌, ◌≤◌, ◌==◌, ◌&&◌, zero, suc, Bool, true, false, if◌then◌else◌, nat_le, nat_lt, List, [], ◌∷◌, ◌++◌, length, slice_get, codes, Option, Some, None, Result, Ok, Err, refl, ap, sym, subst, ◌∙◌, arith}
+use Rattle.std.proofs.lemmas.Bool.{and_parts}
 use Rattle.std.proofs.lemmas.Bool.Decides.{nat_tests}
-use Rattle.std.specs.Str.{is_utf8}
+use Rattle.std.specs.List.{list_all}
+use Rattle.std.specs.Option.{is_some}
 use Rattle.std.specs.Result.{IfOk}
-use Rattle.std.specs.declared.result.Result.TheVariants.{Ok, Err}
-use Rattle.toml.specs.Data.{Data, Items, table}
-use Rattle.toml.specs.Parse.{parse_document}
-use Rattle.dm_link.specs.declared.Link.{Link}
-use Rattle.dm_link.specs.Names.{pid_of, pid_eq}
-use Rattle.dm_onekernel.specs.declared.boot.Format.{Format}
+use Rattle.toml.specs.Data.{Data, Items, no_items, item, get_item, table, Members}
 use Rattle.dm_onekernel.specs.declared.boot.BootMachine.{BootMachine}
 use Rattle.dm_onekernel.specs.declared.boot.BootImage.{BootImage}
 use Rattle.dm_onekernel.specs.declared.boot.BootProcess.{BootProcess}
 use Rattle.dm_onekernel.specs.declared.boot.Boot.{Boot}
-use Rattle.dm_onekernel.specs.Boot.{IsValid, first_number, slots_of, link_is_valid, links_are_valid, image_is_valid, images_are_valid, process_is_valid, processes_are_valid, blocks_taken}
-use Rattle.dm_boot.specs.declared.BootNo.{BootNo}
-use Rattle.dm_boot.specs.Tables.{count, read_all, place_of, text_at, number_at, items_at, only_item, has_only, when, number_or, ◌>>=◌}
-use Rattle.dm_boot.specs.Text.{bytes_of}
-use Rattle.dm_boot.specs.Boot.{boot_of, boot_of_table, format_of, machine_of, machine_keys, machine_by_keys, machine_with, only_machine, process_keys, process_by_keys, unless_server, is_server, boot_keys, boot_by_keys, sized_image, own_name, image_keys, image_by_keys, image_of, images_of, link_keys, link_by_keys, link_to, link_of, links_of, process_of, processes_of, system, fitting, Answers}
-use Rattle.dm_boot.proofs.Inverse.{when-some, number_at-bounds, number_or-most, place_of-within, all_from, read_all-passes, read_all-length}
+use Rattle.dm_onekernel.specs.Boot.{IsValid, first_number, slots_of, starting_at, blocks_at, links_are_valid, image_is_valid, images_are_valid, process_is_valid, processes_are_valid, machine_is_valid, machines_are_valid}
+use Rattle.dm_boot.specs.declared.rules.BootRule.TheVariants.{TopKeys, Settings, MachineCount, MachineKeys, MachineRoom, ImageCount, ImageKeys, ImageName, ImageBlocks, ImageText, ImageBytes, ProcessKeys, ProcessName, ProcessMachine, ProcessImage, ProcessRoom, LinkCount, LinkTarget, LinkLimits}
+use Rattle.dm_boot.specs.declared.rules.BootNo.{BootNo}
+use Rattle.dm_boot.specs.Tables.{count, or_zero, all_items, first_failing, map_items}
+use Rattle.dm_boot.specs.Build.{machine_tables, image_tables, process_tables, link_tables, numbers_of, quantum_of, format_number, format_of, slots_in, blocks_in, machine_of, machines_of, image_blocks, image_of, images_of, machine_number, home_of, image_place, start_of, starts_from, starts_of, links_of, link_of, linked, linked_all, processes_of, is_control, system_of, system_with}
+use Rattle.dm_boot.specs.Rules.{keeps, subjects, broken_at, first_broken, rules, has_good_settings, has_good_machine_count, has_good_room, has_good_image_count, image_fits, is_below, has_machine, has_link_count, has_target, is_limited}
+use Rattle.dm_boot.specs.Boot.{Answers, boot_of, boot_of_table, boot_of_document, document_of}
+use Rattle.dm_boot.proofs.Parts.{none-head, at_top, unless-ok}
+use Rattle.dm_boot.proofs.Bounds.{if-none, none-is, number-bounds, both-pass, length-map, place-within}
+use Rattle.dm_boot.proofs.Rooms.{AllFit, fit-none, fit-from}
+use Rattle.dm_boot.proofs.Counted.{starting-push}
+use Rattle.dm_boot.proofs.Found.{linked-starting, linked-blocks}
+use Rattle.dm_boot.proofs.Leads.{link-valid}
+
+-- the rules that a document keeps
+pub record Kept (d : Data) : Type 0 where
+  pub settings : broken_at Settings d ≡ None
+  pub machine_count : broken_at MachineCount d ≡ None
+  pub machine_room : broken_at MachineRoom d ≡ None
+  pub image_count : broken_at ImageCount d ≡ None
+  pub image_blocks : broken_at ImageBlocks d ≡ None
+  pub image_bytes : broken_at ImageBytes d ≡ None
+  pub machine : broken_at ProcessMachine d ≡ None
+  pub image : broken_at ProcessImage d ≡ None
+  pub room : broken_at ProcessRoom d ≡ None
+  pub link_count : broken_at LinkCount d ≡ None
+  pub target : broken_at LinkTarget d ≡ None
+  pub limits : broken_at LinkLimits d ≡ None
+
+kept : (d : Data) → first_broken rules d ≡ None → Kept d
+kept d h =
+    let a1 = none-head TopKeys _ d h in
+    let a2 = none-head Settings _ d a1.1 in
+    let a3 = none-head MachineCount _ d a2.1 in
+    let a4 = none-head MachineKeys _ d a3.1 in
+    let a5 = none-head MachineRoom _ d a4.1 in
+    let a6 = none-head ImageCount _ d a5.1 in
+    let a7 = none-head ImageKeys _ d a6.1 in
+    let a8 = none-head ImageName _ d a7.1 in
+    let a9 = none-head ImageBlocks _ d a8.1 in
+    let b1 = none-head ImageText _ d a9.1 in
+    let b2 = none-head ImageBytes _ d b1.1 in
+    let b3 = none-head ProcessKeys _ d b2.1 in
+    let b4 = none-head ProcessName _ d b3.1 in
+    let b5 = none-head ProcessMachine _ d b4.1 in
+    let b6 = none-head ProcessImage _ d b5.1 in
+    let b7 = none-head ProcessRoom _ d b6.1 in
+    let b8 = none-head LinkCount _ d b7.1 in
+    let b9 = none-head LinkTarget _ d b8.1 in
+    let b10 = none-head LinkLimits _ d b9.1 in
+    record {
+      settings = a2.0;
+      machine_count = a3.0;
+      machine_room = a5.0;
+      image_count = a6.0;
+      image_blocks = a9.0;
+      image_bytes = b2.0;
+      machine = b5.0;
+      image = b6.0;
+      room = b7.0;
+      link_count = b8.0;
+      target = b9.0;
+      limits = b10.0;
+    }
+
+and-true : {a b : Bool} → a ≡ true → b ≡ true → (a && b) ≡ true
+and-true {a = true} h k = k
+and-true {a = false} h k = absurd (cc)
 
 -- images
+image-valid : (i : ℕ) (t : Data) → is_some (image_blocks t) ≡ true → image_fits (image_of t) ≡ true → image_is_valid (image_of t) ≡ true
+unfolding image_fits image_of
+image-valid i t blocks fits =
+    let (least, most) = number-bounds 1 1 256 (codes "blocks") t refl refl blocks in
+    and-true least (and-true most fits)
 
-sized-valid : (blocks : ℕ) (bytes : List ℕ) (im : BootImage) → nat_le 1 blocks ≡ true → nat_le blocks 256 ≡ true → sized_image blocks bytes ≡ Some im → image_is_valid im ≡ true
-sized-valid blocks bytes im some few h =
-    let (fits, same) = when-some (nat_le (length bytes) (256 * blocks)) (Some (record { bytes = bytes; blocks = blocks })) im h in
-    let e = same_Some (record { bytes = bytes; blocks = blocks }) im same in
-    rw (← e, some, few) fits
+images-all : (is : List BootImage) → images_are_valid is ≡ list_all image_is_valid is
+images-all [] = refl
+images-all (i ∷ is) = ap (λ (b : Bool). image_is_valid i && b) (images-all is)
 
--- the image of a text
-text-valid : (d : Data) (blocks : ℕ) (im : BootImage) → nat_le 1 blocks ≡ true → nat_le blocks 256 ≡ true → (text_at (codes "text") d >>= bytes_of >>= sized_image blocks) ≡ Some im → image_is_valid im ≡ true
-text-valid d blocks im some few h =
-    option_and_then_some (sized_image blocks) (text_at (codes "text") d >>= bytes_of) im h (λ bytes _ h2. sized-valid blocks bytes im some few h2)
+images-valid : (d : Data) → Kept d → images_are_valid (images_of d) ≡ true
+unfolding broken_at keeps subjects
+images-valid d k = images-all (images_of d) ∙ both-pass (λ _ t. is_some (image_blocks t)) (λ _ t. image_fits (image_of t)) image_of image_is_valid image-valid 0 (image_tables d) k.image_blocks k.image_bytes
 
--- the image of a name
-named-valid : (d : Data) (im : BootImage) → (number_at (codes "blocks") 1 256 d >>= (λ blocks. text_at (codes "text") d >>= bytes_of >>= sized_image blocks)) ≡ Some im → image_is_valid im ≡ true
-named-valid d im h =
-    option_and_then_some (λ blocks. text_at (codes "text") d >>= bytes_of >>= sized_image blocks) (number_at (codes "blocks") 1 256 d) im h (λ blocks range h2.
-    let (least, most) = number_at-bounds (codes "blocks") 1 256 d blocks range in
-    text-valid d blocks im least most h2)
+-- machines
+slots-at : (m : ℕ) (rs : List BootMachine) → list_all (λ r. nat_le r.slots 64 && nat_le r.blocks 4096) rs ≡ true → (r : BootMachine) → slice_get rs m ≡ Some r → (nat_le r.slots 64 ≡ true) × (nat_le r.blocks 4096 ≡ true)
+slots-at zero [] all r h = absurd (cc)
+slots-at (suc m) [] all r h = absurd (cc)
+slots-at zero (s ∷ rs) all r h =
+    let e : s ≡ r = cc in
+    let here = (and_parts (nat_le s.slots 64 && nat_le s.blocks 4096) (list_all (λ x. nat_le x.slots 64 && nat_le x.blocks 4096) rs) all).0 in
+    rw (← e) (and_parts (nat_le s.slots 64) (nat_le s.blocks 4096) here)
+slots-at (suc m) (s ∷ rs) all r h = slots-at m rs (and_parts (nat_le s.slots 64 && nat_le s.blocks 4096) (list_all (λ x. nat_le x.slots 64 && nat_le x.blocks 4096) rs) all).1 r h
 
-image-valid : (images : Items) (i : ℕ) (d : Data) (im : BootImage) → image_of images i d ≡ Some im → image_is_valid im ≡ true
-unfolding image_of
-image-valid images i d im h =
-    option_and_then_some (λ name. number_at (codes "blocks") 1 256 d >>= (λ blocks. text_at (codes "text") d >>= bytes_of >>= sized_image blocks)) (own_name images i d) im
-    (when-some (has_only image_keys d) (image_by_keys images i d) im h).1
-    (λ name _ h2. named-valid d im h2)
+rooms-valid : (d : Data) → Kept d → list_all (λ r. nat_le r.slots 64 && nat_le r.blocks 4096) (machines_of d) ≡ true
+unfolding broken_at keeps subjects has_good_room machine_of
+rooms-valid d k = both-pass (λ _ t. has_good_room t) (λ _ t. has_good_room t) machine_of (λ r. nat_le r.slots 64 && nat_le r.blocks 4096) (λ i t good _.
+    let (slots, blocks) = and_parts (is_some (slots_in t)) (is_some (blocks_in t)) good in
+    and-true (number-bounds 0 0 64 (codes "slots") t refl refl slots).1 (number-bounds 0 0 4096 (codes "blocks") t refl refl blocks).1) 0 (machine_tables d) k.machine_room k.machine_room
 
-images-all : (ims : List BootImage) (i : ℕ) → images_are_valid ims ≡ all_from (λ _ x. image_is_valid x) i ims
-images-all [] i = refl
-images-all (im ∷ ims) i = ap (λ b. image_is_valid im && b) (images-all ims (i + 1))
+machines-from : (b : Boot) (m : ℕ) (rs : List BootMachine) → ((j : ℕ) (r : BootMachine) → slice_get rs j ≡ Some r → machine_is_valid b (m + j) r ≡ true) → machines_are_valid b m rs ≡ true
+machines-from b m [] each = refl
+machines-from b m (r ∷ rs) each =
+    let here : machine_is_valid b m r ≡ true = subst (λ (n : ℕ). machine_is_valid b n r ≡ true) (omega arith) (each 0 r refl) in
+    and-true here (machines-from b (m + 1) rs (λ j s h.
+    subst (λ (n : ℕ). machine_is_valid b n s ≡ true) (omega arith) (each (suc j) s h)))
 
-images-valid : (tables : Items) (ims : List BootImage) → images_of tables ≡ Some ims → (images_are_valid ims ≡ true) × (nat_le (length ims) 256 ≡ true) × (length ims ≡ count tables)
-unfolding images_of
-images-valid tables ims h =
-    let (few, all) = when-some (nat_le (count tables) 256) (read_all (image_of tables) 0 tables) ims h in
-    let n = read_all-length (image_of tables) 0 tables ims all in
-    (images-all ims 0 ∙ read_all-passes (λ _ x. image_is_valid x) (image_of tables) (λ i d x says. image-valid tables i d x says) 0 tables ims all, rw n few, n)
+le-test : (a b : ℕ) → a ≤ b → nat_le a b ≡ true
+le-test a b h = grind (arith, nat_tests)
+
+all-fit : (d : Data) → Kept d → AllFit (machines_of d) (images_of d) (starts_of d)
+unfolding broken_at keeps subjects starts_of
+all-fit d k = fit-from d [] 0 (process_tables d) refl refl (fit-none (machines_of d) (images_of d)) k.room
+
+machines-valid : (d : Data) → Kept d → machines_are_valid (system_of d) 0 (machines_of d) ≡ true
+unfolding system_with starts_of
+machines-valid d k = machines-from (system_of d) 0 (machines_of d) (λ j r h.
+    let (slots, blocks) = slots-at j (machines_of d) (rooms-valid d k) r h in
+    let fit = all-fit d k j r h in
+    let few : starting_at j (processes_of d) ≤ r.slots = rw (linked-starting d (starts_of d) [] (process_tables d) j) fit.slots in
+    let low : blocks_at j (images_of d) (processes_of d) ≤ r.blocks = rw (linked-blocks d (starts_of d) [] (process_tables d) j (images_of d)) fit.blocks in
+    let valid : machine_is_valid (system_of d) j r ≡ true = and-true slots (and-true blocks (and-true (le-test (starting_at j (processes_of d)) r.slots few) (le-test (blocks_at j (images_of d) (processes_of d)) r.blocks low))) in
+    subst (λ (n : ℕ). machine_is_valid (system_of d) n r ≡ true) (omega arith) valid)
 
 -- links
-
-link_to-valid : (n k code channel : ℕ) → k < n → nat_le channel 31 ≡ true → link_is_valid n (link_to k code channel) ≡ true
-link_to-valid n k code channel within small =
-    let a : nat_le 3 (3 + k) ≡ true = grind (arith, nat_tests) in
-    let b : nat_lt (3 + k) (3 + n) ≡ true = grind (arith, nat_tests) in
-    rw (a, b, small)
-
--- a link of a channel
-channel-valid : (processes : Items) (k code : ℕ) (d : Data) (l : Link) → k < count processes → (number_or 0 (codes "channel") 0 31 d >>= (λ channel. Some (link_to k code channel))) ≡ Some l → link_is_valid (count processes) l ≡ true
-channel-valid processes k code d l within h =
-    option_and_then_some (λ channel. Some (link_to k code channel)) (number_or 0 (codes "channel") 0 31 d) l h (λ channel range h2.
-    rw (← same_Some (link_to k code channel) l h2)
-    (link_to-valid (count processes) k code channel within (number_or-most 0 (codes "channel") 0 31 d channel refl range)))
-
--- a link of a code and a channel
-code-valid : (processes : Items) (k : ℕ) (d : Data) (l : Link) → k < count processes → (number_or 0 (codes "code") 0 4294967295 d >>= (λ code. number_or 0 (codes "channel") 0 31 d >>= (λ channel. Some (link_to k code channel)))) ≡ Some l → link_is_valid (count processes) l ≡ true
-code-valid processes k d l within h =
-    option_and_then_some (λ code. number_or 0 (codes "channel") 0 31 d >>= (λ channel. Some (link_to k code channel))) (number_or 0 (codes "code") 0 4294967295 d) l h
-    (λ code _ h2. channel-valid processes k code d l within h2)
-
--- a link to a name
-to-valid : (processes : Items) (name : List ℕ) (d : Data) (l : Link) → (place_of name processes >>= (λ k. number_or 0 (codes "code") 0 4294967295 d >>= (λ code. number_or 0 (codes "channel") 0 31 d >>= (λ channel. Some (link_to k code channel))))) ≡ Some l → link_is_valid (count processes) l ≡ true
-to-valid processes name d l h =
-    option_and_then_some (λ k. number_or 0 (codes "code") 0 4294967295 d >>= (λ code. number_or 0 (codes "channel") 0 31 d >>= (λ channel. Some (link_to k code channel)))) (place_of name processes) l h
-    (λ k found h2. code-valid processes k d l (place_of-within name processes k found) h2)
-
-link-valid : (processes : Items) (i : ℕ) (d : Data) (l : Link) → link_of processes i d ≡ Some l → link_is_valid (count processes) l ≡ true
-unfolding link_of
-link-valid processes i d l h =
-    option_and_then_some (λ name. place_of name processes >>= (λ k. number_or 0 (codes "code") 0 4294967295 d >>= (λ code. number_or 0 (codes "channel") 0 31 d >>= (λ channel. Some (link_to k code channel))))) (text_at (codes "to") d) l
-    (when-some (has_only link_keys d) (link_by_keys processes d) l h).1
-    (λ name _ h2. to-valid processes name d l h2)
-
-links-all : (n : ℕ) (ls : List Link) (i : ℕ) → links_are_valid n ls ≡ all_from (λ _ l. link_is_valid n l) i ls
-links-all n [] i = refl
-links-all n (l ∷ ls) i = ap (λ b. link_is_valid n l && b) (links-all n ls (i + 1))
-
-links-valid : (slots : ℕ) (processes : Items) (d : Data) (ls : List Link) → links_of slots processes d ≡ Some ls → (links_are_valid (count processes) ls ≡ true) × (nat_le (length ls) slots ≡ true)
-unfolding links_of
-links-valid slots processes d ls h =
-    option_and_then_some (λ links. when (nat_le (count links) slots) (read_all (link_of processes) 0 links)) (items_at (codes "links") d) ls h (λ tables _ h2.
-    let (few, all) = when-some (nat_le (count tables) slots) (read_all (link_of processes) 0 tables) ls h2 in
-    let n = read_all-length (link_of processes) 0 tables ls all in
-    (links-all (count processes) ls 0 ∙ read_all-passes (λ _ l. link_is_valid (count processes) l) (link_of processes) (λ i t x says. link-valid processes i t x says) 0 tables ls all, rw n few))
+links-valid : (d : Data) (ls : Items) → ((k : ℕ) (t : Data) → get_item k (process_tables d) ≡ Some t → is_some (image_place d t) ≡ true) → all_items (has_target d) ls ≡ true → all_items (is_limited d) ls ≡ true → links_are_valid (system_of d) (map_items (link_of d (starts_of d)) ls) ≡ true
+unfolding map_items
+links-valid d no_items images targets limits = refl
+links-valid d (item l ls) images targets limits =
+    let (target, more) = and_parts (has_target d l) (all_items (has_target d) ls) targets in
+    let (limit, rest) = and_parts (is_limited d l) (all_items (is_limited d) ls) limits in
+    and-true (link-valid d l (is_control l) refl images target limit) (links-valid d ls images more rest)
 
 -- processes
+image-at : (d : Data) (i : ℕ) (ts : Items) → first_failing (λ _ t. is_some (image_place d t)) i ts ≡ None → (k : ℕ) (t : Data) → get_item k ts ≡ Some t → is_some (image_place d t) ≡ true
+unfolding first_failing
+image-at d i no_items h zero t at = absurd (cc)
+image-at d i no_items h (suc k) t at = absurd (cc)
+image-at d i (item u ts) h zero t at =
+    let e : u ≡ t = cc in
+    rw (← e) (if-none (is_some (image_place d u)) (first_failing (λ _ x. is_some (image_place d x)) (i + 1) ts) i h).0
+image-at d i (item u ts) h (suc k) t at = image-at d (i + 1) ts (if-none (is_some (image_place d u)) (first_failing (λ _ x. is_some (image_place d x)) (i + 1) ts) i h).1 k t at
 
-pid-itself : (n : ℕ) → pid_eq (pid_of 0 n) (pid_of 0 n) ≡ true
-pid-itself n = grind (arith, nat_tests)
+below : (n : ℕ) (o : Option ℕ) → is_below n o ≡ true → nat_lt (or_zero o) n ≡ true
+below n None h = absurd (cc)
+below n (Some m) h = h
 
--- a process of these parts
-abbrev process_with : ℕ → ℕ → List Link → BootProcess
-process_with n image links = record { pid = pid_of 0 n; image = image; links = links }
+length-links : (d t : Data) → length (links_of d (starts_of d) t) ≡ count (link_tables t)
+length-links d t = length-map (link_of d (starts_of d)) (link_tables t)
 
-with-valid : (b : Boot) (n image : ℕ) (ls : List Link) → image < length b.images → nat_le (length ls) (slots_of b.format) ≡ true → links_are_valid (length b.processes) ls ≡ true → process_is_valid b n (process_with n image ls) ≡ true
-with-valid b n image ls within few links =
-    let i : nat_lt image (length b.images) ≡ true = grind (arith, nat_tests) in
-    rw (pid-itself n, i, few) links
+-- what is known of each process's table
+pub record Good (d : Data) (t : Data) : Type 0 where
+  pub machine : has_machine d t ≡ true
+  pub image : is_some (image_place d t) ≡ true
+  pub count : has_link_count d t ≡ true
+  pub target : all_items (has_target d) (link_tables t) ≡ true
+  pub limits : all_items (is_limited d) (link_tables t) ≡ true
 
--- the steps of a process's keys
-abbrev after_image : Format → Items → ℕ → Data → ℕ → Option BootProcess
-after_image format processes i d image = links_of (slots_of format) processes d >>= (λ links. Some (process_with (first_number + i) image links))
+process-valid : (d : Data) (done : List BootProcess) (t : Data) (others : ℕ) → ((k : ℕ) (u : Data) → get_item k (process_tables d) ≡ Some u → is_some (image_place d u) ≡ true) → Good d t → others ≡ starting_at (home_of t) done → process_is_valid (system_of d) others (linked (start_of d done t) (links_of d (starts_of d) t)) ≡ true
+unfolding system_with start_of has_machine has_link_count
+process-valid d done t others images good e =
+    let home : nat_lt (home_of t) (length (machines_of d)) ≡ true = rw (length-map machine_of (machine_tables d)) (below (count (machine_tables d)) (machine_number t) good.machine) in
+    let number : (first_number + starting_at (home_of t) done == first_number + others) ≡ true = grind (arith, nat_tests) in
+    let (j, place) = none-is (image_place d t) good.image in
+    let within = place-within _ (image_tables d) j place in
+    let image : nat_lt (or_zero (image_place d t)) (length (images_of d)) ≡ true = rw (length-map image_of (image_tables d), place) (grind (arith, nat_tests)) in
+    let few : nat_le (length (links_of d (starts_of d) t)) (slots_of (format_of d)) ≡ true = rw (length-links d t) good.count in
+    and-true home (and-true number (and-true image (and-true few (links-valid d (link_tables t) images good.target good.limits))))
 
-abbrev after_wanted : Format → Items → Items → ℕ → Data → List ℕ → Option BootProcess
-after_wanted format images processes i d wanted = place_of wanted images >>= (λ image. after_image format processes i d image)
+-- the tables from place i on, whose rules hold
+pub record GoodFrom (d : Data) (i : ℕ) (ts : Items) : Type 0 where
+  pub machine : first_failing (λ _ t. has_machine d t) i ts ≡ None
+  pub image : first_failing (λ _ t. is_some (image_place d t)) i ts ≡ None
+  pub count : first_failing (λ _ t. has_link_count d t) i ts ≡ None
+  pub target : first_failing (λ _ t. all_items (has_target d) (link_tables t)) i ts ≡ None
+  pub limits : first_failing (λ _ t. all_items (is_limited d) (link_tables t)) i ts ≡ None
 
-abbrev after_machine : Format → Items → Items → ℕ → Data → ℕ → Option BootProcess
-after_machine format images processes i d machine = text_at (codes "image") d >>= (λ wanted. after_wanted format images processes i d wanted)
+good-parts : (d : Data) (i : ℕ) (t : Data) (ts : Items) → GoodFrom d i (item t ts) → Good d t × GoodFrom d (i + 1) ts
+unfolding first_failing
+good-parts d i t ts h =
+    let a = if-none (has_machine d t) (first_failing (λ _ x. has_machine d x) (i + 1) ts) i h.machine in
+    let b = if-none (is_some (image_place d t)) (first_failing (λ _ x. is_some (image_place d x)) (i + 1) ts) i h.image in
+    let e = if-none (has_link_count d t) (first_failing (λ _ x. has_link_count d x) (i + 1) ts) i h.count in
+    let f = if-none (all_items (has_target d) (link_tables t)) (first_failing (λ _ x. all_items (has_target d) (link_tables x)) (i + 1) ts) i h.target in
+    let g = if-none (all_items (is_limited d) (link_tables t)) (first_failing (λ _ x. all_items (is_limited d) (link_tables x)) (i + 1) ts) i h.limits in
+    (record { machine = a.0; image = b.0; count = e.0; target = f.0; limits = g.0 }, record { machine = a.1; image = b.1; count = e.1; target = f.1; limits = g.1 })
 
-image-step : (b : Boot) (processes : Items) (i : ℕ) (d : Data) (image : ℕ) (p : BootProcess) → image < length b.images → length b.processes ≡ count processes → after_image b.format processes i d image ≡ Some p → process_is_valid b (first_number + i) p ≡ true
-image-step b processes i d image p within n h =
-    option_and_then_some (λ links. Some (process_with (first_number + i) image links)) (links_of (slots_of b.format) processes d) p h (λ links read h2.
-    let (valid, few) = links-valid (slots_of b.format) processes d links read in
-    let all : links_are_valid (length b.processes) links ≡ true = rw n valid in
-    rw (← same_Some (process_with (first_number + i) image links) p h2) (with-valid b (first_number + i) image links within few all))
+home-is : (d : Data) (done : List BootProcess) (t : Data) → (start_of d done t).pid.home ≡ home_of t
+unfolding start_of
+home-is d done t = refl
 
-wanted-step : (b : Boot) (images processes : Items) (i : ℕ) (d : Data) (wanted : List ℕ) (p : BootProcess) → length b.images ≡ count images → length b.processes ≡ count processes → after_wanted b.format images processes i d wanted ≡ Some p → process_is_valid b (first_number + i) p ≡ true
-wanted-step b images processes i d wanted p m n h =
-    option_and_then_some (λ image. after_image b.format processes i d image) (place_of wanted images) p h (λ image found h2.
-    let within : image < length b.images = rw m (place_of-within wanted images image found) in
-    image-step b processes i d image p within n h2)
-
-machine-step : (b : Boot) (images processes : Items) (i : ℕ) (d : Data) (machine : ℕ) (p : BootProcess) → length b.images ≡ count images → length b.processes ≡ count processes → after_machine b.format images processes i d machine ≡ Some p → process_is_valid b (first_number + i) p ≡ true
-machine-step b images processes i d machine p m n h =
-    option_and_then_some (λ wanted. after_wanted b.format images processes i d wanted) (text_at (codes "image") d) p h (λ wanted _ h2. wanted-step b images processes i d wanted p m n h2)
-
-name-step : (b : Boot) (images processes : Items) (i : ℕ) (d : Data) (name : List ℕ) (p : BootProcess) → length b.images ≡ count images → length b.processes ≡ count processes → unless_server (process_by_keys b.format images processes i d) name ≡ Some p → process_is_valid b (first_number + i) p ≡ true
-name-step b images processes i d name p m n h =
-    option_and_then_some (λ machine. after_machine b.format images processes i d machine) (number_at (codes "machine") 0 0 d) p
-    (when-some (not (is_server name)) (process_by_keys b.format images processes i d) p h).1
-    (λ machine _ h2. machine-step b images processes i d machine p m n h2)
-
-process-valid : (b : Boot) (images processes : Items) (i : ℕ) (d : Data) (p : BootProcess) → length b.images ≡ count images → length b.processes ≡ count processes → process_of b.format images processes i d ≡ Some p → process_is_valid b (first_number + i) p ≡ true
-unfolding process_of
-process-valid b images processes i d p m n h =
-    option_and_then_some (unless_server (process_by_keys b.format images processes i d)) (own_name processes i d) p
-    (when-some (has_only process_keys d) (own_name processes i d >>= unless_server (process_by_keys b.format images processes i d)) p h).1
-    (λ name _ h2. name-step b images processes i d name p m n h2)
-
-processes-all : (b : Boot) (ps : List BootProcess) (n i : ℕ) → n ≡ first_number + i → processes_are_valid b n ps ≡ all_from (λ j p. process_is_valid b (first_number + j) p) i ps
-processes-all b [] n i e = refl
-processes-all b (p ∷ ps) n i e =
-    let more : n + 1 ≡ first_number + (i + 1) = omega arith in
-    rw (processes-all b ps (n + 1) (i + 1) more, e)
-
-processes-valid : (b : Boot) (slots : ℕ) (images processes : Items) (ps : List BootProcess) → length b.images ≡ count images → length b.processes ≡ count processes → processes_of slots b.format images processes ≡ Some ps → (processes_are_valid b first_number ps ≡ true) × (nat_le (length ps) slots ≡ true) × (length ps ≡ count processes)
-unfolding processes_of
-processes-valid b slots images processes ps m n h =
-    let (few, all) = when-some (nat_le (count processes) slots) (read_all (process_of b.format images processes) 0 processes) ps h in
-    let same = read_all-length (process_of b.format images processes) 0 processes ps all in
-    (processes-all b ps first_number 0 refl ∙ read_all-passes (λ j p. process_is_valid b (first_number + j) p) (process_of b.format images processes) (λ i t x says. process-valid b images processes i t x m n says) 0 processes ps all, rw same few, same)
-
--- the machine
-
-with_slots-valid : (d : Data) (slots : ℕ) (m : BootMachine) → nat_le slots 64 ≡ true → (number_at (codes "blocks") 0 4096 d >>= (λ blocks. Some (machine_with slots blocks))) ≡ Some m → (nat_le m.slots 64 ≡ true) × (nat_le m.blocks 4096 ≡ true)
-with_slots-valid d slots m few h =
-    option_and_then_some (λ blocks. Some (machine_with slots blocks)) (number_at (codes "blocks") 0 4096 d) m h (λ blocks range h2.
-    rw (← same_Some (machine_with slots blocks) m h2) (few, (number_at-bounds (codes "blocks") 0 4096 d blocks range).1))
-
-machine-valid : (d : Data) (m : BootMachine) → machine_of d ≡ Some m → (nat_le m.slots 64 ≡ true) × (nat_le m.blocks 4096 ≡ true)
-unfolding machine_of
-machine-valid d m h =
-    option_and_then_some (λ slots. number_at (codes "blocks") 0 4096 d >>= (λ blocks. Some (machine_with slots blocks))) (number_at (codes "slots") 0 64 d) m
-    (when-some (has_only machine_keys d) (machine_by_keys d) m h).1
-    (λ slots range h2. with_slots-valid d slots m (number_at-bounds (codes "slots") 0 64 d slots range).1 h2)
-
-only-valid : (d : Data) (m : BootMachine) → only_machine d ≡ Some m → (nat_le m.slots 64 ≡ true) × (nat_le m.blocks 4096 ≡ true)
-unfolding only_machine
-only-valid d m h = option_and_then_some machine_of (items_at (codes "machine") d >>= only_item) m h (λ t _ h2. machine-valid t m h2)
+processes-from : (d : Data) (done earlier : List BootProcess) (i : ℕ) (ts : Items) → ((k : ℕ) (u : Data) → get_item k (process_tables d) ≡ Some u → is_some (image_place d u) ≡ true) → GoodFrom d i ts → ((m : ℕ) → starting_at m earlier ≡ starting_at m done) → processes_are_valid (system_of d) earlier (linked_all d (starts_of d) (starts_from d done ts) ts) ≡ true
+unfolding starts_from linked_all
+processes-from d done earlier i no_items images good same = refl
+processes-from d done earlier i (item t ts) images good same =
+    let s = start_of d done t in
+    let p = linked s (links_of d (starts_of d) t) in
+    let (here, rest) = good-parts d i t ts good in
+    let home : s.pid.home ≡ home_of t = home-is d done t in
+    let others : starting_at s.pid.home earlier ≡ starting_at (home_of t) done = same s.pid.home ∙ ap (λ (m : ℕ). starting_at m done) home in
+    and-true (process-valid d done t (starting_at s.pid.home earlier) images here others)
+    (processes-from d (done ++ s ∷ []) (earlier ++ p ∷ []) (i + 1) ts images rest (λ m.
+    starting-push m earlier p ∙ ap (λ (n : ℕ). n + (if s.pid.home == m then 1 else 0)) (same m) ∙ sym (starting-push m done s)))
 
 -- the whole
+valid : (d : Data) → Kept d → IsValid (system_of d)
+unfolding system_with starts_of broken_at keeps subjects first_failing has_good_settings has_good_machine_count has_good_image_count
+valid d k =
+    let settings = at_top Settings d refl k.settings in
+    let (numbers, more) = and_parts (is_some (numbers_of d)) (is_some (quantum_of d) && is_some (format_number d)) settings in
+    let (quantum, format) = and_parts (is_some (quantum_of d)) (is_some (format_number d)) more in
+    let (least_numbers, most_numbers) = number-bounds 1048576 1 1048576 (codes "numbers") d refl refl numbers in
+    let (least_quantum, most_quantum) = number-bounds 16 1 1000 (codes "quantum") d refl refl quantum in
+    let machines = at_top MachineCount d refl k.machine_count in
+    let (some, few) = and_parts (nat_le 1 (count (machine_tables d))) (nat_le (count (machine_tables d)) 16) machines in
+    let images = at_top ImageCount d refl k.image_count in
+    let here = image-at d 0 (process_tables d) k.image in
+    record {
+      least_numbers = least_numbers;
+      most_numbers = most_numbers;
+      least_quantum = least_quantum;
+      most_quantum = most_quantum;
+      some_machines = rw (length-map machine_of (machine_tables d)) some;
+      few_machines = rw (length-map machine_of (machine_tables d)) few;
+      machines = machines-valid d k;
+      few_images = rw (length-map image_of (image_tables d)) images;
+      images = images-valid d k;
+      processes = processes-from d [] [] 0 (process_tables d) here (record { machine = k.machine; image = k.image; count = k.link_count; target = k.target; limits = k.limits }) (λ m. refl);
+    }
 
-system-valid : (format : Format) (m : BootMachine) (images : List BootImage) (processes : List BootProcess) (b : Boot) (image_tables process_tables : Items) → (nat_le m.slots 64 ≡ true) × (nat_le m.blocks 4096 ≡ true) → images_of image_tables ≡ Some images → processes_of m.slots format image_tables process_tables ≡ Some processes → fitting m.blocks (system format m images processes) ≡ Some b → IsValid b
-unfolding system fitting processes_of
-system-valid format m images processes b image_tables process_tables small image_read process_read h =
-    let s = system format m images processes in
-    let (fits, same) = when-some (nat_le (blocks_taken s s.processes) m.blocks) (Some s) b h in
-    let (valid, few, m_is) = images-valid image_tables images image_read in
-    let (few_slots, all) = when-some (nat_le (count process_tables) m.slots) (read_all (process_of format image_tables process_tables) 0 process_tables) processes process_read in
-    let n_is = read_all-length (process_of format image_tables process_tables) 0 process_tables processes all in
-    let (ps_valid, ps_few, _) = processes-valid s m.slots image_tables process_tables processes m_is n_is process_read in
-    subst IsValid (same_Some s b same) (record {
-      numbers = refl;
-      quantum = refl;
-      machines = rw (small.0, small.1, ps_few) fits;
-      images = valid;
-      few_images = few;
-      processes = ps_valid;
-    })
-
--- the steps of the top table's keys
-abbrev at_process_tables : Format → BootMachine → Items → List BootImage → Items → Option Boot
-at_process_tables format m image_tables images process_tables =
-    processes_of m.slots format image_tables process_tables >>= (λ processes. fitting m.blocks (system format m images processes))
-
-abbrev at_images : Data → Format → BootMachine → Items → List BootImage → Option Boot
-at_images d format m image_tables images = items_at (codes "process") d >>= (λ process_tables. at_process_tables format m image_tables images process_tables)
-
-abbrev at_image_tables : Data → Format → BootMachine → Items → Option Boot
-at_image_tables d format m image_tables = images_of image_tables >>= (λ images. at_images d format m image_tables images)
-
-abbrev at_machine : Data → Format → BootMachine → Option Boot
-at_machine d format m = items_at (codes "image") d >>= (λ image_tables. at_image_tables d format m image_tables)
-
-abbrev at_format : Data → Format → Option Boot
-at_format d format = only_machine d >>= (λ m. at_machine d format m)
-
-images-step : (d : Data) (format : Format) (m : BootMachine) (image_tables : Items) (images : List BootImage) (b : Boot) → (nat_le m.slots 64 ≡ true) × (nat_le m.blocks 4096 ≡ true) → images_of image_tables ≡ Some images → at_images d format m image_tables images ≡ Some b → IsValid b
-images-step d format m image_tables images b small read h =
-    option_and_then_some (λ process_tables. at_process_tables format m image_tables images process_tables) (items_at (codes "process") d) b h (λ process_tables _ h2.
-    option_and_then_some (λ processes. fitting m.blocks (system format m images processes)) (processes_of m.slots format image_tables process_tables) b h2 (λ processes process_read h3.
-    system-valid format m images processes b image_tables process_tables small read process_read h3))
-
-machine_at-step : (d : Data) (format : Format) (m : BootMachine) (b : Boot) → (nat_le m.slots 64 ≡ true) × (nat_le m.blocks 4096 ≡ true) → at_machine d format m ≡ Some b → IsValid b
-machine_at-step d format m b small h =
-    option_and_then_some (λ image_tables. at_image_tables d format m image_tables) (items_at (codes "image") d) b h (λ image_tables _ h2.
-    option_and_then_some (λ images. at_images d format m image_tables images) (images_of image_tables) b h2 (λ images read h3.
-    images-step d format m image_tables images b small read h3))
-
-format-step : (d : Data) (format : Format) (b : Boot) → at_format d format ≡ Some b → IsValid b
-format-step d format b h =
-    option_and_then_some (λ m. at_machine d format m) (only_machine d) b h (λ m read h2. machine_at-step d format m b (only-valid d m read) h2)
-
-table-valid : (d : Data) (b : Boot) → boot_of_table d ≡ Some b → IsValid b
+table-valid : (d : Data) (b : Boot) → boot_of_table d ≡ Ok b → IsValid b
 unfolding boot_of_table
 table-valid d b h =
-    option_and_then_some (λ format. at_format d format) (format_of d) b
-    (when-some (has_only boot_keys d) (boot_by_keys d) b h).1
-    (λ format _ h2. format-step d format b h2)
+    let (none, built) = unless-ok (first_broken rules d) (system_of d) b h in
+    subst IsValid built (valid d (kept d none))
+
+document-valid : (o : Option Members) (b : Boot) → boot_of_document o ≡ Ok b → IsValid b
+document-valid None b h = absurd (cc)
+document-valid (Some ms) b h = table-valid (table ms) b h
 
 -- the system of a boot file may start
-pub boot-valid : (bytes : List ℕ) (b : Boot) → boot_of bytes ≡ Some b → IsValid b
+pub boot-valid : (bytes : List ℕ) (b : Boot) → boot_of bytes ≡ Ok b → IsValid b
 unfolding boot_of
-boot-valid bytes b h =
-    option_and_then_some (λ ms. boot_of_table (table ms)) (parse_document bytes) b
-    (when-some (is_utf8 bytes) (parse_document bytes >>= (λ ms. boot_of_table (table ms))) b h).1
-    (λ ms _ h2. table-valid (table ms) b h2)
+boot-valid bytes b h = document-valid (document_of bytes) b h
 
 pub answers-valid : (bytes : List ℕ) (r : Result Boot BootNo) → Answers (boot_of bytes) r → IfOk r (λ b. IsValid b)
 answers-valid bytes (Ok b) h = boot-valid bytes b h

@@ -1,3 +1,6 @@
 pub mod Tables
 pub mod Text
+pub mod Build
+pub mod Rules
 pub mod Boot
+pub mod Made

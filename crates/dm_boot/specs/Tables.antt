@@ -1,17 +1,10 @@
 -- What tables of the boot file hold at their keys.
-use Rattle.std.specs.Prelude.{ℕ, ◌+◌, ◌==◌, ◌&&◌, Bool, true, false, nat_le, ℤ, pos, negsuc, List, [], ◌∷◌, codes, Some, None, option_map, option_and_then, if◌then◌else◌}
+use Rattle.std.specs.Prelude.{ℕ, ◌+◌, ◌==◌, ◌&&◌, Bool, true, false, nat_le, ℤ, pos, negsuc, List, [], ◌∷◌, codes, Some, None, if◌then◌else◌}
 use Rattle.std.specs.List.{list_any}
+use Rattle.std.specs.Option.{is_some}
 use Rattle.std.specs.Str.{bytes_eq}
 use Rattle.std.specs.declared.option.Option.{Option}
-use Rattle.toml.specs.Data.{Data, table, array, Items, no_items, item, Members, no_members, member, get, as_str, as_integer}
-
-infixl 10 ◌>>=◌
-abbrev pub ◌>>=◌ : {A B : Type 0} → Option A → (A → Option B) → Option B
-o >>= f = option_and_then f o
-
--- o, where a test holds
-abbrev pub when : {A : Type 0} → Bool → Option A → Option A
-when b o = if b then o else None
+use Rattle.toml.specs.Data.{Data, table, array, Items, no_items, item, Members, no_members, member, get, get_item, as_str, as_integer, as_bool, as_array, as_table}
 
 -- a key is among these
 abbrev pub is_known : List (List ℕ) → List ℕ → Bool
@@ -27,40 +20,97 @@ abbrev pub has_only : List (List ℕ) → Data → Bool
 has_only keys (table ms) = all_known keys ms
 has_only keys _ = false
 
--- the text at a key
-abbrev pub text_at : List ℕ → Data → Option (List ℕ)
-text_at key d = get key d >>= as_str
+-- the types of values
+abbrev pub is_integer : Data → Bool
+is_integer d = is_some (as_integer d)
+
+abbrev pub is_text : Data → Bool
+is_text d = is_some (as_str d)
+
+abbrev pub is_truth : Data → Bool
+is_truth d = is_some (as_bool d)
+
+abbrev pub is_array : Data → Bool
+is_array d = is_some (as_array d)
+
+abbrev pub is_table : Data → Bool
+is_table d = is_some (as_table d)
+
+-- there is a value, and it passes a test
+abbrev pub holds : (Data → Bool) → Option Data → Bool
+holds test None = false
+holds test (Some d) = test d
+
+-- there is no value, or it passes a test
+abbrev pub may_hold : (Data → Bool) → Option Data → Bool
+may_hold test None = true
+may_hold test (Some d) = test d
+
+-- the key has a value of this type
+abbrev pub has : (Data → Bool) → List ℕ → Data → Bool
+has test key d = holds test (get key d)
+
+-- the key is missing, or has a value of this type
+abbrev pub may_have : (Data → Bool) → List ℕ → Data → Bool
+may_have test key d = may_hold test (get key d)
+
+-- a text; empty where there is none
+abbrev pub text_or_empty : Option (List ℕ) → List ℕ
+text_or_empty None = []
+text_or_empty (Some text) = text
+
+abbrev pub text_of : Option Data → List ℕ
+text_of None = []
+text_of (Some d) = text_or_empty (as_str d)
+
+-- the text at a key; empty where there is none
+abbrev pub text_at : List ℕ → Data → List ℕ
+text_at key d = text_of (get key d)
+
+-- a truth; false where there is none
+abbrev pub truth_or_false : Option Bool → Bool
+truth_or_false None = false
+truth_or_false (Some b) = b
+
+abbrev pub truth_of : Option Data → Bool
+truth_of None = false
+truth_of (Some d) = truth_or_false (as_bool d)
+
+-- the truth at a key; false where there is none
+abbrev pub truth_at : List ℕ → Data → Bool
+truth_at key d = truth_of (get key d)
 
 -- a number, where it lies within these bounds
 abbrev pub in_range : ℕ → ℕ → ℤ → Option ℕ
 in_range least most (pos n) = if nat_le least n && nat_le n most then Some n else None
 in_range least most (negsuc n) = None
 
--- an integer within these bounds
-abbrev pub number_of : ℕ → ℕ → Data → Option ℕ
-number_of least most d = as_integer d >>= in_range least most
+abbrev pub integer_in : ℕ → ℕ → Option ℤ → Option ℕ
+integer_in least most None = None
+integer_in least most (Some z) = in_range least most z
 
--- the integer at a key
-abbrev pub number_at : List ℕ → ℕ → ℕ → Data → Option ℕ
-number_at key least most d = get key d >>= number_of least most
+-- an integer within these bounds, or this number where there is no value
+abbrev pub number_or : ℕ → ℕ → ℕ → Option Data → Option ℕ
+number_or default least most None = Some default
+number_or default least most (Some d) = integer_in least most (as_integer d)
 
--- an integer, or this one where there is none
-abbrev pub number_or_else : ℕ → ℕ → ℕ → Option Data → Option ℕ
-number_or_else default least most None = Some default
-number_or_else default least most (Some d) = number_of least most d
+-- the integer at a key, where it lies within these bounds; the first number where the key is missing
+unfoldable pub number_at : ℕ → ℕ → ℕ → List ℕ → Data → Option ℕ
+number_at default least most key d = number_or default least most (get key d)
 
--- the integer at a key, or this one where the key is missing
-abbrev pub number_or : ℕ → List ℕ → ℕ → ℕ → Data → Option ℕ
-number_or default key least most d = number_or_else default least most (get key d)
+-- a number; 0 where there is none
+abbrev pub or_zero : Option ℕ → ℕ
+or_zero None = 0
+or_zero (Some n) = n
 
--- the elements of an array; none where there is no value
-abbrev pub elements_of : Option Data → Option Items
-elements_of None = Some no_items
-elements_of (Some (array ds)) = Some ds
-elements_of (Some _) = None
+-- the elements of an array; none where there is no array
+abbrev pub elements_of : Option Data → Items
+elements_of None = no_items
+elements_of (Some (array ds)) = ds
+elements_of (Some _) = no_items
 
--- the elements of the array at a key; none where the key is missing
-abbrev pub items_at : List ℕ → Data → Option Items
+-- the elements of the array at a key
+unfoldable pub items_at : List ℕ → Data → Items
 items_at key d = elements_of (get key d)
 
 -- how many elements
@@ -68,31 +118,41 @@ abbrev pub count : Items → ℕ
 count no_items = 0
 count (item d ds) = count ds + 1
 
--- the only element
-abbrev pub only_item : Items → Option Data
-only_item (item d no_items) = Some d
-only_item _ = None
+-- each element passes a test
+abbrev pub all_items : (Data → Bool) → Items → Bool
+all_items test no_items = true
+all_items test (item d ds) = test d && all_items test ds
 
--- what each element says, in order, by its place from i on
-unfoldable pub read_all : {A : Type 0} → (ℕ → Data → Option A) → ℕ → Items → Option (List A)
-read_all f i no_items = Some []
-read_all f i (item d ds) = f i d >>= (λ x. option_map (λ xs. x ∷ xs) (read_all f (i + 1) ds))
+-- the place of the first element that fails a test, from i on
+unfoldable pub first_failing : (ℕ → Data → Bool) → ℕ → Items → Option ℕ
+first_failing test i no_items = None
+first_failing test i (item d ds) = if test i d then first_failing test (i + 1) ds else Some i
 
--- the value's name is this one
-abbrev pub same_text : List ℕ → Option (List ℕ) → Bool
-same_text name None = false
-same_text name (Some found) = bytes_eq found name
+-- what each element says, in order
+unfoldable pub map_items : {A : Type 0} → (Data → A) → Items → List A
+map_items f no_items = []
+map_items f (item d ds) = f d ∷ map_items f ds
 
+-- the element's name is this one
 abbrev pub is_named : List ℕ → Data → Bool
-is_named name d = same_text name (text_at (codes "name") d)
+is_named name d = bytes_eq (text_at (codes "name") d) name
 
 -- the place of the first element with this name, from i on
 abbrev pub place_from : ℕ → List ℕ → Items → Option ℕ
 place_from i name no_items = None
 place_from i name (item d ds) = if is_named name d then Some i else place_from (i + 1) name ds
 
-abbrev pub place_of : List ℕ → Items → Option ℕ
+-- the place of the first element with this name
+unfoldable pub place_of : List ℕ → Items → Option ℕ
 place_of name ds = place_from 0 name ds
+
+-- the first element with this name
+abbrev pub element_at : Option ℕ → Items → Option Data
+element_at None ds = None
+element_at (Some k) ds = get_item k ds
+
+unfoldable pub named : List ℕ → Items → Option Data
+named name ds = element_at (place_of name ds) ds
 
 -- a name stands first at this place
 abbrev pub is_place : ℕ → Option ℕ → Bool

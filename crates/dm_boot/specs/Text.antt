@@ -1,6 +1,7 @@
 -- Names, and the bytes of an image's text.
-use Rattle.std.specs.Prelude.{ℕ, ◌==◌, ◌&&◌, ◌||◌, Bool, nat_le, List, length}
+use Rattle.std.specs.Prelude.{ℕ, ◌==◌, ◌&&◌, ◌||◌, Bool, nat_le, List, length, codes}
 use Rattle.std.specs.List.{list_all}
+use Rattle.std.specs.Str.{bytes_eq}
 use Rattle.std.specs.declared.option.Option.{Option}
 use Rattle.std.specs.declared.option.Option.TheVariants.{None, Some}
 use Rattle.std.specs.declared.result.Result.{Result}
@@ -16,11 +17,21 @@ is_name_byte b = ((nat_le 97 b && nat_le b 122) || (nat_le 48 b && nat_le b 57))
 abbrev pub is_name : List ℕ → Bool
 is_name name = (nat_le 1 (length name) && nat_le (length name) 16) && list_all is_name_byte name
 
+-- the names of the servers
+abbrev pub is_switchboard : List ℕ → Bool
+is_switchboard name = bytes_eq name (codes "switchboard")
+
+abbrev pub is_manager : List ℕ → Bool
+is_manager name = bytes_eq name (codes "manager")
+
+unfoldable pub is_server : List ℕ → Bool
+is_server name = is_switchboard name || is_manager name
+
 -- what the assembler makes of a text, if it makes something
 abbrev pub bytes_made : Result (List ℕ) (ℕ × Why) → Option (List ℕ)
 bytes_made (Ok bytes) = Some bytes
 bytes_made (Err e) = None
 
 -- the bytes of an image: what the assembler makes of its text
-abbrev pub bytes_of : List ℕ → Option (List ℕ)
+unfoldable pub bytes_of : List ℕ → Option (List ℕ)
 bytes_of text = bytes_made (assembled text)

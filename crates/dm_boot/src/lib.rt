@@ -1,43 +1,32 @@
-//! The boot file: which machine, images and processes a system starts with.
+//! The boot file: which machines, images and processes a system starts with.
 #![tactic(auto)]
 
-ghost use Rattle.std.specs.Prelude.{IfOk};
+ghost use Rattle.std.specs.Prelude.{◌≡◌, IfOk};
 ghost use Rattle.toml.specs.View.{view};
 ghost use Rattle.dm_onekernel.specs.Boot.{IsValid};
-ghost use Rattle.dm_boot.specs.Boot.{Answers, boot_of, boot_of_table};
+ghost use Rattle.dm_boot.specs.Boot.{Answers, boot_of};
 
+mod checks;
+mod images;
+mod limits;
+mod links;
+mod machines;
 mod names;
-mod parts;
 mod processes;
+mod rules;
+mod shapes;
+mod starts;
 mod system;
 mod tables;
+mod targets;
 
 use dm_onekernel::boot::Boot;
-use parts::{format_of, images_of, only_machine};
-use processes::processes_of;
+pub use rules::{BootNo, BootRule};
 use std::alloc::Global;
-use system::{fitting, system};
-use tables::{has_only, items_at};
-use thiserror::Error;
+use system::system_of;
 use toml::Value;
 
-/// Why a boot file gives no system.
-#[derive(Clone, Copy, Debug, PartialEq, Eq, Error)]
-pub enum BootNo {
-    /// The rule that it breaks, and the place of the element that breaks it.
-    #[error("{number} at {place}")]
-    Refused { number: u8, place: u32 },
-    #[error("no memory")]
-    NoMemory,
-}
-
-/// A boot file that gives no system.
-const REFUSED: BootNo = BootNo::Refused {
-    number: 0,
-    place: 0,
-};
-
-/// Reads the system that a boot file describes.
+/// Reads the system that a boot file describes, or the first rule that it breaks.
 #[tactic(auto, using(crate::proofs::Validity::valid_lemmas))]
 pub fn read_boot(alloc: Global, bytes: &[u8]) -> Result<Boot, BootNo>
     ensures answers { Answers (boot_of bytes.now) result }
@@ -57,30 +46,13 @@ fn read(alloc: Global, bytes: &[u8]) -> Result<Boot, BootNo>
             if e.is_memory() {
                 Err(BootNo::NoMemory)
             } else {
-                Err(REFUSED)
+                Err(BootNo::Refused {
+                    rule: BootRule::Document,
+                    place: 0,
+                })
             }
         }
     }
-}
-
-/// The system of the top table.
-#[tactic(auto, unfolding(crate::specs::Boot::boot_of_table, crate::specs::Boot::system))]
-fn system_of(alloc: Global, top: &Value) -> Result<Boot, BootNo>
-    ensures { Answers (boot_of_table (view top.now)) result }
-{
-    if !has_only(top, &["format", "machine", "image", "process"]) {
-        return Err(REFUSED);
-    }
-    let format = format_of(top).ok_or(REFUSED)?;
-    let machine = only_machine(top).ok_or(REFUSED)?;
-    let image_tables = items_at(top, "image").ok_or(REFUSED)?;
-    let images = images_of(alloc, image_tables)?;
-    let process_tables = items_at(top, "process").ok_or(REFUSED)?;
-    let processes = processes_of(alloc, machine.slots, format, image_tables, process_tables)?;
-    fitting(
-        system(alloc, format, machine, images, processes)?,
-        machine.blocks,
-    )
 }
 
 #[cfg(test)]

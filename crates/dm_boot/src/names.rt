@@ -1,12 +1,7 @@
-//! Names, and the bytes of an image's text.
-ghost use Rattle.std.specs.Prelude.{◌≡◌, IfErr, IfOk};
+//! Names.
+ghost use Rattle.std.specs.Prelude.{◌≡◌};
 ghost use Rattle.std.specs.List.{list_all};
-ghost use Rattle.dm_boot.specs.Text.{bytes_of, is_name, is_name_byte};
-ghost use Rattle.dm_boot.specs.Boot.{AnswersBytes};
-
-use crate::{BootNo, REFUSED};
-use dm_asm::AsmNo;
-use std::alloc::Global;
+ghost use Rattle.dm_boot.specs.Text.{is_manager, is_name, is_name_byte, is_server, is_switchboard};
 
 /// Whether a text is a name: 1 to 16 of `a` to `z`, `0` to `9` and `_`.
 pub fn is_name(text: &str) -> bool
@@ -28,24 +23,24 @@ fn is_name_byte(b: u8) -> bool
     b'a' <= b && b <= b'z' || b'0' <= b && b <= b'9' || b == b'_'
 }
 
-/// The bytes that the assembler makes of an image's text.
-pub fn bytes_of(alloc: Global, text: &str) -> Result<Vec<u8>, BootNo>
-    ensures { AnswersBytes (bytes_of text.now) result }
+/// Whether a name is the switchboard's.
+pub fn is_switchboard(name: &str) -> bool
+    ensures { result ≡ is_switchboard name.now }
 {
-    match dm_asm::assemble(alloc, text) {
-        Ok(image) => copied(alloc, image.as_bytes()),
-        Err(AsmNo::Fault { .. }) => Err(REFUSED),
-        Err(AsmNo::NoMemory) => Err(BootNo::NoMemory),
-    }
+    name == "switchboard"
 }
 
-/// The bytes, in a vector.
-fn copied(alloc: Global, bytes: &[u8]) -> Result<Vec<u8>, BootNo>
-    ensures ok { IfOk result (λ v. v.items ≡ bytes.now) }
-    ensures err { IfErr result (λ e. e ≡ BootNo.NoMemory) }
+/// Whether a name is the process manager's.
+pub fn is_manager(name: &str) -> bool
+    ensures { result ≡ is_manager name.now }
 {
-    match bytes.to_vec(alloc) {
-        Ok(copy) => Ok(copy),
-        Err(_) => Err(BootNo::NoMemory),
-    }
+    name == "manager"
+}
+
+/// Whether a name is a server's.
+#[tactic(auto, unfolding(crate::specs::Text::is_server))]
+pub fn is_server(name: &str) -> bool
+    ensures { result ≡ is_server name.now }
+{
+    is_switchboard(name) || is_manager(name)
 }

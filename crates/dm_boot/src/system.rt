@@ -1,81 +1,148 @@
-//! The system, and whether its processes fit their machine.
-ghost use Rattle.std.specs.Prelude.{◌≡◌, ◌≤◌, IfErr, IfOk, length, slice_get};
-ghost use Rattle.dm_onekernel.specs.Boot.{blocks_of_image, blocks_taken};
-ghost use Rattle.dm_boot.specs.Boot.{Answers, fitting, system};
+//! The system of a document's top table.
+ghost use Rattle.std.specs.Prelude.{◌≡◌, ◌≤◌, OnOk, true};
+ghost use Rattle.toml.specs.View.{items_view, view};
+ghost use Rattle.dm_boot.specs.Tables.{count};
+ghost use Rattle.dm_boot.specs.Build.{image_tables, images_of, machines_of, process_tables, processes_of, starts_of, system_with};
+ghost use Rattle.dm_boot.specs.Rules.{first_broken, image_rules, link_rules, process_rules};
+ghost use Rattle.dm_boot.specs.Boot.{Answers, boot_of_table, unless};
 
-use crate::parts::push;
-use crate::{BootNo, REFUSED};
+use crate::checks::first_broken;
+use crate::images::{first_long, images_of};
+use crate::limits::{format_of, numbers_of, quantum_of};
+use crate::machines::machines_of;
+use crate::processes::processes_of;
+use crate::rules::{BootNo, BootRule};
+use crate::starts::starts_of;
+use crate::tables::items_at;
 use dm_lists::Items;
-use dm_onekernel::boot::{Boot, BootImage, BootMachine, BootProcess, Format};
+use dm_onekernel::boot::{Boot, BootImage, BootMachine, BootProcess};
 use std::alloc::Global;
+use toml::Value;
 
-/// The greatest number of messages that a pair of machines counts, where the file names none.
-const NUMBERS: u32 = 1_048_576;
+/// The system of the top table, or the first rule that it breaks.
+pub fn system_of(alloc: Global, top: &Value) -> Result<Boot, BootNo>
+    ensures { Answers (boot_of_table (view top.now)) result }
+{
+    let images = match read_images(alloc, top) {
+        Ok(images) => images,
+        Err(e) => return Err(e),
+    };
+    let Ok(machines) = machines_of(alloc, items_at(top, "machine")) else {
+        return Err(BootNo::NoMemory);
+    };
+    let starts = match read_starts(alloc, top, machines.as_slice(), images.as_slice()) {
+        Ok(starts) => starts,
+        Err(e) => return Err(e),
+    };
+    match read_processes(alloc, top, starts.as_slice()) {
+        Ok(processes) => Ok(system_with(top, machines, images, processes)),
+        Err(e) => Err(e),
+    }
+}
 
-/// The greatest number of plain instructions of a turn, where the file names none.
-const QUANTUM: u32 = 16;
-
-/// The system of these parts.
-#[tactic(auto, unfolding(crate::specs::Boot::system))]
-pub fn system(
-    alloc: Global,
-    format: Format,
-    machine: BootMachine,
+/// A system with these machines, images and processes.
+#[tactic(auto, unfolding(crate::specs::Build::system_with))]
+fn system_with(
+    top: &Value,
+    machines: Items<BootMachine>,
     images: Items<BootImage>,
     processes: Items<BootProcess>,
-) -> Result<Boot, BootNo>
-    ensures ok { IfOk result (λ b. b ≡ system format machine images processes) }
-    ensures err { IfErr result (λ e. e ≡ BootNo.NoMemory) }
+) -> Boot
+    ensures { result ≡ system_with (view top.now) machines images processes }
 {
-    let mut machines = Items::new(alloc);
-    push(&mut machines, machine)?;
-    Ok(Boot {
-        numbers: NUMBERS,
-        quantum: QUANTUM,
-        format,
+    Boot {
+        numbers: numbers_of(top).unwrap_or(0),
+        quantum: quantum_of(top).unwrap_or(0),
+        format: format_of(top),
         machines,
         images,
         processes,
-    })
-}
-
-/// A system whose processes fit their machine.
-#[tactic(auto, unfolding(crate::specs::Boot::fitting))]
-pub fn fitting(boot: Boot, blocks: u16) -> Result<Boot, BootNo>
-    requires { length boot.processes ≤ 64 }
-    ensures { Answers (fitting blocks boot) result }
-{
-    if blocks_taken(&boot) <= u32::from(blocks) {
-        Ok(boot)
-    } else {
-        Err(REFUSED)
     }
 }
 
-/// The blocks that the processes take.
-#[tactic(auto, using(crate::proofs::Documents::taken_lemmas))]
-fn blocks_taken(boot: &Boot) -> u32
-    requires { length boot.now.processes ≤ 64 }
-    ensures { result ≡ blocks_taken boot.now boot.now.processes }
+/// The images, where no rule before those of the processes is broken.
+#[tactic(auto, unfolding(crate::specs::Rules::is_of_tables))]
+fn read_images(alloc: Global, top: &Value) -> Result<Items<BootImage>, BootNo>
+    ensures images { Answers (unless (first_broken image_rules (view top.now)) (images_of (view top.now))) result }
+    ensures few { OnOk result (count (image_tables (view top.now)) ≤ 256) }
 {
-    let images = boot.images.as_slice();
-    let mut taken = 0;
-    for process in boot.processes.as_slice() {
-        taken += blocks_of_image(images, process.image);
+    let before = [
+        BootRule::TopKeys,
+        BootRule::Settings,
+        BootRule::MachineCount,
+        BootRule::MachineKeys,
+        BootRule::MachineRoom,
+        BootRule::ImageCount,
+        BootRule::ImageKeys,
+        BootRule::ImageName,
+        BootRule::ImageBlocks,
+    ];
+    if let Some((rule, place)) = first_broken(top, &before) {
+        return Err(BootNo::Refused { rule, place });
     }
-    taken
+    let images = match images_of(alloc, items_at(top, "image")) {
+        Ok(images) => images,
+        Err(e) => return Err(e),
+    };
+    if let Some(place) = first_long(images.as_slice()) {
+        return Err(BootNo::Refused {
+            rule: BootRule::ImageBytes,
+            place: place as u64,
+        });
+    }
+    Ok(images)
 }
 
-/// The blocks of an image.
-#[tactic(auto, using(std::proofs::lemmas::Option::gets))]
-fn blocks_of_image(images: &[BootImage], image: u16) -> u32
-    ensures blocks { result ≡ blocks_of_image (slice_get images.now image) }
-    ensures few { result ≤ 65535 }
+/// The processes without their links, where no rule of processes is broken.
+#[tactic(auto, unfolding(crate::specs::Rules::is_of_tables))]
+fn read_starts(
+    alloc: Global,
+    top: &Value,
+    machines: &[BootMachine],
+    images: &[BootImage],
+) -> Result<Items<BootProcess>, BootNo>
+    requires machines { machines.now ≡ machines_of (view top.now) }
+    requires images { images.now ≡ images_of (view top.now) }
+    requires few { count (image_tables (view top.now)) ≤ 256 }
+    ensures starts { Answers (unless (first_broken process_rules (view top.now)) (starts_of (view top.now))) result }
+    ensures few { OnOk result (count (process_tables (view top.now)) ≤ 4080) }
 {
-    let place = usize::from(image);
-    if place >= images.len() {
-        return 0;
+    let before = [
+        BootRule::ProcessKeys,
+        BootRule::ProcessName,
+        BootRule::ProcessMachine,
+        BootRule::ProcessImage,
+    ];
+    if let Some((rule, place)) = first_broken(top, &before) {
+        return Err(BootNo::Refused { rule, place });
     }
-    let blocks = images[place].blocks;
-    u32::from(blocks)
+    match starts_of(alloc, top, machines, images) {
+        Ok(starts) => Ok(starts),
+        Err(e) => Err(e),
+    }
+}
+
+/// The processes with their links, where no rule of links is broken.
+#[tactic(auto, unfolding(crate::specs::Rules::is_of_tables))]
+fn read_processes(
+    alloc: Global,
+    top: &Value,
+    starts: &[BootProcess],
+) -> Result<Items<BootProcess>, BootNo>
+    requires starts { starts.now ≡ starts_of (view top.now) }
+    requires few { count (process_tables (view top.now)) ≤ 4080 }
+    ensures { Answers (unless (first_broken link_rules (view top.now)) (processes_of (view top.now))) result }
+{
+    let rules = [
+        BootRule::LinkCount,
+        BootRule::LinkTarget,
+        BootRule::LinkLimits,
+    ];
+    if let Some((rule, place)) = first_broken(top, &rules) {
+        return Err(BootNo::Refused { rule, place });
+    }
+    match processes_of(alloc, top, starts) {
+        Ok(processes) => Ok(processes),
+        Err(_) => Err(BootNo::NoMemory),
+    }
 }

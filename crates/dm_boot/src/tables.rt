@@ -2,10 +2,9 @@
 ghost use Rattle.std.specs.Prelude.{◌≡◌, ◌≤◌, ◌<◌, IfSome, length, map, option_map, string_bytes};
 ghost use Rattle.std.specs.List.{list_all, list_any};
 ghost use Rattle.std.specs.Str.{bytes_eq};
-ghost use Rattle.std.specs.Option.{option_copied};
 ghost use Rattle.std.specs.BTreeMap.{keys};
 ghost use Rattle.toml.specs.View.{items_view, table_view, view};
-ghost use Rattle.dm_boot.specs.Tables.{all_known, has_only, in_range, is_known, is_named, items_at, number_at, number_of, number_or, place_of, text_at};
+ghost use Rattle.dm_boot.specs.Tables.{all_known, has, has_only, in_range, is_array, is_integer, is_known, is_named, is_text, is_truth, items_at, may_have, named, number_at, place_of, text_at, truth_at};
 
 use toml::{Table, Value};
 
@@ -49,47 +48,95 @@ fn names_any(known: &[&str], key: &str) -> bool
     known.iter().any(|k| *k == key)
 }
 
-/// The text at a key.
-pub fn text_at<'a>(value: &'a Value, key: &str) -> Option<&'a str>
-    ensures { option_copied result ≡ text_at key.now (view value.now) }
+/// Whether the key has an integer.
+pub fn has_integer(value: &Value, key: &str) -> bool
+    ensures { result ≡ has is_integer key.now (view value.now) }
 {
     match value.get(key) {
-        Some(found) => found.as_str(),
-        None => None,
+        Some(found) => found.is_integer(),
+        None => false,
     }
 }
 
-/// The integer at a key, where it lies within these bounds.
-pub fn number_at(value: &Value, key: &str, least: u32, most: u32) -> Option<u32>
-    ensures number { result ≡ number_at key.now least most (view value.now) }
-    ensures within { IfSome result (λ n. n ≤ most) }
+/// Whether the key is missing or has an integer.
+pub fn may_have_integer(value: &Value, key: &str) -> bool
+    ensures { result ≡ may_have is_integer key.now (view value.now) }
 {
     match value.get(key) {
-        Some(found) => number_of(found, least, most),
-        None => None,
+        Some(found) => found.is_integer(),
+        None => true,
     }
 }
 
-/// The integer at a key, or this one where the key is missing.
-pub fn number_or(default: u32, value: &Value, key: &str, least: u32, most: u32) -> Option<u32>
+/// Whether the key has a text.
+pub fn has_text(value: &Value, key: &str) -> bool
+    ensures { result ≡ has is_text key.now (view value.now) }
+{
+    match value.get(key) {
+        Some(found) => found.is_str(),
+        None => false,
+    }
+}
+
+/// Whether the key is missing or has a truth.
+pub fn may_have_truth(value: &Value, key: &str) -> bool
+    ensures { result ≡ may_have is_truth key.now (view value.now) }
+{
+    match value.get(key) {
+        Some(found) => found.is_bool(),
+        None => true,
+    }
+}
+
+/// Whether the key is missing or has an array.
+pub fn may_have_array(value: &Value, key: &str) -> bool
+    ensures { result ≡ may_have is_array key.now (view value.now) }
+{
+    match value.get(key) {
+        Some(found) => found.is_array(),
+        None => true,
+    }
+}
+
+/// The text at a key; empty where there is none.
+pub fn text_at<'a>(value: &'a Value, key: &str) -> &'a str
+    ensures { result.now ≡ text_at key.now (view value.now) }
+{
+    match value.get(key) {
+        Some(found) => match found.as_str() {
+            Some(text) => text,
+            None => "",
+        },
+        None => "",
+    }
+}
+
+/// The truth at a key; false where there is none.
+pub fn truth_at(value: &Value, key: &str) -> bool
+    ensures { result ≡ truth_at key.now (view value.now) }
+{
+    match value.get(key) {
+        Some(found) => match found.as_bool() {
+            Some(truth) => truth,
+            None => false,
+        },
+        None => false,
+    }
+}
+
+/// The integer at a key, where it lies within these bounds; the default where the key is missing.
+#[tactic(auto, unfolding(crate::specs::Tables::number_at))]
+pub fn number_at(value: &Value, key: &str, default: u32, least: u32, most: u32) -> Option<u32>
     requires { default ≤ most }
-    ensures number { result ≡ number_or default key.now least most (view value.now) }
+    ensures number { result ≡ number_at default least most key.now (view value.now) }
     ensures within { IfSome result (λ n. n ≤ most) }
 {
     match value.get(key) {
-        Some(found) => number_of(found, least, most),
+        Some(found) => match found.as_integer() {
+            Some(n) => in_range(n, least, most),
+            None => None,
+        },
         None => Some(default),
-    }
-}
-
-/// An integer within these bounds.
-fn number_of(value: &Value, least: u32, most: u32) -> Option<u32>
-    ensures number { result ≡ number_of least most (view value.now) }
-    ensures within { IfSome result (λ n. n ≤ most) }
-{
-    match value.as_integer() {
-        Some(n) => in_range(n, least, most),
-        None => None,
     }
 }
 
@@ -105,19 +152,19 @@ fn in_range(n: i64, least: u32, most: u32) -> Option<u32>
     }
 }
 
-/// The elements of the array at a key; none where the key is missing.
-pub fn items_at<'a>(value: &'a Value, key: &str) -> Option<&'a [Value]>
-    ensures { option_map (λ items. items_view items.now) result ≡ items_at key.now (view value.now) }
+/// The elements of the array at a key; none where there is none.
+#[tactic(auto, unfolding(crate::specs::Tables::items_at))]
+pub fn items_at<'a>(value: &'a Value, key: &str) -> &'a [Value]
+    ensures { items_view result.now ≡ items_at key.now (view value.now) }
 {
     match value.get(key) {
-        Some(Value::Array(items)) => Some(items.as_slice()),
-        Some(_) => None,
-        None => Some(&[]),
+        Some(Value::Array(items)) => items.as_slice(),
+        _ => &[],
     }
 }
 
 /// The place of the first element with this name.
-#[tactic(auto, using(crate::proofs::Elements::element_at))]
+#[tactic(auto, unfolding(crate::specs::Tables::place_of), using(crate::proofs::Elements::element_at))]
 pub fn place_of(items: &[Value], name: &str) -> Option<usize>
     ensures place { result ≡ place_of name.now (items_view items.now) }
     ensures within { IfSome result (λ i. i < length items.now) }
@@ -134,8 +181,16 @@ pub fn place_of(items: &[Value], name: &str) -> Option<usize>
 fn is_named(value: &Value, name: &str) -> bool
     ensures { result ≡ is_named name.now (view value.now) }
 {
-    match text_at(value, "name") {
-        Some(found) => found == name,
-        None => false,
+    text_at(value, "name") == name
+}
+
+/// The first element with this name.
+#[tactic(auto, unfolding(crate::specs::Tables::named), using(crate::proofs::Elements::found_lemmas))]
+pub fn named<'a>(items: &'a [Value], name: &str) -> Option<&'a Value>
+    ensures { option_map (λ v. view v.now) result ≡ named name.now (items_view items.now) }
+{
+    match place_of(items, name) {
+        Some(place) => Some(&items[place]),
+        None => None,
     }
 }

@@ -1,13 +1,8 @@
-use Rattle.std.proofs.Common.{◌≡◌, drop, length}
-use Rattle.toml.specs.View.{items_view}
-use Rattle.dm_boot.specs.Tables.{read_all}
-use Rattle.dm_boot.specs.Boot.{process_of}
-use Rattle.dm_boot.proofs.Gathered.{before}
+use Rattle.std.proofs.Common.{◌≡◌, ◌++◌, drop}
+use Rattle.toml.specs.View.{items_view, view}
+use Rattle.dm_boot.specs.Build.{linked_all}
 use Rattle.dm_boot.proofs.processes.processes_of.Given as goal
 
 abbrev pub invariant-loop-i : goal.invariant-loop-i
-invariant-loop-i l = record {
-  gathered : before l.processes (read_all (process_of l.format (items_view l.images) (items_view l.tables)) l.i (items_view (drop l.i l.tables)))
-      ≡ read_all (process_of l.format (items_view l.images) (items_view l.tables)) 0 (items_view l.tables);
-  many : length l.processes ≡ l.i;
-}
+invariant-loop-i l =
+    l.processes ++ linked_all (view l.top) l.starts (drop l.i l.starts) (items_view (drop l.i l.tables)) ≡ linked_all (view l.top) l.starts l.starts (items_view l.tables)

@@ -1,0 +1,6 @@
+use Rattle.std.proofs.Common.{◌≡◌, ◌+◌, drop}
+use Rattle.dm_onekernel.specs.Boot.{blocks_at}
+use Rattle.dm_boot.proofs.starts.blocks_at.Given as goal
+
+abbrev pub invariant-loop-process : goal.invariant-loop-process
+invariant-loop-process l = l.taken + blocks_at l.machine l.images (drop l.process-index l.processes) ≡ blocks_at l.machine l.images l.processes

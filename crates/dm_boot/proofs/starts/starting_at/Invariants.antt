@@ -1,0 +1,6 @@
+use Rattle.std.proofs.Common.{◌≡◌, ◌+◌, drop}
+use Rattle.dm_onekernel.specs.Boot.{starting_at}
+use Rattle.dm_boot.proofs.starts.starting_at.Given as goal
+
+abbrev pub invariant-loop-process : goal.invariant-loop-process
+invariant-loop-process l = l.count + starting_at l.machine (drop l.process-index l.processes) ≡ starting_at l.machine l.processes

@@ -1,0 +1,92 @@
+use Rattle.std.proofs.Common.{◌≡◌, ◌+◌, ◌*◌, ◌≤◌, ◌<◌, true, false, [], ◌∷◌, ◌++◌, length, drop, slice_get, refl, ap, sym, ◌∙◌, arith, rules}
+use Rattle.std.proofs.lemmas.Grind.{common_steps}
+use Rattle.toml.specs.View.{items_view, view}
+use Rattle.dm_onekernel.specs.Boot.{blocks_at, blocks_of_image, starting_at}
+use Rattle.dm_boot.specs.declared.rules.BootRule.TheVariants.{ProcessRoom}
+use Rattle.dm_boot.specs.Tables.{count, first_failing}
+use Rattle.dm_boot.specs.Build.{process_tables, starts_from, starts_of}
+use Rattle.dm_boot.specs.Rules.{fits_after, has_place}
+use Rattle.dm_boot.proofs.Elements.{count-view, failing-end}
+use Rattle.dm_boot.proofs.Texts.{kept-here, broken-here}
+use Rattle.dm_boot.proofs.Placed.{Step, step-kept, step-broken, step-built, starts-end}
+use Rattle.dm_boot.proofs.Counted.{starting_below, below-one, below-most, slots-push, blocks-push}
+use Rattle.dm_boot.proofs.starts.starts_of.Goals as goal
+
+pub loop-i-init : goal.loop-i-init
+unfolding starts_of
+loop-i-init c =
+    let none : c.new-starts.result ≡ [] = c.new-starts.ensures in
+    record {
+      places = refl;
+      built = rw (none, c.items_at-tables.ensures) refl;
+      many = ap length none;
+      homes = ap (starting_below 16) none;
+      slots = λ m. rw none (omega arith);
+      blocks = λ m. rw none (omega arith);
+    }
+
+pub returns-then-not-fits_after-clause-starts : goal.returns-then-not-fits_after-clause-starts
+returns-then-not-fits_after-clause-starts c =
+    let d = view c.args.top.now in
+    let vs = c.items_at-tables.result.now in
+    let i = c.loop-i.i in
+    let rest = starts_from d c.loop-i.starts (items_view (drop i vs)) in
+    let step : Step d c.args.machines.now c.args.images.now c.loop-i.starts rest vs i c.index-tables-i.result c.start_of-start.result = record {
+      machines_are = c.requires.machines;
+      images_are = c.requires.images;
+      whole = c.loop-i.invariant.built;
+      many = c.loop-i.invariant.many;
+      within = c.loop-i-test.true;
+      read = c.index-tables-i.is;
+      start = cc (c.start_of-start.ensures.start);
+    } in
+    let fails : fits_after c.args.machines.now c.args.images.now c.loop-i.starts c.start_of-start.result ≡ false = cc (c.fits_after.ensures.fits) in
+    broken-here ProcessRoom (first_failing (has_place d) 0 (process_tables d)) (starts_of d) i
+    (ap (first_failing (has_place d) 0) (sym c.items_at-tables.ensures) ∙ sym c.loop-i.invariant.places ∙ step-broken step fails)
+
+pub loop-i-preserved : goal.loop-i-preserved
+loop-i-preserved c =
+    let d = view c.args.top.now in
+    let vs = c.items_at-tables.result.now in
+    let i = c.loop-i.i in
+    let s = c.start_of-start.result in
+    let rest = starts_from d c.loop-i.starts (items_view (drop i vs)) in
+    let step : Step d c.args.machines.now c.args.images.now c.loop-i.starts rest vs i c.index-tables-i.result s = record {
+      machines_are = c.requires.machines;
+      images_are = c.requires.images;
+      whole = c.loop-i.invariant.built;
+      many = c.loop-i.invariant.many;
+      within = c.loop-i-test.true;
+      read = c.index-tables-i.is;
+      start = cc (c.start_of-start.ensures.start);
+    } in
+    let fits : fits_after c.args.machines.now c.args.images.now c.loop-i.starts s ≡ true = cc (c.fits_after.ensures.fits) in
+    let room : starting_at s.pid.home c.loop-i.starts < 255 = search rules in
+    let blocks : blocks_at s.pid.home c.args.images.now c.loop-i.starts + blocks_of_image (slice_get c.args.images.now s.image) ≤ 65535 = search rules in
+    let new : c.push.new.self ≡ c.loop-i.starts ++ s ∷ [] = search rules in
+    rw new (record {
+      places = sym (step-kept step fits) ∙ c.loop-i.invariant.places;
+      built = sym (step-built step) ∙ c.loop-i.invariant.built;
+      many = grind (arith, common_steps);
+      homes = below-one 16 c.loop-i.starts s (omega (arith, c.start_of-start.ensures.home)) ∙ ap (λ n. n + 1) c.loop-i.invariant.homes;
+      slots = slots-push c.loop-i.starts s c.loop-i.invariant.slots room;
+      blocks = blocks-push c.args.images.now c.loop-i.starts s c.loop-i.invariant.blocks blocks;
+    })
+
+pub returns-clause-starts : goal.returns-clause-starts
+returns-clause-starts c =
+    let d = view c.args.top.now in
+    let vs = c.items_at-tables.result.now in
+    let past : length vs ≤ c.loop-i.i = c.loop-i-test.false in
+    let same : starts_of d ≡ c.loop-i.starts = sym c.loop-i.invariant.built ∙ starts-end d c.loop-i.starts vs c.loop-i.i past in
+    rw (← same)
+    (kept-here ProcessRoom (first_failing (has_place d) 0 (process_tables d)) (starts_of d)
+    (ap (first_failing (has_place d) 0) (sym c.items_at-tables.ensures) ∙ sym c.loop-i.invariant.places ∙ failing-end (has_place d) vs c.loop-i.i past))
+
+pub returns-clause-few : goal.returns-clause-few
+returns-clause-few c =
+    let d = view c.args.top.now in
+    let vs = c.items_at-tables.result.now in
+    let same : count (process_tables d) ≡ length vs = ap count (sym c.items_at-tables.ensures) ∙ count-view vs in
+    let most : starting_below 16 c.loop-i.starts ≤ 255 * 16 = below-most 16 c.loop-i.starts c.loop-i.invariant.slots in
+    omega (arith, c.loop-i-test.false, c.loop-i.invariant.homes)

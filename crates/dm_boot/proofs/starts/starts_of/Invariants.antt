@@ -1,0 +1,18 @@
+use Rattle.std.proofs.Common.{◌≡◌, ℕ, ◌≤◌, ◌++◌, drop, length}
+use Rattle.toml.specs.View.{items_view, view}
+use Rattle.dm_onekernel.specs.Boot.{starting_at, blocks_at}
+use Rattle.dm_boot.specs.Tables.{first_failing}
+use Rattle.dm_boot.specs.Build.{starts_from, starts_of}
+use Rattle.dm_boot.specs.Rules.{has_place}
+use Rattle.dm_boot.proofs.Counted.{starting_below}
+use Rattle.dm_boot.proofs.starts.starts_of.Given as goal
+
+abbrev pub invariant-loop-i : goal.invariant-loop-i
+invariant-loop-i l = record {
+  places : first_failing (has_place (view l.top)) l.i (items_view (drop l.i l.tables)) ≡ first_failing (has_place (view l.top)) 0 (items_view l.tables);
+  built : l.starts ++ starts_from (view l.top) l.starts (items_view (drop l.i l.tables)) ≡ starts_of (view l.top);
+  many : length l.starts ≡ l.i;
+  homes : starting_below 16 l.starts ≡ l.i;
+  slots : (m : ℕ) → starting_at m l.starts ≤ 255;
+  blocks : (m : ℕ) → blocks_at m l.images l.starts ≤ 65535;
+}

@@ -1,0 +1,287 @@
+-- The rules that a boot file keeps, and the first that it breaks.
+use Rattle.std.specs.Prelude.{ℕ, ◌+◌, ◌*◌, ◌&&◌, ◌||◌, not, Bool, true, false, nat_le, nat_lt, List, [], ◌∷◌, ◌++◌, codes, length, take, slice_get, Some, None, if◌then◌else◌}
+use Rattle.std.specs.Option.{is_some}
+use Rattle.std.specs.declared.option.Option.{Option}
+use Rattle.toml.specs.Data.{Data, Items, no_items, item}
+use Rattle.dm_onekernel.specs.declared.boot.BootMachine.{BootMachine}
+use Rattle.dm_onekernel.specs.declared.boot.BootImage.{BootImage}
+use Rattle.dm_onekernel.specs.declared.boot.BootProcess.{BootProcess}
+use Rattle.dm_onekernel.specs.Boot.{slots_of, starting_at, blocks_at, blocks_of_image}
+use Rattle.dm_boot.specs.declared.rules.BootRule.{BootRule}
+use Rattle.dm_boot.specs.declared.rules.BootRule.TheVariants.{Document, TopKeys, Settings, MachineCount, MachineKeys, MachineRoom, ImageCount, ImageKeys, ImageName, ImageBlocks, ImageText, ImageBytes, ProcessKeys, ProcessName, ProcessMachine, ProcessImage, ProcessRoom, LinkCount, LinkTarget, LinkLimits}
+use Rattle.dm_boot.specs.Tables.{has_only, is_integer, is_text, is_truth, is_array, is_table, has, may_have, text_at, truth_at, or_zero, count, all_items, first_failing, place_of, named, is_place, items_at}
+use Rattle.dm_boot.specs.Text.{is_name, is_server, bytes_of}
+use Rattle.dm_boot.specs.Build.{machine_tables, image_tables, process_tables, link_tables, numbers_of, quantum_of, format_number, format_of, slots_in, blocks_in, machines_of, image_blocks, image_of, images_of, machine_number, image_place, start_of, starts_of, code_in, channel_in, base_in, len_in, is_control}
+
+-- the number of a rule
+unfoldable pub rule_number : BootRule → ℕ
+rule_number Document = 1
+rule_number TopKeys = 2
+rule_number Settings = 3
+rule_number MachineCount = 4
+rule_number MachineKeys = 5
+rule_number MachineRoom = 6
+rule_number ImageCount = 7
+rule_number ImageKeys = 8
+rule_number ImageName = 9
+rule_number ImageBlocks = 10
+rule_number ImageText = 11
+rule_number ImageBytes = 12
+rule_number ProcessKeys = 13
+rule_number ProcessName = 14
+rule_number ProcessMachine = 15
+rule_number ProcessImage = 16
+rule_number ProcessRoom = 17
+rule_number LinkCount = 18
+rule_number LinkTarget = 19
+rule_number LinkLimits = 20
+
+-- an array of tables, or nothing
+unfoldable pub may_have_tables : List ℕ → Data → Bool
+may_have_tables key d = may_have is_array key d && all_items is_table (items_at key d)
+
+-- the top table has only its keys, and they have the right types
+unfoldable pub is_top : Data → Bool
+is_top d =
+    has_only (codes "format" ∷ codes "numbers" ∷ codes "quantum" ∷ codes "machine" ∷ codes "image" ∷ codes "process" ∷ []) d
+    && (may_have is_integer (codes "format") d && (may_have is_integer (codes "numbers") d && (may_have is_integer (codes "quantum") d
+    && (may_have_tables (codes "machine") d && (may_have_tables (codes "image") d && may_have_tables (codes "process") d)))))
+
+-- the settings lie within their limits
+unfoldable pub has_good_settings : Data → Bool
+has_good_settings d = is_some (numbers_of d) && (is_some (quantum_of d) && is_some (format_number d))
+
+-- 1 to 16 machines
+unfoldable pub has_good_machine_count : Data → Bool
+has_good_machine_count d = nat_le 1 (count (machine_tables d)) && nat_le (count (machine_tables d)) 16
+
+-- at most 256 images
+unfoldable pub has_good_image_count : Data → Bool
+has_good_image_count d = nat_le (count (image_tables d)) 256
+
+-- the keys of a machine, and their types
+unfoldable pub is_machine : Data → Bool
+is_machine t = has_only (codes "slots" ∷ codes "blocks" ∷ []) t && (has is_integer (codes "slots") t && has is_integer (codes "blocks") t)
+
+-- its room is within the limits
+unfoldable pub has_good_room : Data → Bool
+has_good_room t = is_some (slots_in t) && is_some (blocks_in t)
+
+-- the keys of an image, and their types
+unfoldable pub is_image : Data → Bool
+is_image t =
+    has_only (codes "name" ∷ codes "blocks" ∷ codes "text" ∷ []) t
+    && (has is_text (codes "name") t && (has is_integer (codes "blocks") t && has is_text (codes "text") t))
+
+-- the name of element i is a name, and no earlier one of these has it
+unfoldable pub has_own_name : Items → ℕ → Data → Bool
+has_own_name ts i t = is_name (text_at (codes "name") t) && is_place i (place_of (text_at (codes "name") t) ts)
+
+-- the assembler takes an image's text
+unfoldable pub assembles : Data → Bool
+assembles t = is_some (bytes_of (text_at (codes "text") t))
+
+-- the first of these images, from i on, whose text the assembler refuses
+unfoldable pub first_unassembled : ℕ → Items → Option ℕ
+first_unassembled i ts = first_failing (λ _ t. assembles t) i ts
+
+-- the image's bytes fit its blocks
+unfoldable pub image_fits : BootImage → Bool
+image_fits i = nat_le (length i.bytes) (256 * i.blocks)
+
+-- the first of these images, from i on, whose bytes don't fit
+unfoldable pub first_long : ℕ → List BootImage → Option ℕ
+first_long i [] = None
+first_long i (image ∷ images) = if image_fits image then first_long (i + 1) images else Some i
+
+-- the keys of a link, and their types
+abbrev pub is_link_to : Data → Bool
+is_link_to t =
+    has_only (codes "to" ∷ codes "code" ∷ codes "channel" ∷ codes "base" ∷ codes "len" ∷ codes "reply" ∷ codes "read" ∷ codes "write" ∷ []) t
+    && (has is_text (codes "to") t
+    && ((may_have is_integer (codes "code") t && (may_have is_integer (codes "channel") t && (may_have is_integer (codes "base") t && may_have is_integer (codes "len") t)))
+    && (may_have is_truth (codes "reply") t && (may_have is_truth (codes "read") t && may_have is_truth (codes "write") t))))
+
+abbrev pub is_control_link : Data → Bool
+is_control_link t = has_only (codes "control" ∷ []) t && has is_text (codes "control") t
+
+unfoldable pub is_link : Data → Bool
+is_link t = is_link_to t || is_control_link t
+
+-- the keys of a process, and their types, those of its links included
+unfoldable pub is_process : Data → Bool
+is_process t =
+    has_only (codes "name" ∷ codes "image" ∷ codes "machine" ∷ codes "links" ∷ []) t
+    && (has is_text (codes "name") t && (has is_text (codes "image") t && (has is_integer (codes "machine") t
+    && (may_have is_array (codes "links") t && all_items is_link (link_tables t)))))
+
+-- its name is its own, and no server's
+unfoldable pub has_process_name : Items → ℕ → Data → Bool
+has_process_name ts i t = has_own_name ts i t && not (is_server (text_at (codes "name") t))
+
+-- a machine of the file
+abbrev pub is_below : ℕ → Option ℕ → Bool
+is_below n None = false
+is_below n (Some m) = nat_lt m n
+
+unfoldable pub has_machine : Data → Data → Bool
+has_machine d t = is_below (count (machine_tables d)) (machine_number t)
+
+-- there is a free slot on this machine after these processes, and so many free blocks
+abbrev pub fits_machine : Option BootMachine → ℕ → ℕ → ℕ → Bool
+fits_machine None taken_slots taken_blocks blocks = false
+fits_machine (Some m) taken_slots taken_blocks blocks = nat_lt taken_slots m.slots && nat_le (taken_blocks + blocks) m.blocks
+
+-- a process fits its machine with the earlier ones
+unfoldable pub fits_after : List BootMachine → List BootImage → List BootProcess → BootProcess → Bool
+fits_after machines images earlier p =
+    fits_machine (slice_get machines p.pid.home) (starting_at p.pid.home earlier) (blocks_at p.pid.home images earlier) (blocks_of_image (slice_get images p.image))
+
+-- process i fits with those before it
+unfoldable pub has_place : Data → ℕ → Data → Bool
+has_place d i t = fits_after (machines_of d) (images_of d) (take i (starts_of d)) (start_of d (take i (starts_of d)) t)
+
+-- no more links than the format lets a process have
+unfoldable pub has_link_count : Data → Data → Bool
+has_link_count d t = nat_le (count (link_tables t)) (slots_of (format_of d))
+
+-- a link leads to a process or a server, a control link to a process
+unfoldable pub has_target : Data → Data → Bool
+has_target d l =
+    if is_control l then is_some (place_of (text_at (codes "control") l) (process_tables d))
+    else is_server (text_at (codes "to") l) || is_some (place_of (text_at (codes "to") l) (process_tables d))
+
+-- the blocks of the image of this process
+abbrev pub blocks_of_named : Option Data → ℕ
+blocks_of_named None = 0
+blocks_of_named (Some t) = or_zero (image_blocks t)
+
+abbrev pub blocks_of_process : Data → Option Data → ℕ
+blocks_of_process d None = 0
+blocks_of_process d (Some t) = blocks_of_named (named (text_at (codes "image") t) (image_tables d))
+
+-- the bytes of the memory of the process with this name
+unfoldable pub memory_of : Data → List ℕ → ℕ
+memory_of d name = 256 * blocks_of_process d (named name (process_tables d))
+
+-- a link's area within so many bytes
+unfoldable pub has_area : ℕ → Data → Bool
+has_area size l =
+    is_some (base_in 65536 l) && (is_some (len_in 65536 l) && nat_le (or_zero (base_in 65536 l) + or_zero (len_in 65536 l)) size)
+
+-- a link to a server has no code and no area
+unfoldable pub is_plain : Data → Bool
+is_plain l =
+    is_some (code_in 0 l) && (is_some (base_in 0 l) && (is_some (len_in 0 l) && (not (truth_at (codes "read") l) && not (truth_at (codes "write") l))))
+
+-- a link's numbers are within their limits
+unfoldable pub is_limited : Data → Data → Bool
+is_limited d l =
+    is_some (channel_in l)
+    && (if is_control l || is_server (text_at (codes "to") l) then is_plain l
+    else is_some (code_in 4294967295 l) && has_area (memory_of d (text_at (codes "to") l)) l)
+
+-- what element i of those that a rule speaks of must be
+unfoldable pub keeps : BootRule → Data → ℕ → Data → Bool
+keeps Document d i t = true
+keeps TopKeys d i t = is_top t
+keeps Settings d i t = has_good_settings t
+keeps MachineCount d i t = has_good_machine_count t
+keeps MachineKeys d i t = is_machine t
+keeps MachineRoom d i t = has_good_room t
+keeps ImageCount d i t = has_good_image_count t
+keeps ImageKeys d i t = is_image t
+keeps ImageName d i t = has_own_name (image_tables d) i t
+keeps ImageBlocks d i t = is_some (image_blocks t)
+keeps ImageText d i t = assembles t
+keeps ImageBytes d i t = image_fits (image_of t)
+keeps ProcessKeys d i t = is_process t
+keeps ProcessName d i t = has_process_name (process_tables d) i t
+keeps ProcessMachine d i t = has_machine d t
+keeps ProcessImage d i t = is_some (image_place d t)
+keeps ProcessRoom d i t = has_place d i t
+keeps LinkCount d i t = has_link_count d t
+keeps LinkTarget d i t = all_items (has_target d) (link_tables t)
+keeps LinkLimits d i t = all_items (is_limited d) (link_tables t)
+
+-- the top table alone
+abbrev pub only : Data → Items
+only d = item d no_items
+
+-- what a rule speaks of: the top table, each machine, each image or each process
+unfoldable pub subjects : BootRule → Data → Items
+subjects Document d = only d
+subjects TopKeys d = only d
+subjects Settings d = only d
+subjects MachineCount d = only d
+subjects MachineKeys d = machine_tables d
+subjects MachineRoom d = machine_tables d
+subjects ImageCount d = only d
+subjects ImageKeys d = image_tables d
+subjects ImageName d = image_tables d
+subjects ImageBlocks d = image_tables d
+subjects ImageText d = image_tables d
+subjects ImageBytes d = image_tables d
+subjects ProcessKeys d = process_tables d
+subjects ProcessName d = process_tables d
+subjects ProcessMachine d = process_tables d
+subjects ProcessImage d = process_tables d
+subjects ProcessRoom d = process_tables d
+subjects LinkCount d = process_tables d
+subjects LinkTarget d = process_tables d
+subjects LinkLimits d = process_tables d
+
+-- the first place where a rule is broken
+unfoldable pub broken_at : BootRule → Data → Option ℕ
+broken_at rule d = first_failing (keeps rule d) 0 (subjects rule d)
+
+-- a rule that is broken, or else what follows
+abbrev pub broken_or : BootRule → Option ℕ → Option (BootRule × ℕ) → Option (BootRule × ℕ)
+broken_or rule None rest = rest
+broken_or rule (Some place) rest = Some (rule, place)
+
+-- the first of these rules that is broken, and its first place
+unfoldable pub first_broken : List BootRule → Data → Option (BootRule × ℕ)
+first_broken [] d = None
+first_broken (rule ∷ rules) d = broken_or rule (broken_at rule d) (first_broken rules d)
+
+-- the rules of the top table, the machines and the images
+abbrev pub image_rules : List BootRule
+image_rules =
+    TopKeys ∷ Settings ∷ MachineCount ∷ MachineKeys ∷ MachineRoom
+    ∷ ImageCount ∷ ImageKeys ∷ ImageName ∷ ImageBlocks ∷ ImageText ∷ ImageBytes ∷ []
+
+-- the rules of the processes
+abbrev pub process_rules : List BootRule
+process_rules = ProcessKeys ∷ ProcessName ∷ ProcessMachine ∷ ProcessImage ∷ ProcessRoom ∷ []
+
+-- the rules of the links
+abbrev pub link_rules : List BootRule
+link_rules = LinkCount ∷ LinkTarget ∷ LinkLimits ∷ []
+
+-- the rules of a document, in the order of their numbers
+abbrev pub rules : List BootRule
+rules = image_rules ++ (process_rules ++ link_rules)
+
+-- the rules that tables alone decide; the others need the images' bytes or the processes before
+unfoldable pub is_of_tables : BootRule → Bool
+is_of_tables Document = false
+is_of_tables TopKeys = true
+is_of_tables Settings = true
+is_of_tables MachineCount = true
+is_of_tables MachineKeys = true
+is_of_tables MachineRoom = true
+is_of_tables ImageCount = true
+is_of_tables ImageKeys = true
+is_of_tables ImageName = true
+is_of_tables ImageBlocks = true
+is_of_tables ImageText = false
+is_of_tables ImageBytes = false
+is_of_tables ProcessKeys = true
+is_of_tables ProcessName = true
+is_of_tables ProcessMachine = true
+is_of_tables ProcessImage = true
+is_of_tables ProcessRoom = false
+is_of_tables LinkCount = true
+is_of_tables LinkTarget = true
+is_of_tables LinkLimits = true

@@ -1,0 +1,104 @@
+//! The first rule that tables break.
+ghost use Rattle.std.specs.Prelude.{◌≡◌, true};
+ghost use Rattle.std.specs.List.{list_all};
+ghost use Rattle.toml.specs.View.{items_view, view};
+ghost use Rattle.dm_boot.specs.Tables.{first_failing};
+ghost use Rattle.dm_boot.specs.Rules.{broken_at, first_broken, is_of_tables, keeps};
+
+use crate::limits::{
+    has_good_image_count, has_good_machine_count, has_good_room, has_good_settings, has_link_count,
+    has_machine, has_own_name, has_process_name, image_blocks, image_place,
+};
+use crate::rules::BootRule;
+use crate::shapes::{is_image, is_machine, is_process, is_top};
+use crate::tables::items_at;
+use crate::targets::{are_limited, have_targets};
+use toml::Value;
+
+/// The first of these rules that is broken, and its first place.
+#[tactic(auto, using(crate::proofs::Rows::row_lemmas))]
+pub fn first_broken(top: &Value, rules: &[BootRule]) -> Option<(BootRule, u64)>
+    requires { list_all is_of_tables rules.now ≡ true }
+    ensures { result ≡ first_broken rules.now (view top.now) }
+{
+    for rule in rules {
+        if let Some(place) = broken_at(top, *rule) {
+            return Some((*rule, place as u64));
+        }
+    }
+    None
+}
+
+/// The first place where a rule is broken.
+#[tactic(auto, unfolding(crate::specs::Rules::broken_at, crate::specs::Rules::subjects, crate::specs::Rules::is_of_tables, crate::specs::Tables::first_failing))]
+fn broken_at(top: &Value, rule: BootRule) -> Option<usize>
+    requires { is_of_tables rule ≡ true }
+    ensures { result ≡ broken_at rule (view top.now) }
+{
+    match rule {
+        BootRule::TopKeys | BootRule::Settings | BootRule::MachineCount | BootRule::ImageCount => {
+            if keeps(top, rule, 0, top) {
+                None
+            } else {
+                Some(0)
+            }
+        }
+        BootRule::MachineKeys | BootRule::MachineRoom => {
+            first_failing(top, rule, items_at(top, "machine"))
+        }
+        BootRule::ImageKeys | BootRule::ImageName | BootRule::ImageBlocks => {
+            first_failing(top, rule, items_at(top, "image"))
+        }
+        BootRule::ProcessKeys
+        | BootRule::ProcessName
+        | BootRule::ProcessMachine
+        | BootRule::ProcessImage
+        | BootRule::LinkCount
+        | BootRule::LinkTarget
+        | BootRule::LinkLimits => first_failing(top, rule, items_at(top, "process")),
+        BootRule::Document | BootRule::ImageText | BootRule::ImageBytes | BootRule::ProcessRoom =>
+            unreachable!(),
+    }
+}
+
+/// The place of the first of these elements that breaks a rule.
+#[tactic(auto, using(crate::proofs::Elements::failing_lemmas))]
+fn first_failing(top: &Value, rule: BootRule, elements: &[Value]) -> Option<usize>
+    requires { is_of_tables rule ≡ true }
+    ensures { result ≡ first_failing (keeps rule (view top.now)) 0 (items_view elements.now) }
+{
+    for (i, element) in elements.iter().enumerate() {
+        if !keeps(top, rule, i, element) {
+            return Some(i);
+        }
+    }
+    None
+}
+
+/// Whether an element at its place is what a rule says.
+#[tactic(auto, unfolding(crate::specs::Rules::keeps, crate::specs::Rules::is_of_tables))]
+fn keeps(top: &Value, rule: BootRule, place: usize, element: &Value) -> bool
+    requires { is_of_tables rule ≡ true }
+    ensures { result ≡ keeps rule (view top.now) place (view element.now) }
+{
+    match rule {
+        BootRule::TopKeys => is_top(element),
+        BootRule::Settings => has_good_settings(element),
+        BootRule::MachineCount => has_good_machine_count(element),
+        BootRule::MachineKeys => is_machine(element),
+        BootRule::MachineRoom => has_good_room(element),
+        BootRule::ImageCount => has_good_image_count(element),
+        BootRule::ImageKeys => is_image(element),
+        BootRule::ImageName => has_own_name(items_at(top, "image"), place, element),
+        BootRule::ImageBlocks => image_blocks(element).is_some(),
+        BootRule::ProcessKeys => is_process(element),
+        BootRule::ProcessName => has_process_name(items_at(top, "process"), place, element),
+        BootRule::ProcessMachine => has_machine(top, element),
+        BootRule::ProcessImage => image_place(top, element).is_some(),
+        BootRule::LinkCount => has_link_count(top, element),
+        BootRule::LinkTarget => have_targets(top, items_at(element, "links")),
+        BootRule::LinkLimits => are_limited(top, items_at(element, "links")),
+        BootRule::Document | BootRule::ImageText | BootRule::ImageBytes | BootRule::ProcessRoom =>
+            unreachable!(),
+    }
+}

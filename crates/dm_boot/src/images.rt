@@ -1,0 +1,91 @@
+//! The images.
+ghost use Rattle.std.specs.Prelude.{◌≡◌};
+ghost use Rattle.toml.specs.View.{items_view, view};
+ghost use Rattle.dm_boot.specs.Tables.{map_items};
+ghost use Rattle.dm_boot.specs.Build.{image_of};
+ghost use Rattle.dm_boot.specs.Made.{IsMade};
+ghost use Rattle.dm_boot.specs.Rules.{first_long, first_unassembled, image_fits};
+ghost use Rattle.dm_boot.specs.Boot.{Answers, unless_at};
+ghost use Rattle.dm_boot.specs.declared.rules.BootRule.TheVariants as rules;
+
+use crate::limits::image_blocks;
+use crate::rules::{BootNo, BootRule};
+use crate::tables::text_at;
+use dm_asm::AsmNo;
+use dm_lists::Items;
+use dm_onekernel::boot::BootImage;
+use std::alloc::Global;
+use toml::Value;
+
+/// What becomes of one image.
+#[derive(Drop)]
+enum Assembled {
+    Image(BootImage),
+    /// The assembler refuses its text.
+    Fault,
+    NoMemory,
+}
+
+/// The images of these tables, unless the assembler refuses a text.
+#[tactic(auto, using(crate::proofs::Texts::image_lemmas))]
+pub fn images_of(alloc: Global, tables: &[Value]) -> Result<Items<BootImage>, BootNo>
+    ensures { Answers (unless_at rules.ImageText (first_unassembled 0 (items_view tables.now)) (map_items image_of (items_view tables.now))) result }
+{
+    let mut images = Items::new(alloc);
+    for (i, table) in tables.iter().enumerate() {
+        let image = match image_of(alloc, table) {
+            Assembled::Image(image) => image,
+            Assembled::Fault => {
+                return Err(BootNo::Refused {
+                    rule: BootRule::ImageText,
+                    place: i as u64,
+                });
+            }
+            Assembled::NoMemory => return Err(BootNo::NoMemory),
+        };
+        if images.push(image).is_err() {
+            return Err(BootNo::NoMemory);
+        }
+    }
+    Ok(images)
+}
+
+/// An image, as its table says.
+#[tactic(auto, unfolding(crate::specs::Rules::assembles, crate::specs::Text::bytes_of, crate::specs::Build::image_of))]
+fn image_of(alloc: Global, table: &Value) -> Assembled
+    ensures { IsMade (view table.now) result }
+{
+    let blocks = image_blocks(table).unwrap_or(0) as u16;
+    match dm_asm::assemble(alloc, text_at(table, "text")) {
+        Ok(image) => match image.as_bytes().to_vec(alloc) {
+            Ok(bytes) => Assembled::Image(BootImage {
+                bytes: Items::from_vec(bytes),
+                blocks,
+            }),
+            Err(_) => Assembled::NoMemory,
+        },
+        Err(AsmNo::Fault { .. }) => Assembled::Fault,
+        Err(AsmNo::NoMemory) => Assembled::NoMemory,
+    }
+}
+
+/// The place of the first image whose bytes don't fit its blocks.
+#[tactic(auto, using(crate::proofs::Texts::long_lemmas))]
+pub fn first_long(images: &[BootImage]) -> Option<usize>
+    ensures { result ≡ first_long 0 images.now }
+{
+    for (i, image) in images.iter().enumerate() {
+        if !image_fits(image) {
+            return Some(i);
+        }
+    }
+    None
+}
+
+/// Whether an image's bytes fit its blocks.
+#[tactic(auto, unfolding(crate::specs::Rules::image_fits))]
+fn image_fits(image: &BootImage) -> bool
+    ensures { result ≡ image_fits image.now }
+{
+    image.bytes.len() <= 256 * usize::from(image.blocks)
+}

@@ -1,0 +1,160 @@
+//! Where links lead, and the limits of their numbers.
+ghost use Rattle.std.specs.Prelude.{◌≡◌, ◌≤◌, IfSome, option_map};
+ghost use Rattle.toml.specs.View.{items_view, view};
+ghost use Rattle.dm_boot.specs.Tables.{all_items, or_zero};
+ghost use Rattle.dm_boot.specs.Build.{base_in, channel_in, code_in, is_control, len_in};
+ghost use Rattle.dm_boot.specs.Rules.{blocks_of_named, blocks_of_process, has_area, has_target, is_limited, is_plain, memory_of};
+
+use crate::limits::image_blocks;
+use crate::names::is_server;
+use crate::tables::{has_text, items_at, named, number_at, place_of, text_at, truth_at};
+use toml::Value;
+
+/// The greatest size of a memory in bytes.
+pub const MEMORY: u32 = 65_536;
+
+/// Whether a link controls a child.
+pub fn is_control(link: &Value) -> bool
+    ensures { result ≡ is_control (view link.now) }
+{
+    has_text(link, "control")
+}
+
+/// Whether a link leads to a process or a server, and a control link to a process.
+#[tactic(auto, unfolding(crate::specs::Rules::has_target))]
+fn has_target(top: &Value, link: &Value) -> bool
+    ensures { result ≡ has_target (view top.now) (view link.now) }
+{
+    let processes = items_at(top, "process");
+    if is_control(link) {
+        return place_of(processes, text_at(link, "control")).is_some();
+    }
+    let name = text_at(link, "to");
+    is_server(name) || place_of(processes, name).is_some()
+}
+
+/// Whether each of these links leads somewhere.
+#[tactic(auto, using(crate::proofs::Elements::all_lemmas))]
+pub fn have_targets(top: &Value, links: &[Value]) -> bool
+    ensures { result ≡ all_items (has_target (view top.now)) (items_view links.now) }
+{
+    for link in links {
+        if !has_target(top, link) {
+            return false;
+        }
+    }
+    true
+}
+
+/// The numbers of a link; 0 where it has none.
+pub fn code_in(link: &Value, most: u32) -> Option<u32>
+    ensures { result ≡ code_in most (view link.now) }
+{
+    number_at(link, "code", 0, 0, most)
+}
+
+pub fn channel_in(link: &Value) -> Option<u32>
+    ensures channel { result ≡ channel_in (view link.now) }
+    ensures few { IfSome result (λ n. n ≤ 31) }
+{
+    number_at(link, "channel", 0, 0, 31)
+}
+
+pub fn base_in(link: &Value, most: u32) -> Option<u32>
+    ensures base { result ≡ base_in most (view link.now) }
+    ensures few { IfSome result (λ n. n ≤ most) }
+{
+    number_at(link, "base", 0, 0, most)
+}
+
+pub fn len_in(link: &Value, most: u32) -> Option<u32>
+    ensures len { result ≡ len_in most (view link.now) }
+    ensures few { IfSome result (λ n. n ≤ most) }
+{
+    number_at(link, "len", 0, 0, most)
+}
+
+/// Whether a link's area lies within so many bytes.
+#[tactic(auto, unfolding(crate::specs::Rules::has_area))]
+fn has_area(size: u32, link: &Value) -> bool
+    ensures { result ≡ has_area size (view link.now) }
+{
+    match (base_in(link, MEMORY), len_in(link, MEMORY)) {
+        (Some(base), Some(len)) => base + len <= size,
+        _ => false,
+    }
+}
+
+/// Whether a link has no code and no area, as one to a server.
+#[tactic(auto, unfolding(crate::specs::Rules::is_plain))]
+fn is_plain(link: &Value) -> bool
+    ensures { result ≡ is_plain (view link.now) }
+{
+    code_in(link, 0).is_some()
+        && base_in(link, 0).is_some()
+        && len_in(link, 0).is_some()
+        && !truth_at(link, "read")
+        && !truth_at(link, "write")
+}
+
+/// The blocks of an image that was found.
+fn blocks_of_named(image: Option<&Value>) -> u32
+    ensures blocks { result ≡ blocks_of_named (option_map (λ v. view v.now) image.entry) }
+    ensures few { result ≤ 256 }
+{
+    match image {
+        Some(image) => image_blocks(image).unwrap_or(0),
+        None => 0,
+    }
+}
+
+/// The blocks of a process that was found.
+fn blocks_of_process(top: &Value, process: Option<&Value>) -> u32
+    ensures blocks { result ≡ blocks_of_process (view top.now) (option_map (λ v. view v.now) process.entry) }
+    ensures few { result ≤ 256 }
+{
+    match process {
+        Some(process) => {
+            let image = named(items_at(top, "image"), text_at(process, "image"));
+            blocks_of_named(image)
+        }
+        None => 0,
+    }
+}
+
+/// The bytes of the memory of the process with a name.
+#[tactic(auto, unfolding(crate::specs::Rules::memory_of))]
+fn memory_of(top: &Value, name: &str) -> u32
+    ensures { result ≡ memory_of (view top.now) name.now }
+{
+    256 * blocks_of_process(top, named(items_at(top, "process"), name))
+}
+
+/// Whether a link's numbers are within their limits.
+#[tactic(auto, unfolding(crate::specs::Rules::is_limited))]
+fn is_limited(top: &Value, link: &Value) -> bool
+    ensures { result ≡ is_limited (view top.now) (view link.now) }
+{
+    if channel_in(link).is_none() {
+        return false;
+    }
+    let name = text_at(link, "to");
+    if is_control(link) || is_server(name) {
+        is_plain(link)
+    } else {
+        code_in(link, u32::MAX).is_some() && has_area(memory_of(top, name), link)
+    }
+}
+
+/// Whether the numbers of each of these links are within their limits.
+#[tactic(auto, using(crate::proofs::Elements::all_lemmas))]
+pub fn are_limited(top: &Value, links: &[Value]) -> bool
+    ensures { result ≡ all_items (is_limited (view top.now)) (items_view links.now) }
+{
+    for link in links {
+        if !is_limited(top, link) {
+            return false;
+        }
+    }
+    true
+}
