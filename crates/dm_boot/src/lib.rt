@@ -1,8 +1,7 @@
 //! The boot file: which machines, images and processes a system starts with.
 #![tactic(auto)]
 
-ghost use Rattle.std.specs.Prelude.{◌≡◌, IfOk};
-ghost use Rattle.toml.specs.View.{view};
+ghost use Rattle.std.specs.Prelude.{IfOk};
 ghost use Rattle.dm_onekernel.specs.Boot.{IsValid};
 ghost use Rattle.dm_boot.specs.Boot.{Answers, boot_of};
 

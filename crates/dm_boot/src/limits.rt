@@ -1,7 +1,6 @@
 //! What the elements of a boot file must be, one function for each rule.
 ghost use Rattle.std.specs.Prelude.{◌≡◌, ◌<◌, ◌≤◌, IfSome};
 ghost use Rattle.toml.specs.View.{items_view, view};
-ghost use Rattle.dm_onekernel.specs.Boot.{slots_of};
 ghost use Rattle.dm_boot.specs.Tables.{count};
 ghost use Rattle.dm_boot.specs.Build.{format_number, format_of, image_blocks, image_place, image_tables, machine_number, numbers_of, quantum_of};
 ghost use Rattle.dm_boot.specs.Rules.{has_good_image_count, has_good_machine_count, has_good_room, has_good_settings, has_link_count, has_machine, has_own_name, has_process_name};

@@ -1,9 +1,7 @@
 //! The links.
-ghost use Rattle.std.specs.Prelude.{◌≡◌, ◌<◌, ◌≤◌, IfErr, IfOk, length, slice_get};
-ghost use Rattle.toml.specs.View.{items_view, view};
-ghost use Rattle.dm_link.specs.Names.{pid_of};
-ghost use Rattle.dm_onekernel.specs.Boot.{manager, switchboard};
-ghost use Rattle.dm_boot.specs.Tables.{count, map_items};
+ghost use Rattle.std.specs.Prelude.{◌≡◌, ◌≤◌, IfOk, slice_get};
+ghost use Rattle.toml.specs.View.{view};
+ghost use Rattle.dm_boot.specs.Tables.{count};
 ghost use Rattle.dm_boot.specs.Build.{control_of, kind_with, link_of, link_to, links_of, pid_named, pid_of_start, process_tables};
 
 use crate::names::{is_manager, is_switchboard};

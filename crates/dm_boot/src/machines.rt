@@ -1,5 +1,5 @@
 //! The machines.
-ghost use Rattle.std.specs.Prelude.{◌≡◌, IfErr, IfOk};
+ghost use Rattle.std.specs.Prelude.{◌≡◌, IfOk};
 ghost use Rattle.toml.specs.View.{items_view, view};
 ghost use Rattle.dm_boot.specs.Tables.{map_items};
 ghost use Rattle.dm_boot.specs.Build.{machine_of};

@@ -1,8 +1,8 @@
 //! The processes with their links.
 ghost use Rattle.std.specs.Prelude.{◌≡◌, ◌≤◌, IfOk};
-ghost use Rattle.toml.specs.View.{items_view, view};
+ghost use Rattle.toml.specs.View.{view};
 ghost use Rattle.dm_boot.specs.Tables.{count};
-ghost use Rattle.dm_boot.specs.Build.{linked, linked_all, links_of, process_tables};
+ghost use Rattle.dm_boot.specs.Build.{linked_all, process_tables};
 
 use crate::links::links_of;
 use crate::tables::items_at;

@@ -1,9 +1,8 @@
 //! The processes without their links, and whether they fit their machines.
-ghost use Rattle.std.specs.Prelude.{◌≡◌, ◌≤◌, ◌<◌, ◌+◌, ℕ, OnOk, length, slice_get};
+ghost use Rattle.std.specs.Prelude.{◌≡◌, ◌≤◌, ◌<◌, ◌+◌, ℕ, OnOk, slice_get};
 ghost use Rattle.std.specs.Bool.{OnTrue};
-ghost use Rattle.toml.specs.View.{items_view, view};
-ghost use Rattle.dm_link.specs.Names.{pid_of};
-ghost use Rattle.dm_onekernel.specs.Boot.{blocks_at, blocks_of_image, first_number, starting_at};
+ghost use Rattle.toml.specs.View.{view};
+ghost use Rattle.dm_onekernel.specs.Boot.{blocks_at, blocks_of_image, starting_at};
 ghost use Rattle.dm_boot.specs.Tables.{count, first_failing};
 ghost use Rattle.dm_boot.specs.Build.{image_tables, images_of, machines_of, process_tables, start_of, starts_of};
 ghost use Rattle.dm_boot.specs.Rules.{fits_after, has_place};

@@ -1,6 +1,6 @@
 //! The system of a document's top table.
-ghost use Rattle.std.specs.Prelude.{◌≡◌, ◌≤◌, OnOk, true};
-ghost use Rattle.toml.specs.View.{items_view, view};
+ghost use Rattle.std.specs.Prelude.{◌≡◌, ◌≤◌, OnOk};
+ghost use Rattle.toml.specs.View.{view};
 ghost use Rattle.dm_boot.specs.Tables.{count};
 ghost use Rattle.dm_boot.specs.Build.{image_tables, images_of, machines_of, process_tables, processes_of, starts_of, system_with};
 ghost use Rattle.dm_boot.specs.Rules.{first_broken, image_rules, link_rules, process_rules};

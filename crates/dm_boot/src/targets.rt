@@ -1,7 +1,7 @@
 //! Where links lead, and the limits of their numbers.
 ghost use Rattle.std.specs.Prelude.{◌≡◌, ◌≤◌, IfSome, option_map};
 ghost use Rattle.toml.specs.View.{items_view, view};
-ghost use Rattle.dm_boot.specs.Tables.{all_items, or_zero};
+ghost use Rattle.dm_boot.specs.Tables.{all_items};
 ghost use Rattle.dm_boot.specs.Build.{base_in, channel_in, code_in, is_control, len_in};
 ghost use Rattle.dm_boot.specs.Rules.{blocks_of_named, blocks_of_process, has_area, has_target, is_limited, is_plain, memory_of};
 
