@@ -1,0 +1,3 @@
+//! State bytes written by hand.
+use super::*;
+use std::test::Fail;
