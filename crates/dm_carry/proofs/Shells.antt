@@ -41,7 +41,6 @@ IsCount n = (1 ≤ n) × (n ≤ 256)
 blocks_is : IsField blocks IsCount
 blocks_is = length_within_is 1 256 (omega arith)
 
-
 registers_is : IsField registers (λ r. (length r ≡ 16) × AllByRecursion (Fits 4) r)
 unfolding registers
 registers_is = IsField-times (number 4) (Fits 4) (IsField-number 4) 16
@@ -98,8 +97,7 @@ made_of : (cap : ℕ) (s : Front × List (Option Link)) → IsWhole cap s → Is
 made_of cap s fits =
     let f = fits.0 in
     let r = f.1.1.1.1.1.1.1 in
-    let slots = fits.1.1 in
-    (
+    let slots = fits.1.1 in (
       record {
         home = f.1.0.0;
         registers = r.0.0;

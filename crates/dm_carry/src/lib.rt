@@ -12,14 +12,14 @@ mod reading;
 mod status;
 mod writing;
 
-pub use dm_memory::NoMemory;
 use dm_link::Pid;
 use dm_linktable::Table;
+pub use dm_memory::NoMemory;
 use dm_packet::Bad;
 use dm_packet::writing::Buffer;
 use dm_process::{Process, Status};
 use dm_regs::Regs;
-use reading::shell_at;
+use reading::state_at;
 use std::alloc::Global;
 use thiserror::Error;
 use writing::{extend_with_links, put_front, put_mask};
@@ -123,10 +123,7 @@ pub fn unpack(bytes: &[u8], cap: u8) -> Result<Shell, CarryBad>
     ensures only { (s : Shell) → IsLawfulShell cap s → FitsShell s → bytes.now ≡ spelling s → result ≡ Ok s }
     ensures size { OnOk result (length bytes.now ≤ 3201) }
 {
-    match shell_at(bytes, cap) {
-        Ok(shell) => Ok(shell),
-        Err(bad) => Err(rule_of(bad)),
-    }
+    state_at(bytes, cap)
 }
 
 #[cfg(test)]

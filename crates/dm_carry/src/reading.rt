@@ -2,12 +2,12 @@
 ghost use Rattle.std.specs.Prelude.{◌≡◌, ◌⊎◌, ◌+◌, ◌*◌, ◌≤◌, ◌<◌, ◌^◌, IfOk, length};
 ghost use Rattle.dm_packet.specs.Field.{number};
 ghost use Rattle.dm_packet.specs.Reads.{Reads};
-ghost use Rattle.dm_carry.specs.Shell.{blocks, read_shell, registers, regs, shell, version};
+ghost use Rattle.dm_carry.specs.Shell.{blocks, read_shell, registers, regs, shell, shell_of_bytes, version};
 ghost use Rattle.dm_carry.specs.Statuses.{cap_from, direction, left_from, moving, read_status, status, status_kind, waiting};
 ghost use Rattle.dm_carry.specs.Table.{mask, read_slots, table};
 
-use crate::Shell;
 use crate::status::StatusKind;
+use crate::{CarryBad, Shell, rule_of};
 use byteorder::{BigEndian, ByteOrder};
 use dm_linktable::Table;
 use dm_packet::Bad;
@@ -201,7 +201,7 @@ fn version_at(bytes: &[u8]) -> Result<(u8, &[u8]), Bad>
 }
 
 /// A process with a table of so many slots.
-fn parts_at(bytes: &[u8], cap: u8) -> Result<(Shell, &[u8]), Bad>
+fn shell_at(bytes: &[u8], cap: u8) -> Result<(Shell, &[u8]), Bad>
     requires { (cap ≡ 32) ⊎ (cap ≡ 128) }
     ensures { Reads result ((shell cap).read bytes.now) }
 {
@@ -227,14 +227,26 @@ fn parts_at(bytes: &[u8], cap: u8) -> Result<(Shell, &[u8]), Bad>
     Ok((shell, rest))
 }
 
-/// The process that the bytes spell, or the first rule that they break.
-pub fn shell_at(bytes: &[u8], cap: u8) -> Result<Shell, Bad>
+/// The process that the bytes spell, all of them, or the first rule that they break.
+fn whole_at(bytes: &[u8], cap: u8) -> Result<Shell, Bad>
     requires { (cap ≡ 32) ⊎ (cap ≡ 128) }
     ensures { result ≡ read_shell bytes.now cap }
 {
-    let (shell, rest) = parts_at(bytes, cap)?;
+    let (shell, rest) = shell_at(bytes, cap)?;
     if !rest.is_empty() {
         return Err(Bad::Trailing);
     }
     Ok(shell)
+}
+
+/// The same, with the rule as a rule of state bytes.
+#[tactic(auto, unfolding(crate::specs::Shell::shell_of_bytes))]
+pub fn state_at(bytes: &[u8], cap: u8) -> Result<Shell, CarryBad>
+    requires { (cap ≡ 32) ⊎ (cap ≡ 128) }
+    ensures { result ≡ shell_of_bytes bytes.now cap }
+{
+    match whole_at(bytes, cap) {
+        Ok(shell) => Ok(shell),
+        Err(bad) => Err(rule_of(bad)),
+    }
 }

@@ -16,7 +16,9 @@ use dm_link::{Addr, Link};
 use dm_linktable::Table;
 use dm_memory::NoMemory;
 use dm_packet::writing::Buffer;
-use dm_packet::writing::fields::{put_addr, put_bool, put_byte, put_bytes, put_link, put_pid, put_u16, put_u32};
+use dm_packet::writing::fields::{
+    put_addr, put_bool, put_byte, put_bytes, put_link, put_pid, put_u16, put_u32,
+};
 use dm_process::{Direction, Process, Status};
 use dm_regs::Regs;
 
@@ -34,7 +36,15 @@ fn put_waiting(out: &mut Buffer, mask: u32, base: u32, cap: u32)
 }
 
 /// A data move.
-fn put_moving(out: &mut Buffer, dir: Direction, owner: Addr, base: u32, own: u32, left: u32, pending: u32)
+fn put_moving(
+    out: &mut Buffer,
+    dir: Direction,
+    owner: Addr,
+    base: u32,
+    own: u32,
+    left: u32,
+    pending: u32,
+)
     requires room { HasRoom out.old ((moving 0).spell (dir, (owner, (base, (own, (left, pending)))))) }
     ensures put { Puts out.old out.new ((moving 0).spell (dir, (owner, (base, (own, (left, pending)))))) }
     ensures owner { FitsAddr owner }
@@ -101,6 +111,7 @@ fn put_registers(out: &mut Buffer, registers: &[u32])
 /// The registers and the program counter.
 fn put_regs(out: &mut Buffer, regs: &Regs)
     requires room { length out.old.items ≤ 100 }
+    requires registers { length regs.now.r ≡ 16 }
     ensures put { Puts out.old out.new (regs_field.spell regs.now) }
     ensures registers { All (Fits 4) regs.now.r }
     ensures pc { Fits 4 regs.now.pc }
@@ -112,6 +123,7 @@ fn put_regs(out: &mut Buffer, regs: &Regs)
 /// What stands before the links, where nothing was put yet.
 pub fn put_front(out: &mut Buffer, process: &Process)
     requires empty { out.old.items ≡ [] }
+    requires registers { length process.now.regs.r ≡ 16 }
     ensures put { Puts out.old out.new (front.spell (front_of (shell_of process.now))) }
     ensures pid { FitsPid process.now.pid }
     ensures status { FitsStatus process.now.status }
