@@ -1,5 +1,5 @@
 -- A status is read as it is spelled.
-use Rattle.std.proofs.Common.{◌≡◌, ℕ, ◌+◌, ◌^◌, ◌<◌, ◌≤◌, true, List, ◌++◌, None, Some, Result, Ok, refl, ap, arith, append_assoc, ◌∙◌}
+use Rattle.std.proofs.Common.{◌≡◌, ℕ, ◌+◌, ◌<◌, ◌≤◌, true, List, ◌++◌, None, Some, Result, Ok, refl, ap, arith, append_assoc, ◌∙◌}
 use Rattle.std.specs.Prelude.{nat_le, ◌==◌, if◌then◌else◌}
 use Rattle.std.proofs.lemmas.Bool.Decides.{nat_tests}
 use Rattle.dm_link.specs.declared.Addr.{Addr}
@@ -13,7 +13,7 @@ use Rattle.dm_packet.specs.declared.Bad.{Bad}
 use Rattle.dm_packet.specs.declared.Bad.TheVariants as bad
 use Rattle.dm_packet.specs.Field.{◌>>=◌, both, number}
 use Rattle.dm_packet.specs.Fields.{addr}
-use Rattle.dm_packet.specs.Widths.{Fits, FitsAddr}
+use Rattle.dm_packet.specs.Widths.{Fits}
 use Rattle.dm_packet.proofs.Numbers.{IsBytes}
 use Rattle.dm_packet.proofs.Field.{IsField, IsField-both, IsField-for, IsField-number, IsField-tested, Took, bind_ok, took_same, then_parts}
 use Rattle.dm_packet.proofs.Fields.{IsSpelledAddr, addr_is}

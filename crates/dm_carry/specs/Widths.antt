@@ -1,5 +1,4 @@
 -- The numbers that fields have room for. What the program holds fits by its types: a law over all values says so.
-use Rattle.std.specs.Prelude.{ℕ}
 use Rattle.std.specs.declared.option.Option.{Option}
 use Rattle.std.specs.List.{All}
 use Rattle.std.specs.Option.{IfSome}

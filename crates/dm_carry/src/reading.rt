@@ -1,5 +1,5 @@
 //! Reading from the left, each field tested as soon as it is there.
-ghost use Rattle.std.specs.Prelude.{◌≡◌, ◌⊎◌, ◌+◌, ◌*◌, ◌≤◌, ◌<◌, ◌^◌, IfOk, length};
+ghost use Rattle.std.specs.Prelude.{◌≡◌, ◌⊎◌};
 ghost use Rattle.dm_packet.specs.Field.{number};
 ghost use Rattle.dm_packet.specs.Reads.{Reads};
 ghost use Rattle.dm_carry.specs.Shell.{blocks, read_shell, registers, regs, shell, shell_of_bytes, version};
@@ -180,8 +180,7 @@ fn table_at(bytes: &[u8], cap: u8) -> Result<(Table, &[u8]), Bad>
 
 /// How many blocks of 256 bytes a process has.
 fn blocks_at(bytes: &[u8]) -> Result<(u16, &[u8]), Bad>
-    ensures read { Reads result (blocks.read bytes.now) }
-    ensures few { IfOk result (λ x. x.0 ≤ 256) }
+    ensures { Reads result (blocks.read bytes.now) }
 {
     let (blocks, rest) = u16_at(bytes)?;
     if blocks < 1 || blocks > 256 {
@@ -239,7 +238,7 @@ fn whole_at(bytes: &[u8], cap: u8) -> Result<Shell, Bad>
     Ok(shell)
 }
 
-/// The same, with the rule as a rule of state bytes.
+/// The same, with the rule as one of state bytes.
 #[tactic(auto, unfolding(crate::specs::Shell::shell_of_bytes))]
 pub fn state_at(bytes: &[u8], cap: u8) -> Result<Shell, CarryBad>
     requires { (cap ≡ 32) ⊎ (cap ≡ 128) }

@@ -1,8 +1,8 @@
-use Rattle.std.proofs.Common.{◌≡◌, ◌-◌, length, take, refl, ap, ◌∙◌, arith}
+use Rattle.std.proofs.Common.{◌≡◌, ◌-◌, take, ap, ◌∙◌, arith}
 use Rattle.std.proofs.lemmas.Grind.{common_steps}
 use Rattle.std.proofs.lemmas.Result.{err_from_is_err_and}
 use Rattle.dm_carry.specs.Table.{read_slots}
-use Rattle.dm_carry.proofs.Loops.{front_none, slot_empty, slot_held, slots_done, slots_fail}
+use Rattle.dm_carry.proofs.Loops.{front_none, slot_empty, slot_held, slots_fail}
 use Rattle.dm_carry.proofs.reading.slots_at.Goals as goal
 use Rattle.dm_carry.proofs.reading.slots_at.Goals.{then-left-eq1+in_ok-link, else-left-eq1}
 
