@@ -143,7 +143,7 @@ kind_is : (p : Process) (dir : Direction) (base own left : ℕ) → false ≡ is
 kind_is p direction.FromArea base own left = refl
 kind_is p direction.IntoArea base own left = refl
 
-asks_lawfully : (here : ℕ) (p : Process) (r : Rest) → here < 16 → IsLawfulProcess p → IsRest (length p.memory) r → IsLawfulLanding (asks here p r)
+pub asks_lawfully : (here : ℕ) (p : Process) (r : Rest) → here < 16 → IsLawfulProcess p → IsRest (length p.memory) r → IsLawfulLanding (asks here p r)
 asks_lawfully here p r machine lawful rest =
     record {
       landed = record {
