@@ -1,6 +1,5 @@
 -- What a call leaves and gives is lawful.
-use Rattle.std.proofs.Common.{◌≡◌, ◌∙◌, ℕ, zero, suc, ◌+◌, ◌*◌, ◌<◌, ◌≤◌, Bool, true, false, ◌==◌, List, [], ◌∷◌, length, take, drop, Some, None, refl, ap, sym, arith, if◌then◌else◌}
-use Rattle.std.specs.Prelude.{nat_lt}
+use Rattle.std.proofs.Common.{◌≡◌, ◌∙◌, ℕ, zero, suc, ◌+◌, ◌<◌, ◌≤◌, Bool, true, false, ◌==◌, List, [], ◌∷◌, length, take, drop, Some, None, refl, arith, if◌then◌else◌}
 use Rattle.std.specs.List.{All, cons_option}
 use Rattle.std.proofs.Math.ListN.{set, length-set}
 use Rattle.std.proofs.lemmas.List.Elements.{All-cons, All-nil, All-set}
@@ -29,7 +28,6 @@ use Rattle.dm_datamove.specs.declared.Rest.{Rest}
 use Rattle.dm_datamove.specs.Requests.{IsRest}
 use Rattle.dm_datamove.proofs.Landings.{IsLawfulLanding, asks_lawfully}
 use Rattle.dm_datamove.specs.Landing.{asks}
-use Rattle.dm_syscall.specs.declared.Called.{Called}
 use Rattle.dm_syscall.specs.declared.Called.TheVariants as called
 use Rattle.dm_syscall.specs.Sends.{emptied, links_in}
 use Rattle.dm_syscall.specs.Calls.{Done, after_send, begins, calls, copies, does_call, drops, listed, makes, message_over, moves, moves_bytes, moves_over, own_link, puts_link, replied, sends, unless_refused, waits, whole}
@@ -81,11 +79,11 @@ puts_lawfully p l (Some slot) lawful link =
     record {
       called = tt;
       process =
-        changed p (setting (setting p.regs 0 (reply_code reply.Done)) 1 slot) (set p.table slot (Some l)) p.status p.sent lawful
-        (length-set (set p.regs.r 0 (reply_code reply.Done)) 1 slot ∙ length-set p.regs.r 0 (reply_code reply.Done))
-        (All-set SlotIsLawful p.table slot (Some l) link lawful.links)
-        (length-set p.table slot (Some l))
-        lawful.status;
+          changed p (setting (setting p.regs 0 (reply_code reply.Done)) 1 slot) (set p.table slot (Some l)) p.status p.sent lawful
+          (length-set (set p.regs.r 0 (reply_code reply.Done)) 1 slot ∙ length-set p.regs.r 0 (reply_code reply.Done))
+          (All-set SlotIsLawful p.table slot (Some l) link lawful.links)
+          (length-set p.table slot (Some l))
+          lawful.status;
     }
 
 -- what MAKE's refusals leave
@@ -100,10 +98,10 @@ makes_lawfully : (here : ℕ) (p : Process) → here < 16 → IsLawfulProcess p 
 makes_lawfully here p machine lawful =
     unless_lawfully (first_failed (make_refusals (plain_process p))) p (puts_link p (own_link here p) (first_empty p.table)) lawful
     (λ e.
-     let m : IsMakeable (plain_process p) = make_passed (plain_process p) e in
-     let s : length p.memory ≤ 65536 = size_most p lawful in
-     puts_lawfully p (own_link here p) (first_empty p.table) lawful
-     (record { link = record { addr = record { home = lawful.home; at = omega arith }; channel = m.channel; area = omega (arith, m.area) }; not_to_kernel = refl }))
+    let m : IsMakeable (plain_process p) = make_passed (plain_process p) e in
+    let s : length p.memory ≤ 65536 = size_most p lawful in
+    puts_lawfully p (own_link here p) (first_empty p.table) lawful
+    (record { link = record { addr = record { home = lawful.home; at = omega arith }; channel = m.channel; area = omega (arith, m.area) }; not_to_kernel = refl }))
 
 copies_lawfully : (p : Process) (o : Option Link) → IsLawfulProcess p → SlotIsLawful o → IsLawfulDone (copies p o)
 copies_lawfully p None lawful link = replied_lawfully reply.NoLink p lawful
@@ -117,11 +115,11 @@ drops_lawfully p (Some l) lawful =
     record {
       called = tt;
       process =
-        changed p (setting p.regs 0 (reply_code reply.Done)) (set p.table (reg p.regs 1) None) p.status p.sent lawful
-        (length-set p.regs.r 0 (reply_code reply.Done))
-        (All-set SlotIsLawful p.table (reg p.regs 1) None tt lawful.links)
-        (length-set p.table (reg p.regs 1) None)
-        lawful.status;
+          changed p (setting p.regs 0 (reply_code reply.Done)) (set p.table (reg p.regs 1) None) p.status p.sent lawful
+          (length-set p.regs.r 0 (reply_code reply.Done))
+          (All-set SlotIsLawful p.table (reg p.regs 1) None tt lawful.links)
+          (length-set p.table (reg p.regs 1) None)
+          lawful.status;
     }
 
 -- the enclosed links are lawful, and not more than the slots
@@ -174,27 +172,28 @@ sends_lawfully here p None machine lawful link = replied_lawfully reply.NoLink p
 sends_lawfully here p (Some l) machine lawful link =
     unless_lawfully (first_failed (send_refusals (plain_process p))) p (record { called = called.Sent (message_over here p l); process = after_send p }) lawful
     (λ e.
-     let m : IsSendable (plain_process p) = send_passed (plain_process p) e in
-     let t : IsTableOf p.table (emptied p.table (reg p.regs 1 ∷ listed p)) = emptied_lawfully p.table (reg p.regs 1 ∷ listed p) lawful.links in
-     record {
-       called = record {
-         from = lawful.home;
-         answer = refl;
-         to = link.link.addr;
-         sender = record { home = lawful.home; at = omega arith };
-         what =
-           (link.link.channel,
-           omega (arith, m.body, take_most (reg p.regs 3) (drop (reg p.regs 2) p.memory)),
-           omega (arith, m.list, enclosed_most p.table (listed p), take_most (reg p.regs 4) (drop (reg p.regs 5) p.memory)),
-           enclosed_lawfully p.table (listed p) lawful.links);
-       };
-       process =
-         changed p (setting p.regs 0 (reply_code reply.Done)) (emptied p.table (reg p.regs 1 ∷ listed p)) p.status (p.sent + 1) lawful
-         (length-set p.regs.r 0 (reply_code reply.Done))
-         t.links
-         t.length
-         lawful.status;
-     })
+    let m : IsSendable (plain_process p) = send_passed (plain_process p) e in
+    let t : IsTableOf p.table (emptied p.table (reg p.regs 1 ∷ listed p)) = emptied_lawfully p.table (reg p.regs 1 ∷ listed p) lawful.links in
+    record {
+      called = record {
+        from = lawful.home;
+        answer = refl;
+        to = link.link.addr;
+        sender = record { home = lawful.home; at = omega arith };
+        what = (
+          link.link.channel,
+          omega (arith, m.body, take_most (reg p.regs 3) (drop (reg p.regs 2) p.memory)),
+          omega (arith, m.list, enclosed_most p.table (listed p), take_most (reg p.regs 4) (drop (reg p.regs 5) p.memory)),
+          enclosed_lawfully p.table (listed p) lawful.links,
+        );
+      };
+      process =
+          changed p (setting p.regs 0 (reply_code reply.Done)) (emptied p.table (reg p.regs 1 ∷ listed p)) p.status (p.sent + 1) lawful
+          (length-set p.regs.r 0 (reply_code reply.Done))
+          t.links
+          t.length
+          lawful.status;
+    })
 
 inside : (p : PlainProcess) (base len : ℕ) → is_outside p base len ≡ false → base + len ≤ length p.memory
 inside p base len e = grind (arith, nat_tests)
@@ -205,12 +204,12 @@ waits_lawfully p lawful =
     (record { called = called.Waits; process = record p { status = status.Waiting (reg p.regs 1) (reg p.regs 2) (reg p.regs 3) } })
     (replied_lawfully reply.BadRange p lawful)
     (λ e.
-     record {
-       called = tt;
-       process =
-         changed p p.regs p.table (status.Waiting (reg p.regs 1) (reg p.regs 2) (reg p.regs 3)) p.sent lawful refl lawful.links refl
-         (inside (plain_process p) (reg p.regs 2) (reg p.regs 3) e);
-     })
+    record {
+      called = tt;
+      process =
+          changed p p.regs p.table (status.Waiting (reg p.regs 1) (reg p.regs 2) (reg p.regs 3)) p.sent lawful refl lawful.links refl
+          (inside (plain_process p) (reg p.regs 2) (reg p.regs 3) e);
+    })
 
 -- what MOVE's refusals leave
 record IsMovable (p : PlainProcess) (len : ℕ) : Type 0 where
@@ -231,8 +230,8 @@ moves_lawfully : (here : ℕ) (p : Process) (l : Link) (dir : Direction) → her
 moves_lawfully here p l dir machine lawful link m =
     if_lawfully (reg p.regs 5 == 0) (replied reply.Done p) (begins here p (whole p l dir)) (replied_lawfully reply.Done p lawful)
     (λ e.
-     begins_lawfully here p (whole p l dir) machine lawful
-     (record { owner = link.link.addr; some = some_left (reg p.regs 5) e; area = omega (arith, link.link.area, m.area); own = m.own }))
+    begins_lawfully here p (whole p l dir) machine lawful
+    (record { owner = link.link.addr; some = some_left (reg p.regs 5) e; area = omega (arith, link.link.area, m.area); own = m.own }))
 
 over_lawfully : (here : ℕ) (p : Process) (l : Link) (o : Option Direction) → here < 16 → IsLawfulProcess p → IsLawfulEnclosed l → IsLawfulDone (moves_over here p l o)
 over_lawfully here p l None machine lawful link = replied_lawfully reply.BadKind p lawful

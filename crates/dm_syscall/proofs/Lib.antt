@@ -1,2 +1,4 @@
 pub mod PlainCalls
 pub mod LawfulCalls
+pub mod Receives
+pub mod Completes

@@ -1,5 +1,5 @@
 -- Each call, without places, is that of the kernel without machines.
-use Rattle.std.proofs.Common.{◌≡◌, ◌∙◌, ℕ, zero, suc, ◌+◌, ◌<◌, Bool, true, false, ◌==◌, List, [], ◌∷◌, length, map, Some, None, refl, ap, sym, arith, if◌then◌else◌}
+use Rattle.std.proofs.Common.{◌≡◌, ◌∙◌, ℕ, ◌+◌, Bool, true, false, ◌==◌, List, [], ◌∷◌, map, Some, None, refl, ap, sym, arith, if◌then◌else◌}
 use Rattle.std.specs.List.{cons_option, position_or_len}
 use Rattle.std.specs.Prelude.{take, drop}
 use Rattle.std.proofs.Math.ListN.{set, get_or-map}
@@ -10,7 +10,6 @@ use Rattle.std.specs.Option.{is_none}
 use Rattle.dm_link.specs.declared.Link.{Link}
 use Rattle.dm_link.specs.Plain.{PlainLink, plain_link}
 use Rattle.dm_linktable.specs.Slots.{first_empty, link_at, plain_slot}
-use Rattle.dm_message.specs.declared.Message.{Message}
 use Rattle.dm_message.specs.Plain as what
 use Rattle.dm_process.specs.declared.process.Process.{Process}
 use Rattle.dm_process.specs.declared.process.Direction.{Direction}
@@ -25,11 +24,10 @@ use Rattle.dm_onekernel.specs.Refusals.{first_failed}
 use Rattle.dm_onekernel.specs.Calls as kernel
 use Rattle.dm_onekernel.specs.Pieces as pieces
 use Rattle.dm_onekernel.specs.Calls.{CallNumber, Exit, Out, Make, Copy, Drop, Send, Receive, Move, Unknown, call_number, holds_reply, is_outside, is_reply, make_refusals, move_refusals, send_refusals, without_replies}
-use Rattle.dm_datamove.specs.declared.Rest.{Rest}
 use Rattle.dm_syscall.specs.declared.Called.{Called}
 use Rattle.dm_syscall.specs.declared.Called.TheVariants as called
 use Rattle.dm_syscall.specs.Sends.{emptied, links_in}
-use Rattle.dm_syscall.specs.Calls.{Done, after_send, begins, calls, copies, does_call, drops, listed, makes, message_over, moves, moves_bytes, moves_over, own_link, puts_link, replied, sends, unless_refused, waits, whole}
+use Rattle.dm_syscall.specs.Calls.{Done, after_send, begins, calls, copies, does_call, drops, listed, makes, message_over, moves, moves_bytes, moves_over, own_link, puts_link, sends, unless_refused, waits, whole}
 use Rattle.dm_syscall.specs.Plainly.{plain_called}
 
 -- what a call comes to, without places
@@ -102,7 +100,7 @@ emptied_plainly table [] = refl
 emptied_plainly table (s ∷ ss) =
     let t : List (Option Link) = if holds_reply (plain_slot (link_at table s)) then set table s None else table in
     let e : (if holds_reply (link_at (map plain_slot table) s) then set (map plain_slot table) s None else map plain_slot table) ≡ map plain_slot t =
-        ap (λ o. if holds_reply o then set (map plain_slot table) s None else map plain_slot table) (slot_at table s) ∙ if_set (holds_reply (plain_slot (link_at table s))) table s
+    ap (λ o. if holds_reply o then set (map plain_slot table) s None else map plain_slot table) (slot_at table s) ∙ if_set (holds_reply (plain_slot (link_at table s))) table s
     in
     emptied_plainly t ss ∙ ap (λ t. without_replies t ss) (sym e)
 

@@ -1,6 +1,6 @@
 -- What each call does to a process with places. Which refusal comes doesn't depend on places: it is that of the kernel
 -- without machines.
-use Rattle.std.specs.Prelude.{ℕ, ◌+◌, false, ◌==◌, if◌then◌else◌, List, ◌∷◌, length, take, drop, slice_set}
+use Rattle.std.specs.Prelude.{ℕ, ◌+◌, false, ◌==◌, if◌then◌else◌, List, ◌∷◌, take, drop, slice_set}
 use Rattle.std.specs.declared.option.Option.{Option}
 use Rattle.std.specs.declared.option.Option.TheVariants.{None, Some}
 use Rattle.dm_link.specs.declared.Link.{Link}

@@ -6,10 +6,10 @@ ghost use Rattle.dm_onekernel.specs.Plain.{plain_process};
 ghost use Rattle.dm_syscall.specs.Calls.{calls, outputs, replied, waits};
 ghost use Rattle.dm_syscall.specs.Plainly.{IsLawfulCalled, plain_called};
 
+use crate::Called;
 use crate::links::{copy, drop_link, make};
 use crate::send::send;
 use crate::transfer::transfer;
-use crate::Called;
 use dm_onekernel::{Reply, Why};
 use dm_process::{Process, Status};
 use dm_regs::{Cells, Memory};

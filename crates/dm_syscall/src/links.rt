@@ -7,8 +7,8 @@ ghost use Rattle.dm_onekernel.specs.PlainProcess.{reg};
 ghost use Rattle.dm_onekernel.specs.Refusals.{first_failed};
 ghost use Rattle.dm_syscall.specs.Calls.{copies, drops, makes, own_link, puts_link};
 
-use crate::calls::{ends_outside, reply};
 use crate::Called;
+use crate::calls::{ends_outside, reply};
 use dm_datamove::address_of;
 use dm_link::{Area, Kind, Link};
 use dm_linktable::Table;
@@ -57,11 +57,7 @@ fn has_flag(flag: u32, flags: u32) -> bool
 fn kind_of_flag(reply: bool) -> Kind
     ensures { result ≡ kind_of_flag reply }
 {
-    if reply {
-        Kind::Reply
-    } else {
-        Kind::General
-    }
+    if reply { Kind::Reply } else { Kind::General }
 }
 
 /// Makes a link to the process itself, on machine `here`: code r1, channel r2, flags r3, an area of r5 bytes at r4.

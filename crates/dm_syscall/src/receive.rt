@@ -1,9 +1,9 @@
 //! How a receive ends.
-ghost use Rattle.std.specs.Prelude.{◌≡◌, ◌+◌, ◌≤◌, ◌<◌, None, Some, count_by, false, if◌then◌else◌, length, nat_lt, slice_get};
+ghost use Rattle.std.specs.Prelude.{◌≡◌, ◌+◌, ◌≤◌, ◌<◌, None, Some, count_by, false, if◌then◌else◌, length, map, nat_lt, slice_get};
 ghost use Rattle.dm_link.specs.Plain.{plain_link};
 ghost use Rattle.dm_message.specs.Plain.{plain_message};
 ghost use Rattle.std.specs.Option.{is_none};
-ghost use Rattle.dm_linktable.specs.Slots.{first_empty};
+ghost use Rattle.dm_linktable.specs.Slots.{first_empty, plain_slot};
 ghost use Rattle.dm_onekernel.specs.declared.label.Reply.TheVariants as reply;
 ghost use Rattle.dm_onekernel.specs.Options.{bind};
 ghost use Rattle.dm_onekernel.specs.Plain.{plain_process};
@@ -83,8 +83,9 @@ fn complete(process: &mut Process, place: usize, base: u32, cap: u32) -> Complet
 }
 
 /// Why a message isn't received.
+#[tactic(auto, using(crate::proofs::Receives::free_plainly))]
 fn receive_refusal(table: &Table, cap: u32, body: &[u8], links: &[Link]) -> Option<Reply>
-    ensures { result ≡ (if nat_lt cap (length body.now) then Some reply.TooLong else if nat_lt (count_by is_none table.now) (length links.now) then Some reply.TableFull else None) }
+    ensures { result ≡ (if nat_lt cap (length body.now) then Some reply.TooLong else if nat_lt (count_by is_none (map plain_slot table.now)) (length (map plain_link links.now)) then Some reply.TableFull else None) }
 {
     if (cap as usize) < body.len() {
         Some(Reply::TooLong)

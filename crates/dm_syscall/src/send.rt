@@ -9,9 +9,9 @@ ghost use Rattle.dm_onekernel.specs.Refusals.{first_failed};
 ghost use Rattle.dm_syscall.specs.Calls.{after_send, listed, message_over, sends};
 ghost use Rattle.dm_syscall.specs.Sends.{emptied, links_in};
 
+use crate::Called;
 use crate::calls::{ends_outside, reply};
 use crate::links::{empty_slot, link_in};
-use crate::Called;
 use dm_datamove::{address_of, body_at};
 use dm_link::{Kind, Link};
 use dm_linktable::Table;
@@ -53,7 +53,8 @@ fn send_refusal(process: &Process) -> Option<Reply>
     let [_, carrier, base, len, count, list, ..] = process.regs.r;
     if len > most_body(&process.table) || count > MOST_LINKS {
         Some(Reply::TooLong)
-    } else if ends_outside(&process.memory, base, len) || ends_outside(&process.memory, list, count)
+    } else if ends_outside(&process.memory, base, len)
+        || ends_outside(&process.memory, list, count)
     {
         Some(Reply::BadRange)
     } else {
@@ -65,11 +66,7 @@ fn send_refusal(process: &Process) -> Option<Reply>
 fn most_body(table: &Table) -> u32
     ensures { result ≡ (if length table.now == 32 then 64 else 256) }
 {
-    if table.cap() == 32 {
-        64
-    } else {
-        256
-    }
+    if table.cap() == 32 { 64 } else { 256 }
 }
 
 /// The slots whose links are to be enclosed.

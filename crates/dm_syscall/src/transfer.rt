@@ -11,10 +11,10 @@ ghost use Rattle.dm_process.specs.Directions.{direction_numbered};
 ghost use Rattle.dm_process.specs.Lawful.{IsLawfulProcess};
 ghost use Rattle.dm_syscall.specs.Calls.{moves, moves_bytes, moves_over};
 
+use crate::Called;
 use crate::calls::{ends_outside, reply};
 use crate::links::link_in;
-use crate::Called;
-use dm_datamove::{request, Rest};
+use dm_datamove::{Rest, request};
 use dm_link::{Area, Link};
 use dm_onekernel::Reply;
 use dm_process::{Direction, Process};

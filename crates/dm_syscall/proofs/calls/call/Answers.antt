@@ -1,8 +1,5 @@
 -- What follows from the exact call.
-use Rattle.std.proofs.Common.{ap, sym}
-use Rattle.dm_process.specs.Lawful.{IsLawfulProcess}
 use Rattle.dm_syscall.specs.Calls.{calls}
-use Rattle.dm_syscall.specs.Plainly.{IsLawfulCalled}
 use Rattle.dm_syscall.proofs.PlainCalls.{call_plainly}
 use Rattle.dm_syscall.proofs.LawfulCalls.{IsLawfulDone, call_lawfully}
 use Rattle.dm_syscall.proofs.calls.call.Goals as goal
