@@ -140,7 +140,7 @@ enclosed_most table [] = omega arith
 enclosed_most table (s ∷ ss) = omega (arith, cons_most (link_at table s) (links_in table ss), enclosed_most table ss)
 
 -- the table is lawful after a send
-record IsTableOf (old new : List (Option Link)) : Type 0 where
+pub record IsTableOf (old new : List (Option Link)) : Type 0 where
   pub links : All SlotIsLawful new
   pub length : length new ≡ length old
 
@@ -256,3 +256,60 @@ does_lawfully here p Unknown machine lawful = record { called = tt; process = la
 
 pub call_lawfully : (here : ℕ) (p : Process) (n : ℕ) → here < 16 → IsLawfulProcess p → IsLawfulDone (calls here p n)
 call_lawfully here p n machine lawful = does_lawfully here p (call_number n) machine lawful
+
+-- a call sends at most one message
+unless_counts : (o : Option Reply) (p : Process) (d : Done) → d.process.sent ≤ p.sent + 1 → (unless_refused o p d).process.sent ≤ p.sent + 1
+unless_counts None p d h = h
+unless_counts (Some c) p d h = omega arith
+
+if_counts : (b : Bool) (p : Process) (d e : Done) → d.process.sent ≤ p.sent + 1 → e.process.sent ≤ p.sent + 1 → (if b then d else e).process.sent ≤ p.sent + 1
+if_counts true p d e f g = f
+if_counts false p d e f g = g
+
+puts_counts : (p : Process) (l : Link) (o : Option ℕ) → (puts_link p l o).process.sent ≤ p.sent + 1
+puts_counts p l None = omega arith
+puts_counts p l (Some slot) = omega arith
+
+copies_counts : (p : Process) (o : Option Link) → (copies p o).process.sent ≤ p.sent + 1
+copies_counts p None = omega arith
+copies_counts p (Some l) = if_counts (is_reply l.kind) p (replied reply.NotCopyable p) (puts_link p l (first_empty p.table)) (omega arith) (puts_counts p l (first_empty p.table))
+
+drops_counts : (p : Process) (o : Option Link) → (drops p o).process.sent ≤ p.sent + 1
+drops_counts p None = omega arith
+drops_counts p (Some l) = omega arith
+
+sends_counts : (here : ℕ) (p : Process) (o : Option Link) → (sends here p o).process.sent ≤ p.sent + 1
+sends_counts here p None = omega arith
+sends_counts here p (Some l) =
+    unless_counts (first_failed (send_refusals (plain_process p))) p (record { called = called.Sent (message_over here p l); process = after_send p }) (omega arith)
+
+waits_counts : (p : Process) → (waits p).process.sent ≤ p.sent + 1
+waits_counts p =
+    if_counts (is_outside (plain_process p) (reg p.regs 2) (reg p.regs 3)) p (replied reply.BadRange p)
+    (record { called = called.Waits; process = record p { status = status.Waiting (reg p.regs 1) (reg p.regs 2) (reg p.regs 3) } })
+    (omega arith)
+    (omega arith)
+
+over_counts : (here : ℕ) (p : Process) (l : Link) (o : Option Direction) → (moves_over here p l o).process.sent ≤ p.sent + 1
+over_counts here p l None = omega arith
+over_counts here p l (Some dir) =
+    unless_counts (first_failed (move_refusals (plain_process p) (plain_link l) dir)) p (moves_bytes here p l dir)
+    (if_counts (reg p.regs 5 == 0) p (replied reply.Done p) (begins here p (whole p l dir)) (omega arith) (omega arith))
+
+moves_counts : (here : ℕ) (p : Process) (o : Option Link) → (moves here p o).process.sent ≤ p.sent + 1
+moves_counts here p None = omega arith
+moves_counts here p (Some l) = over_counts here p l (direction_numbered (reg p.regs 2))
+
+does_counts : (here : ℕ) (p : Process) (k : CallNumber) → (does_call here p k).process.sent ≤ p.sent + 1
+does_counts here p Exit = omega arith
+does_counts here p Out = omega arith
+does_counts here p Make = unless_counts (first_failed (make_refusals (plain_process p))) p (puts_link p (own_link here p) (first_empty p.table)) (puts_counts p (own_link here p) (first_empty p.table))
+does_counts here p Copy = copies_counts p (link_at p.table (reg p.regs 1))
+does_counts here p Drop = drops_counts p (link_at p.table (reg p.regs 1))
+does_counts here p Send = sends_counts here p (link_at p.table (reg p.regs 1))
+does_counts here p Receive = waits_counts p
+does_counts here p Move = moves_counts here p (link_at p.table (reg p.regs 1))
+does_counts here p Unknown = omega arith
+
+pub call_counts : (here : ℕ) (p : Process) (n : ℕ) → (calls here p n).process.sent ≤ p.sent + 1
+call_counts here p n = does_counts here p (call_number n)

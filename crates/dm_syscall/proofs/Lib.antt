@@ -2,3 +2,4 @@ pub mod PlainCalls
 pub mod LawfulCalls
 pub mod Receives
 pub mod Completes
+pub mod Tested

@@ -1,5 +1,5 @@
 //! The calls by number.
-ghost use Rattle.std.specs.Prelude.{◌≡◌, ◌+◌, ◌<◌, Some, length, nat_lt};
+ghost use Rattle.std.specs.Prelude.{◌≡◌, ◌+◌, ◌≤◌, ◌<◌, Some, length, nat_lt};
 ghost use Rattle.dm_process.specs.Lawful.{IsLawfulProcess};
 ghost use Rattle.dm_onekernel.specs.Calls as kernel;
 ghost use Rattle.dm_onekernel.specs.Plain.{plain_process};
@@ -41,6 +41,7 @@ pub fn call(process: &mut Process, number: u8, here: u8) -> Called
     ensures plain { plain_called result process.new ≡ Some (kernel.call process.old.pid (plain_process process.old) number) }
     ensures lawful { IsLawfulProcess process.new }
     ensures lawful_message { IsLawfulCalled result }
+    ensures counted { process.new.sent ≤ process.old.sent + 1 }
 {
     dispatch(process, number, here)
 }

@@ -1,7 +1,7 @@
 -- What follows from the exact call.
 use Rattle.dm_syscall.specs.Calls.{calls}
 use Rattle.dm_syscall.proofs.PlainCalls.{call_plainly}
-use Rattle.dm_syscall.proofs.LawfulCalls.{IsLawfulDone, call_lawfully}
+use Rattle.dm_syscall.proofs.LawfulCalls.{IsLawfulDone, call_counts, call_lawfully}
 use Rattle.dm_syscall.proofs.calls.call.Goals as goal
 
 pub returns-clause-plain : goal.returns-clause-plain
@@ -16,3 +16,6 @@ pub returns-clause-lawful_message : goal.returns-clause-lawful_message
 returns-clause-lawful_message c =
     let d : IsLawfulDone (calls c.args.here c.args.process.now c.args.number) = call_lawfully c.args.here c.args.process.now c.args.number c.requires.here c.requires.lawful in
     rw c.dispatch.ensures.called d.called
+
+pub returns-clause-counted : goal.returns-clause-counted
+returns-clause-counted c = rw c.dispatch.ensures.process (call_counts c.args.here c.args.process.now c.args.number)
