@@ -1,5 +1,5 @@
 -- The processes that the tests begin with are lawful.
-use Rattle.std.proofs.Common.{◌≡◌, ◌∙◌, ℕ, zero, suc, ◌+◌, ◌*◌, ◌<◌, ◌≤◌, inl, true, List, [], ◌∷◌, ◌++◌, length, Some, None, refl, ap, sym, arith, replicate, slice_get}
+use Rattle.std.proofs.Common.{◌≡◌, ℕ, ◌≤◌, true, List, [], ◌∷◌, ◌++◌, length, Some, refl, arith, slice_get}
 use Rattle.std.specs.List.{All}
 use Rattle.std.proofs.Math.ListN.{set, length-set}
 use Rattle.std.proofs.lemmas.List.Elements.{All-append, All-cons, All-nil, All-set}
@@ -8,13 +8,11 @@ use Rattle.std.specs.declared.result.Result.{Result}
 use Rattle.std.specs.declared.result.Result.TheVariants.{Ok, Err}
 use Rattle.std.specs.Result.{MatchResult}
 use Rattle.dm_link.specs.declared.Link.{Link}
-use Rattle.dm_link.specs.declared.Pid.{Pid}
 use Rattle.dm_link.specs.Lawful.{IsLawfulEnclosed}
 use Rattle.dm_message.specs.declared.Message.{Message}
 use Rattle.dm_message.specs.Lawful.{IsLawfulMessage}
 use Rattle.dm_process.specs.declared.process.Process.{Process}
 use Rattle.dm_process.specs.declared.process.Status.TheVariants as status
-use Rattle.dm_process.specs.Begun.{begun}
 use Rattle.dm_process.specs.Lawful.{IsLawfulProcess, SlotIsLawful}
 use Rattle.dm_process.specs.Mail.{is_on}
 use Rattle.dm_syscall.specs.Completing.{IsAwaited}

@@ -142,9 +142,9 @@ fn reply_of(called: &Called) -> Option<Reply> {
     }
 }
 
+/// Each by a process that has a link to 0.4 in slot 0, and one to itself, a reply link, in slot 1.
 #[test]
 fn refusals_in_order(rt: HostRuntime) -> Result<(), Fail> {
-    let mut process = process(rt.alloc(), &[1], 1)?;
     let table = [
         (3, [0, 9, 0, 1, 0, 0], Some(Reply::Done)),
         (3, [0, 9, 32, 8, 0, 0], Some(Reply::BadKind)),
@@ -156,14 +156,15 @@ fn refusals_in_order(rt: HostRuntime) -> Result<(), Fail> {
         (6, [0, 0, 449, 64, 1, 0], Some(Reply::BadRange)),
         (6, [0, 1, 0, 0, 1, 0], Some(Reply::BadKind)),
         (6, [0, 0, 0, 0, 1, 0], None),
-        (6, [0, 1, 0, 0, 0, 0], Some(Reply::NoLink)),
         (8, [0, 0, 2, 0, 0, 501], Some(Reply::BadKind)),
         (8, [0, 0, 1, 0, 0, 501], Some(Reply::NoRight)),
         (8, [0, 0, 0, 0, 0, 501], Some(Reply::BadRange)),
         (8, [0, 0, 0, 500, 512, 0], Some(Reply::Done)),
     ];
     for (number, regs, reply) in table {
-        let called = call_with(&mut process, number, regs);
+        let mut caller = process(rt.alloc(), &[1], 1)?;
+        call_with(&mut caller, 3, [0, 9, 0, 1, 0, 0]);
+        let called = call_with(&mut caller, number, regs);
         assert_eq!(rt; reply_of(&called), reply, "call {number}");
     }
     Ok(())

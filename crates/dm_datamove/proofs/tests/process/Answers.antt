@@ -1,5 +1,5 @@
 -- A process that hasn't executed anything yet is lawful.
-use Rattle.std.proofs.Common.{◌≡◌, ◌++◌, ◌-◌, ◌*◌, List, ℕ, length, replicate, refl, arith, None}
+use Rattle.std.proofs.Common.{◌≡◌, ◌++◌, ◌-◌, ◌*◌, List, ℕ, length, replicate, refl, arith}
 use Rattle.std.proofs.lemmas.Grind.{common_steps}
 use Rattle.std.specs.List.{All}
 use Rattle.dm_process.specs.Lawful.{SlotIsLawful}
