@@ -7,7 +7,6 @@ ghost use Rattle.dm_process.specs.Lawful.{IsLawfulProcess};
 ghost use Rattle.dm_onekernel.specs.declared.label.Reply.TheVariants as reply;
 ghost use Rattle.dm_datamove.specs.declared.Landed.TheVariants as landed;
 ghost use Rattle.dm_datamove.specs.Landing.{IsAnswerOf, IsAwaited, IsLawfulLanded, done, goes_on, landing, lands_what, plain_landed, plainly_landed};
-ghost use Rattle.dm_datamove.specs.Requests.{IsRest};
 
 use crate::requests::{piece_of, send_request};
 use crate::{Landed, Rest};

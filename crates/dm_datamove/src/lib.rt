@@ -1,7 +1,7 @@
 //! Data moves, piece by piece: requests, their service where the area is, and their landing. None of it takes memory.
 #![tactic(auto)]
 
-ghost use Rattle.std.specs.Prelude.{◌≡◌, ◌+◌, ◌≤◌, ◌<◌, Some, drop, length, take};
+ghost use Rattle.std.specs.Prelude.{◌≡◌, ◌+◌, ◌≤◌, drop, length, take};
 ghost use Rattle.dm_datamove.specs.Requests.{address_of};
 
 mod landing;

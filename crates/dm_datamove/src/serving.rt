@@ -1,5 +1,5 @@
 //! The service of requests where the area is.
-ghost use Rattle.std.specs.Prelude.{◌≡◌, ◌≤◌, ◌<◌, Some, length};
+ghost use Rattle.std.specs.Prelude.{◌≡◌, ◌<◌, Some, length};
 ghost use Rattle.dm_message.specs.Lawful.{IsLawfulMessage, IsLawfulWhat};
 ghost use Rattle.dm_message.specs.Plain.{plain_message};
 ghost use Rattle.dm_process.specs.Lawful.{IsLawfulProcess};

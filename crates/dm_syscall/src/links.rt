@@ -1,5 +1,5 @@
 //! Calls on the links of a process: MAKE, COPY, DROP.
-ghost use Rattle.std.specs.Prelude.{◌≡◌, ◌≤◌, None, Some, slice_set};
+ghost use Rattle.std.specs.Prelude.{◌≡◌, ◌≤◌, None, slice_set};
 ghost use Rattle.dm_linktable.specs.Slots.{first_empty, link_at};
 ghost use Rattle.dm_onekernel.specs.Calls.{has_flag, kind_of_flag, make_refusals};
 ghost use Rattle.dm_onekernel.specs.Plain.{plain_process};

@@ -7,10 +7,9 @@ ghost use Rattle.dm_linktable.specs.Slots.{first_empty, plain_slot};
 ghost use Rattle.dm_onekernel.specs.declared.label.Reply.TheVariants as reply;
 ghost use Rattle.dm_onekernel.specs.Options.{bind};
 ghost use Rattle.dm_onekernel.specs.Plain.{plain_process};
-ghost use Rattle.dm_onekernel.specs.Receiving.{completes_with, receive_refusals, received_regs};
-ghost use Rattle.dm_onekernel.specs.Refusals.{first_failed};
+ghost use Rattle.dm_onekernel.specs.Receiving.{completes_with, received_regs};
 ghost use Rattle.dm_process.specs.Lawful.{IsLawfulProcess};
-ghost use Rattle.dm_syscall.specs.Completing.{IsAwaited, completes, completes_unless, completion, place_into, place_links, plain_completed, receives, refusal};
+ghost use Rattle.dm_syscall.specs.Completing.{IsAwaited, completes, completion, place_into, place_links, plain_completed, refusal};
 
 use crate::Completed;
 use dm_link::Link;

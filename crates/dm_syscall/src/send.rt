@@ -2,7 +2,7 @@
 ghost use Rattle.std.specs.Prelude.{◌≡◌, ◌+◌, ◌≤◌, ◌<◌, ◌∷◌, [], ◌==◌, IfNone, None, Some, if◌then◌else◌, length, map};
 ghost use Rattle.dm_linktable.specs.Slots.{link_at, plain_slot};
 ghost use Rattle.dm_onekernel.specs.declared.label.Reply.TheVariants as reply;
-ghost use Rattle.dm_onekernel.specs.Calls.{any_empty, holds_reply, is_among, most_body, reply_named_twice, send_refusals};
+ghost use Rattle.dm_onekernel.specs.Calls.{any_empty, holds_reply, is_among, reply_named_twice, send_refusals};
 ghost use Rattle.dm_onekernel.specs.Plain.{plain_process};
 ghost use Rattle.dm_onekernel.specs.PlainProcess.{reg};
 ghost use Rattle.dm_onekernel.specs.Refusals.{first_failed};
