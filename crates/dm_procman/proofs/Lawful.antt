@@ -1,0 +1,250 @@
+-- What the manager keeps and sends is lawful.
+use Rattle.std.proofs.Common.{◌≡◌, ◌≤◌, ℕ, zero, suc, ◌+◌, ◌*◌, Bool, true, false, ◌==◌, ◌&&◌, ◌||◌, nat_lt, nat_le, if◌then◌else◌, List, [], ◌∷◌, ◌++◌, length, map, slice_get, refl, sym, subst, ap, ◌∙◌, arith}
+use Rattle.std.proofs.lemmas.Grind.{common_steps}
+use Rattle.std.proofs.lemmas.List.Elements.{All-map, All-push}
+use Rattle.std.specs.List.{All}
+use Rattle.std.specs.Option.{IfSome}
+use Rattle.std.specs.Prelude.{IfOk, OnErr}
+use Rattle.std.specs.declared.option.Option.{Option}
+use Rattle.std.specs.declared.option.Option.TheVariants.{None, Some}
+use Rattle.std.specs.declared.result.Result.{Result}
+use Rattle.std.specs.declared.result.Result.TheVariants.{Ok, Err}
+use Rattle.dm_link.specs.declared.Pid.{Pid}
+use Rattle.dm_link.specs.declared.Addr.{Addr}
+use Rattle.dm_link.specs.declared.Link.{Link}
+use Rattle.dm_link.specs.Lawful.{IsMachine, IsLawfulAddr, IsLawfulEnclosed}
+use Rattle.dm_link.specs.Names.{pid_eq}
+use Rattle.dm_link.specs.Places.{is_behind, relocated, retargeted, retargeted_link}
+use Rattle.dm_memory.specs.declared.NoMemory.{NoMemory}
+use Rattle.dm_message.specs.declared.Message.{Message}
+use Rattle.dm_message.specs.declared.MsgId.{MsgId}
+use Rattle.dm_message.specs.declared.What.{What}
+use Rattle.dm_message.specs.declared.What.TheVariants as what
+use Rattle.dm_message.specs.Kinds.{kind_of}
+use Rattle.dm_message.specs.Lawful.{IsLawfulMessage, IsLawfulWhat, is_answer}
+use Rattle.dm_onekernel.specs.declared.boot.Boot.{Boot}
+use Rattle.dm_onekernel.specs.declared.boot.BootProcess.{BootProcess}
+use Rattle.dm_onekernel.specs.Boot.{IsValid, manager, process_is_valid, processes_are_valid, starting_at, switchboard}
+use Rattle.dm_procman.specs.declared.moving.MoveNo.TheVariants as no
+use Rattle.dm_procman.specs.declared.pending.Pending.{Pending}
+use Rattle.dm_procman.specs.Lawful.{IsLawfulManager, IsLawfulPending}
+use Rattle.dm_procman.specs.Managing.{Managing, at_home, child_of, retargeted_manager, retargeted_pending, starting}
+use Rattle.dm_procman.specs.Making.{answer_over, control_link, kernel, message_to}
+use Rattle.dm_procman.specs.Moving.{child_named, moves_child, tells_to_move}
+use Rattle.dm_procman.specs.Taking.{Taken, answers, asks_for, bad_request, child_numbered, controls, controls_child, pending_numbered, requests, sends, settled, takes, takes_created, takes_no_room, takes_user, wants_child, with_pending, without_pending}
+use Rattle.dm_procman.proofs.Hearing.{IsHeard, IsUser, IsCreated, IsNoRoom}
+
+all_head : {X : Type 0} (P : X → Type 0) (x : X) (xs : List X) → All P (x ∷ xs) → P x
+all_head P x xs h = h 0 x (omega arith)
+
+all_tail : {X : Type 0} (P : X → Type 0) (x : X) (xs : List X) → All P (x ∷ xs) → All P xs
+all_tail P x xs h = λ k d lt. h (suc k) d (grind (arith, common_steps, lt))
+
+all_none : {X : Type 0} (P : X → Type 0) → All P []
+all_none P = λ k d lt. absurd (omega (arith, lt))
+
+all_front : {X : Type 0} (P : X → Type 0) (x : X) (xs : List X) → P x → All P xs → All P (x ∷ xs)
+all_front P x xs h t zero d lt = h
+all_front P x xs h t (suc k) d lt = t k d (grind (arith, common_steps, lt))
+
+abbrev IsLawfulTaken : Taken → Type 0
+IsLawfulTaken t = IsLawfulManager t.manager × IfSome t.message IsLawfulMessage
+
+-- what holds of both choices holds of the choice
+either : {A : Type 0} (P : A → Type 0) (b : Bool) (x y : A) → (b ≡ true → P x) → P y → P (if b then x else y)
+either P true x y p q = p refl
+either P false x y p q = q
+
+message_lawful : (n : ℕ) (to : Addr) (w : What) → IsLawfulAddr to → false ≡ is_answer (kind_of w) → IsLawfulWhat w → IsLawfulMessage (message_to n to w)
+message_lawful n to w a k l = record { from = omega arith; answer = k; to = a; sender = record { home = omega arith; at = omega arith }; what = l }
+
+sends_lawful : (g : Managing) (m : Message) → IsLawfulManager g → IsLawfulMessage m → IsLawfulTaken (sends g m)
+sends_lawful g m l k = (record { children = l.children; pending = l.pending; machines = l.machines }, k)
+
+answers_lawful : (g : Managing) (l : Link) (code : ℕ) (ls : List Link) → IsLawfulManager g → IsLawfulEnclosed l → length ls ≤ 4 → All IsLawfulEnclosed ls → IsLawfulTaken (answers g l code ls)
+answers_lawful g l code ls h e few all = sends_lawful g (answer_over g.sent l code ls) h (message_lawful g.sent l.addr (what.User l.code l.channel (record { items = code ∷ [] }) (record { items = ls })) e.link.addr refl (e.link.channel, omega arith, few, all))
+
+bad_lawful : (g : Managing) (ls : List Link) → IsLawfulManager g → All IsLawfulEnclosed ls → IsLawfulTaken (bad_request g ls)
+bad_lawful g [] h e = (h, tt {0})
+bad_lawful g (l ∷ ls) h e = answers_lawful g l 2 [] h (all_head IsLawfulEnclosed l ls e) (omega arith) (all_none IsLawfulEnclosed)
+
+asks_for_lawful : (g : Managing) (m image : ℕ) (l : Link) (ls : List Link) → IsLawfulManager g → m ≤ 15 → length ls ≤ 3 → All IsLawfulEnclosed (l ∷ ls) → IsLawfulTaken (asks_for g m image l ls)
+asks_for_lawful g m image l ls h lt few e =
+    let r : Pending = record { n = g.sent; answer = l } in
+    sends_lawful (with_pending g r) (message_to g.sent (kernel m) (what.Create image (record { items = ls })))
+    (record { children = h.children; pending = All-push IsLawfulPending g.pending r h.pending (all_head IsLawfulEnclosed l ls e); machines = h.machines })
+    (message_lawful g.sent (kernel m) (what.Create image (record { items = ls })) (record { home = lt; at = lt }) refl (few, all_tail IsLawfulEnclosed l ls e))
+
+machine_within : (m n i j : ℕ) → n ≤ 16 → (nat_lt m n && nat_lt i j) ≡ true → m ≤ 15
+machine_within m n i j le t = grind (arith, common_steps, le, t)
+
+wants_lawful : (g : Managing) (m image : ℕ) (ls : List Link) → IsLawfulManager g → length ls ≤ 4 → All IsLawfulEnclosed ls → IsLawfulTaken (wants_child g m image ls)
+wants_lawful g m image [] h few e = (h, tt {0})
+wants_lawful g m image (l ∷ ls) h few e =
+    either IsLawfulTaken (nat_lt m g.machines && nat_lt image g.images) (asks_for g m image l ls) (bad_request g (l ∷ ls))
+    (λ t. asks_for_lawful g m image l ls h (machine_within m g.machines image g.images h.machines t) (omega (arith, few)) e)
+    (bad_lawful g (l ∷ ls) h e)
+
+requests_lawful : (g : Managing) (body : List ℕ) (ls : List Link) → IsLawfulManager g → length ls ≤ 4 → All IsLawfulEnclosed ls → IsLawfulTaken (requests g body ls)
+requests_lawful g [] ls h few e = bad_lawful g ls h e
+requests_lawful g (a ∷ []) ls h few e = bad_lawful g ls h e
+requests_lawful g (a ∷ b ∷ []) ls h few e = bad_lawful g ls h e
+requests_lawful g (a ∷ b ∷ c ∷ []) ls h few e = bad_lawful g ls h e
+requests_lawful g (a ∷ m ∷ i ∷ j ∷ []) ls h few e =
+    either IsLawfulTaken (a == 1) (wants_child g m (256 * i + j) ls) (bad_request g ls) (λ _. wants_lawful g m (256 * i + j) ls h few e) (bad_lawful g ls h e)
+requests_lawful g (a ∷ b ∷ c ∷ d ∷ x ∷ xs) ls h few e = bad_lawful g ls h e
+
+abbrev control_by : Bool → Bool → Bool → Option What
+control_by b c d = if b then Some what.Stop else if c then Some what.Resume else if d then Some what.Kill else None
+
+control_lawful : (g : Managing) (a : Addr) (b c d : Bool) (ls : List Link) → IsLawfulManager g → IsLawfulAddr a → All IsLawfulEnclosed ls → IsLawfulTaken (controls_child g a (control_by b c d) ls)
+control_lawful g a true c d ls h k e = sends_lawful g (message_to g.sent a what.Stop) h (message_lawful g.sent a what.Stop k refl (tt {0}))
+control_lawful g a false true d ls h k e = sends_lawful g (message_to g.sent a what.Resume) h (message_lawful g.sent a what.Resume k refl (tt {0}))
+control_lawful g a false false true ls h k e = sends_lawful g (message_to g.sent a what.Kill) h (message_lawful g.sent a what.Kill k refl (tt {0}))
+control_lawful g a false false false ls h k e = bad_lawful g ls h e
+
+controls_lawful : (g : Managing) (o : Option Addr) (body : List ℕ) (ls : List Link) → IsLawfulManager g → IfSome o IsLawfulAddr → All IsLawfulEnclosed ls → IsLawfulTaken (controls g o body ls)
+controls_lawful g None [] ls h k e = bad_lawful g ls h e
+controls_lawful g None (a ∷ []) ls h k e = bad_lawful g ls h e
+controls_lawful g None (a ∷ b ∷ bs) ls h k e = bad_lawful g ls h e
+controls_lawful g (Some c) [] ls h k e = bad_lawful g ls h e
+controls_lawful g (Some c) (a ∷ []) ls h k e = control_lawful g c (a == 2) (a == 3) (a == 4) ls h k e
+controls_lawful g (Some c) (a ∷ b ∷ bs) ls h k e = bad_lawful g ls h e
+
+get_lawful : {X : Type 0} (P : X → Type 0) (xs : List X) (n : ℕ) → All P xs → IfSome (slice_get xs n) P
+get_lawful P [] n h = tt {0}
+get_lawful P (x ∷ xs) zero h = all_head P x xs h
+get_lawful P (x ∷ xs) (suc n) h = get_lawful P xs n (all_tail P x xs h)
+
+numbered_lawful : (cs : List Addr) (n : ℕ) → All IsLawfulAddr cs → IfSome (child_numbered cs n) IsLawfulAddr
+numbered_lawful cs zero h = tt {0}
+numbered_lawful cs (suc n) h = get_lawful IsLawfulAddr cs n h
+
+user_lawful : (g : Managing) (code : ℕ) (body : List ℕ) (ls : List Link) → IsLawfulManager g → length ls ≤ 4 → All IsLawfulEnclosed ls → IsLawfulTaken (takes_user g code body ls)
+user_lawful g code body ls h few e =
+    either IsLawfulTaken (code == 0) (requests g body ls) (controls g (child_numbered g.children code) body ls)
+    (λ _. requests_lawful g body ls h few e)
+    (controls_lawful g (child_numbered g.children code) body ls h (numbered_lawful g.children code h.children) e)
+
+pending_lawful : (n : ℕ) (rs : List Pending) → All IsLawfulPending rs → IfSome (pending_numbered n rs) IsLawfulPending
+pending_lawful n [] h = tt {0}
+pending_lawful n (r ∷ rs) h = either (λ o. IfSome o IsLawfulPending) (r.n == n) (Some r) (pending_numbered n rs) (λ _. all_head IsLawfulPending r rs h) (pending_lawful n rs (all_tail IsLawfulPending r rs h))
+
+others_lawful : (n : ℕ) (rs : List Pending) → All IsLawfulPending rs → All IsLawfulPending (without_pending n rs)
+others_lawful n [] h = h
+others_lawful n (r ∷ rs) h =
+    either (All IsLawfulPending) (r.n == n) rs (r ∷ without_pending n rs) (λ _. all_tail IsLawfulPending r rs h)
+    (all_front IsLawfulPending r (without_pending n rs) (all_head IsLawfulPending r rs h) (others_lawful n rs (all_tail IsLawfulPending r rs h)))
+
+settled_lawful : (g : Managing) (n : ℕ) → IsLawfulManager g → IsLawfulManager (settled g n)
+settled_lawful g n h = record { children = h.children; pending = others_lawful n g.pending h.pending; machines = h.machines }
+
+control_link_lawful : (n : ℕ) → IsLawfulEnclosed (control_link n)
+control_link_lawful n = record {
+  link = record { addr = record { home = omega arith; at = omega arith }; channel = omega arith; area = omega arith };
+  not_to_kernel = refl;
+}
+
+created_lawful : (g : Managing) (n : ℕ) (p : Pid) (o : Option Pending) (t : Taken) → takes_created g n p o ≡ Some t → IsLawfulManager g → IsMachine p.home → IfSome o IsLawfulPending → IsLawfulTaken t
+created_lawful g n p None t e h m k = absurd (cc e)
+created_lawful g n p (Some r) t e h m k =
+    let left : Managing = record (settled g n) { children = g.children ++ at_home p ∷ [] } in
+    let control : Link = control_link (length g.children + 1) in
+    let same : answers left r.answer 0 (control ∷ []) ≡ t = cc e in
+    let s = settled_lawful g n h in
+    subst IsLawfulTaken same (answers_lawful left r.answer 0 (control ∷ [])
+    (record { children = All-push IsLawfulAddr g.children (at_home p) h.children (record { home = m; at = m }); pending = s.pending; machines = s.machines })
+    k (omega arith) (all_front IsLawfulEnclosed control [] (control_link_lawful (length g.children + 1)) (all_none IsLawfulEnclosed)))
+
+no_room_lawful : (g : Managing) (n : ℕ) (o : Option Pending) (t : Taken) → takes_no_room g n o ≡ Some t → IsLawfulManager g → IfSome o IsLawfulPending → IsLawfulTaken t
+no_room_lawful g n None t e h k = absurd (cc e)
+no_room_lawful g n (Some r) t e h k =
+    let same : answers (settled g n) r.answer 1 [] ≡ t = cc e in
+    subst IsLawfulTaken same (answers_lawful (settled g n) r.answer 1 [] (settled_lawful g n h) k (omega arith) (all_none IsLawfulEnclosed))
+
+heard_lawful : (g : Managing) (m : Message) (t : Taken) → IsHeard m.what → takes g m.id.n m.what ≡ Some t → IsLawfulManager g → IsLawfulMessage m → IsLawfulTaken t
+heard_lawful g m t (IsUser code channel body links is) e h l =
+    let row : Some (takes_user g code body.items links.items) ≡ Some t = ap (takes g m.id.n) (sym is) ∙ e in
+    let same : takes_user g code body.items links.items ≡ t = cc row in
+    let w = subst IsLawfulWhat is l.what in
+    subst IsLawfulTaken same (user_lawful g code body.items links.items h w.2 w.3)
+heard_lawful g m t (IsCreated p is) e h l = created_lawful g m.id.n p (pending_numbered m.id.n g.pending) t (ap (takes g m.id.n) (sym is) ∙ e) h (subst IsLawfulWhat is l.what) (pending_lawful m.id.n g.pending h.pending)
+heard_lawful g m t (IsNoRoom is) e h l = no_room_lawful g m.id.n (pending_numbered m.id.n g.pending) t (ap (takes g m.id.n) (sym is) ∙ e) h (pending_lawful m.id.n g.pending h.pending)
+
+pub manager_after : (r : Result (Option Message) NoMemory) (old new : Managing) (m : Message) → IsHeard m.what
+    → IfOk r (λ sent. takes old m.id.n m.what ≡ Some (record { manager = new; message = sent })) → OnErr r (new ≡ old)
+    → IsLawfulManager old → IsLawfulMessage m → IsLawfulManager new
+manager_after (Err e) old new m is h same l k = subst IsLawfulManager (sym same) l
+manager_after (Ok sent) old new m is h same l k = (heard_lawful old m (record { manager = new; message = sent }) is h l k).0
+
+pub message_after : (r : Result (Option Message) NoMemory) (old new : Managing) (m : Message) → IsHeard m.what
+    → IfOk r (λ sent. takes old m.id.n m.what ≡ Some (record { manager = new; message = sent }))
+    → IsLawfulManager old → IsLawfulMessage m → IfOk r (λ sent. IfSome sent IsLawfulMessage)
+message_after (Err e) old new m is h l k = h
+message_after (Ok sent) old new m is h l k = (heard_lawful old m (record { manager = new; message = sent }) is h l k).1
+
+-- a manager that is told of another place
+addr_either : (behind : Bool) (at moves : ℕ) (a : Addr) → IsMachine at → IsLawfulAddr a → IsLawfulAddr (if behind then relocated at moves a else a)
+addr_either true at moves a m l = record { home = l.home; at = m }
+addr_either false at moves a m l = l
+
+addr_lawful : (about : Pid) (at moves : ℕ) (a : Addr) → IsMachine at → IsLawfulAddr a → IsLawfulAddr (retargeted about at moves a)
+addr_lawful about at moves a m l = addr_either (is_behind about moves a) at moves a m l
+
+link_lawful : (about : Pid) (at moves : ℕ) (x : Link) → IsMachine at → IsLawfulEnclosed x → IsLawfulEnclosed (retargeted_link about at moves x)
+link_lawful about at moves x m l =
+    record {
+      link = record { addr = addr_lawful about at moves x.addr m l.link.addr; channel = l.link.channel; area = l.link.area };
+      not_to_kernel = l.not_to_kernel;
+    }
+
+pub retargeted_lawful : (about : Pid) (at moves : ℕ) (g : Managing) → IsMachine at → IsLawfulManager g → IsLawfulManager (retargeted_manager about at moves g)
+retargeted_lawful about at moves g m h = record {
+  children = All-map IsLawfulAddr (retargeted about at moves) g.children (λ k d lt. addr_lawful about at moves _ m (h.children k d lt));
+  pending = All-map IsLawfulPending (retargeted_pending about at moves) g.pending (λ k d lt. link_lawful about at moves _ m (h.pending k d lt));
+  machines = h.machines;
+}
+
+-- the manager of a valid boot file
+both_true : (a b : Bool) → (a && b) ≡ true → (a ≡ true) × (b ≡ true)
+both_true true true h = (refl, refl)
+both_true true false h = absurd (cc h)
+both_true false b h = absurd (cc h)
+
+home_within : (m n : ℕ) → nat_lt m n ≡ true → nat_le n 16 ≡ true → m ≤ 15
+home_within m n h le = grind (arith, common_steps, h, le)
+
+count_within : (n : ℕ) → nat_le n 16 ≡ true → n ≤ 16
+count_within n le = grind (arith, common_steps, le)
+
+starts_lawful : (b : Boot) (earlier ps : List BootProcess) → nat_le (length b.machines) 16 ≡ true → processes_are_valid b earlier ps ≡ true → All IsLawfulAddr (map child_of ps)
+starts_lawful b earlier [] few h = all_none IsLawfulAddr
+starts_lawful b earlier (p ∷ ps) few h =
+    let parts = both_true (process_is_valid b (starting_at p.pid.home earlier) p) (processes_are_valid b (earlier ++ p ∷ []) ps) h in
+    let home = home_within p.pid.home (length b.machines) (both_true (nat_lt p.pid.home (length b.machines)) _ parts.0).0 few in
+    all_front IsLawfulAddr (child_of p) (map child_of ps) (record { home = home; at = home }) (starts_lawful b (earlier ++ p ∷ []) ps few parts.1)
+
+starting_lawful : (b : Boot) → IsValid b → IsLawfulManager (starting b)
+starting_lawful b v = record {
+  children = starts_lawful b [] b.processes v.few_machines v.processes;
+  pending = all_none IsLawfulPending;
+  machines = count_within (length b.machines) v.few_machines;
+}
+
+pub started_lawful : (r : Result Managing NoMemory) (b : Boot) → IsValid b → IfOk r (λ g. g ≡ starting b) → IfOk r IsLawfulManager
+started_lawful (Err e) b v h = h
+started_lawful (Ok g) b v h = subst IsLawfulManager (sym h) (starting_lawful b v)
+
+-- a child that is told to move
+found_lawful : (p : Pid) (cs : List Addr) → All IsLawfulAddr cs → IfSome (child_named p cs) IsLawfulAddr
+found_lawful p [] h = tt {0}
+found_lawful p (a ∷ cs) h = either (λ o. IfSome o IsLawfulAddr) (pid_eq a.pid p) (Some a) (child_named p cs) (λ _. all_head IsLawfulAddr a cs h) (found_lawful p cs (all_tail IsLawfulAddr a cs h))
+
+told_lawful : (id : MsgId) (m : ℕ) (o : Option Addr) → IsMachine m → IsMachine id.from.home → id.answer ≡ false → IfSome o IsLawfulAddr → IfOk (tells_to_move id m o) IsLawfulMessage
+told_lawful id m None k h a l = tt {0}
+told_lawful id m (Some c) k h a l = record { from = h; answer = a; to = l; sender = record { home = omega arith; at = omega arith }; what = k }
+
+pub moves_lawful : (cs : List Addr) (p : Pid) (m : ℕ) (id : MsgId) → All IsLawfulAddr cs → IsMachine m → IsMachine id.from.home → id.answer ≡ false → IfOk (moves_child cs p m id) IsLawfulMessage
+moves_lawful cs p m id all k h a =
+    either (λ r. IfOk r IsLawfulMessage) (pid_eq p switchboard || pid_eq p manager) (Err no.Pinned) (tells_to_move id m (child_named p cs)) (λ _. tt {0})
+    (told_lawful id m (child_named p cs) k h a (found_lawful p cs all))

@@ -1,0 +1,5 @@
+pub mod Waiting
+pub mod Following
+pub mod Hearing
+pub mod Plain
+pub mod Lawful

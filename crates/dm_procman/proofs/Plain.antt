@@ -1,0 +1,173 @@
+-- The manager's table and that of the kernel without machines.
+use Rattle.std.proofs.Common.{◌≡◌, ℕ, zero, suc, ◌+◌, ◌*◌, Bool, true, false, ◌==◌, ◌&&◌, nat_lt, if◌then◌else◌, List, [], ◌∷◌, ◌++◌, length, map, refl, sym, ap, ◌∙◌, arith}
+use Rattle.std.proofs.lemmas.List.{length-map}
+use Rattle.std.proofs.lemmas.Option.{slice_get-map}
+use Rattle.std.specs.declared.option.Option.{Option}
+use Rattle.std.specs.declared.option.Option.TheVariants.{None, Some}
+use Rattle.std.specs.declared.result.Result.{Result}
+use Rattle.std.specs.declared.result.Result.TheVariants.{Ok, Err}
+use Rattle.std.specs.Prelude.{IfOk}
+use Rattle.std.specs.Option.{option_map}
+use Rattle.dm_link.specs.declared.Pid.{Pid}
+use Rattle.dm_link.specs.declared.Addr.{Addr}
+use Rattle.dm_link.specs.declared.Link.{Link}
+use Rattle.dm_link.specs.Places.{retargeted, retargeted_link}
+use Rattle.dm_link.specs.Plain.{PlainLink, plain_link}
+use Rattle.dm_memory.specs.declared.NoMemory.{NoMemory}
+use Rattle.dm_message.specs.declared.Message.{Message}
+use Rattle.dm_message.specs.declared.What.{What}
+use Rattle.dm_message.specs.declared.What.TheVariants as what
+use Rattle.dm_message.specs.Plain as plain
+use Rattle.dm_message.specs.Plain.{plain_message, plain_what, with_what}
+use Rattle.dm_onekernel.specs.Kernel as kernel
+use Rattle.dm_onekernel.specs.Manager as one
+use Rattle.dm_procman.specs.declared.pending.Pending.{Pending}
+use Rattle.dm_procman.specs.Managing.{Managing, at_home, plain_child, plain_manager, plain_pending, retargeted_manager, retargeted_pending}
+use Rattle.dm_procman.specs.Making.{control_link}
+use Rattle.dm_procman.specs.Plainly.{plain_taken, plainly_taken}
+use Rattle.dm_procman.specs.Taking.{Taken, answers, asks_for, bad_request, child_numbered, controls, controls_child, pending_numbered, requests, settled, takes, takes_created, takes_no_room, takes_user, wants_child, without_pending}
+use Rattle.dm_procman.proofs.Hearing.{IsHeard, IsUser, IsCreated, IsNoRoom}
+
+-- a taken message without places
+abbrev plainly : Taken → Option one.Took
+plainly t = plain_taken t.manager t.message
+
+-- what is done to both choices is done to the choice
+both : {A B : Type 0} (f : A → B) (b : Bool) (x y : A) (u v : B) → f x ≡ u → f y ≡ v → f (if b then x else y) ≡ (if b then u else v)
+both f true x y u v e h = e
+both f false x y u v e h = h
+
+some_both : {A : Type 0} (b : Bool) (x y : A) → (if b then Some x else Some y) ≡ Some (if b then x else y)
+some_both true x y = refl
+some_both false x y = refl
+
+plain_push : (rs : List Pending) (r : Pending) → map plain_pending (rs ++ r ∷ []) ≡ map plain_pending rs ++ plain_pending r ∷ []
+plain_push [] r = refl
+plain_push (x ∷ rs) r = ap (λ xs. plain_pending x ∷ xs) (plain_push rs r)
+
+plain_bear : (cs : List Addr) (a : Addr) → map plain_child (cs ++ a ∷ []) ≡ map plain_child cs ++ a.pid ∷ []
+plain_bear [] a = refl
+plain_bear (x ∷ cs) a = ap (λ xs. x.pid ∷ xs) (plain_bear cs a)
+
+plain_bad : (g : Managing) (ls : List Link) → plainly (bad_request g ls) ≡ Some (one.bad_request (plain_manager g) (map plain_link ls))
+plain_bad g [] = refl
+plain_bad g (l ∷ ls) = refl
+
+plain_asks_for : (g : Managing) (m image : ℕ) (l : Link) (ls : List Link) → plainly (asks_for g m image l ls) ≡ Some (one.asks_for (plain_manager g) m image (plain_link l) (map plain_link ls))
+plain_asks_for g m image l ls = ap (λ (rs : List kernel.Pending). let t : one.Took = one.asks_for (plain_manager g) m image (plain_link l) (map plain_link ls) in let u : one.Took = record { manager = record t.manager { pending = rs }; message = t.message } in Some u) (plain_push g.pending (record { n = g.sent; answer = l }))
+
+plain_wants : (g : Managing) (m image : ℕ) (ls : List Link) → plainly (wants_child g m image ls) ≡ Some (one.wants_child (plain_manager g) g.machines g.images m image (map plain_link ls))
+plain_wants g m image [] = refl
+plain_wants g m image (l ∷ ls) =
+    both plainly (nat_lt m g.machines && nat_lt image g.images) (asks_for g m image l ls) (bad_request g (l ∷ ls)) _ _ (plain_asks_for g m image l ls) (plain_bad g (l ∷ ls))
+    ∙ some_both (nat_lt m g.machines && nat_lt image g.images) _ _
+
+plain_requests : (g : Managing) (body : List ℕ) (ls : List Link) → plainly (requests g body ls) ≡ Some (one.requests (plain_manager g) g.machines g.images body (map plain_link ls))
+plain_requests g [] ls = plain_bad g ls
+plain_requests g (a ∷ []) ls = plain_bad g ls
+plain_requests g (a ∷ b ∷ []) ls = plain_bad g ls
+plain_requests g (a ∷ b ∷ c ∷ []) ls = plain_bad g ls
+plain_requests g (a ∷ m ∷ h ∷ l ∷ []) ls =
+    both plainly (a == 1) (wants_child g m (256 * h + l) ls) (bad_request g ls) _ _ (plain_wants g m (256 * h + l) ls) (plain_bad g ls)
+    ∙ some_both (a == 1) _ _
+plain_requests g (a ∷ b ∷ c ∷ d ∷ e ∷ es) ls = plain_bad g ls
+
+abbrev control_by : Bool → Bool → Bool → Option What
+control_by b c d = if b then Some what.Stop else if c then Some what.Resume else if d then Some what.Kill else None
+
+abbrev plain_control_by : Bool → Bool → Bool → Option plain.PlainWhat
+plain_control_by b c d = if b then Some plain.Stop else if c then Some plain.Resume else if d then Some plain.Kill else None
+
+plain_controls_by : (g : Managing) (a : Addr) (b c d : Bool) (ls : List Link) → plainly (controls_child g a (control_by b c d) ls) ≡ Some (one.controls_child (plain_manager g) a.pid (plain_control_by b c d) (map plain_link ls))
+plain_controls_by g a true c d ls = refl
+plain_controls_by g a false true d ls = refl
+plain_controls_by g a false false true ls = refl
+plain_controls_by g a false false false ls = plain_bad g ls
+
+plain_controls : (g : Managing) (o : Option Addr) (body : List ℕ) (ls : List Link) → plainly (controls g o body ls) ≡ Some (one.controls (plain_manager g) (option_map plain_child o) body (map plain_link ls))
+plain_controls g None [] ls = plain_bad g ls
+plain_controls g None (a ∷ []) ls = plain_bad g ls
+plain_controls g None (a ∷ b ∷ bs) ls = plain_bad g ls
+plain_controls g (Some c) [] ls = plain_bad g ls
+plain_controls g (Some c) (a ∷ []) ls = plain_controls_by g c (a == 2) (a == 3) (a == 4) ls
+plain_controls g (Some c) (a ∷ b ∷ bs) ls = plain_bad g ls
+
+plain_numbered : (cs : List Addr) (n : ℕ) → one.child_numbered (map plain_child cs) n ≡ option_map plain_child (child_numbered cs n)
+plain_numbered cs zero = refl
+plain_numbered cs (suc n) = slice_get-map plain_child cs n
+
+plain_user : (g : Managing) (code : ℕ) (body : List ℕ) (ls : List Link) → plainly (takes_user g code body ls) ≡ Some (one.takes_user (plain_manager g) g.machines g.images code body (map plain_link ls))
+plain_user g code body ls =
+    both plainly (code == 0) (requests g body ls) (controls g (child_numbered g.children code) body ls) _ _ (plain_requests g body ls)
+    (plain_controls g (child_numbered g.children code) body ls ∙ ap (λ o. Some (one.controls (plain_manager g) o body (map plain_link ls))) (sym (plain_numbered g.children code)))
+    ∙ some_both (code == 0) _ _
+
+plain_pending_numbered : (n : ℕ) (rs : List Pending) → one.pending_numbered n (map plain_pending rs) ≡ option_map plain_pending (pending_numbered n rs)
+plain_pending_numbered n [] = refl
+plain_pending_numbered n (r ∷ rs) = sym (both (option_map plain_pending) (r.n == n) (Some r) (pending_numbered n rs) _ _ refl (sym (plain_pending_numbered n rs)))
+
+plain_without : (n : ℕ) (rs : List Pending) → map plain_pending (without_pending n rs) ≡ one.without_pending n (map plain_pending rs)
+plain_without n [] = refl
+plain_without n (r ∷ rs) = both (map plain_pending) (r.n == n) rs (r ∷ without_pending n rs) _ _ refl (ap (λ xs. plain_pending r ∷ xs) (plain_without n rs))
+
+-- an answer of the manager that is left with these children and requests
+abbrev plain_answers : List Pid → List kernel.Pending → ℕ → Link → ℕ → List PlainLink → Option one.Took
+plain_answers cs rs sent l code links = Some (one.answers (record { children = cs; pending = rs; sent = sent }) (plain_link l) code links)
+
+plain_control_link : (n n' : ℕ) → n ≡ n' → plain_link (control_link n) ≡ one.control_link n'
+plain_control_link n n' e = ap one.control_link e
+
+plain_created : (g : Managing) (n : ℕ) (p : Pid) (o : Option Pending) (t : Taken) → takes_created g n p o ≡ Some t → plainly t ≡ one.takes_created (plain_manager g) n p (option_map plain_pending o)
+plain_created g n p None t e = absurd (cc e)
+plain_created g n p (Some r) t e =
+    let u : Taken = answers (record (settled g n) { children = g.children ++ at_home p ∷ [] }) r.answer 0 (control_link (length g.children + 1) ∷ []) in
+    let same : u ≡ t = cc e in
+    ap plainly (sym same)
+    ∙ (λ i. plain_answers (plain_bear g.children (at_home p) i) (plain_without n g.pending i) g.sent r.answer 0 (one.control_link (sym (length-map g.children plain_child) i + 1) ∷ []))
+
+plain_no_room : (g : Managing) (n : ℕ) (o : Option Pending) (t : Taken) → takes_no_room g n o ≡ Some t → plainly t ≡ one.takes_no_room (plain_manager g) n (option_map plain_pending o)
+plain_no_room g n None t e = absurd (cc e)
+plain_no_room g n (Some r) t e =
+    let u : Taken = answers (settled g n) r.answer 1 [] in
+    let same : u ≡ t = cc e in
+    ap plainly (sym same)
+    ∙ (λ i. plain_answers (map plain_child g.children) (plain_without n g.pending i) g.sent r.answer 1 [])
+
+plain_heard : (g : Managing) (m : Message) (t : Taken) → IsHeard m.what → takes g m.id.n m.what ≡ Some t → plainly t ≡ plainly_taken g (plain_message m)
+plain_heard g m t (IsUser code channel body links is) e =
+    let row : Some (takes_user g code body.items links.items) ≡ Some t = ap (takes g m.id.n) (sym is) ∙ e in
+    let same : takes_user g code body.items links.items ≡ t = cc row in
+    ap plainly (sym same) ∙ plain_user g code body.items links.items ∙ sym (ap (λ w. plainly_taken g (with_what m (plain_what w))) is)
+plain_heard g m t (IsCreated p is) e =
+    plain_created g m.id.n p (pending_numbered m.id.n g.pending) t (ap (takes g m.id.n) (sym is) ∙ e)
+    ∙ ap (one.takes_created (plain_manager g) m.id.n p) (sym (plain_pending_numbered m.id.n g.pending))
+    ∙ sym (ap (λ w. plainly_taken g (with_what m (plain_what w))) is)
+plain_heard g m t (IsNoRoom is) e =
+    plain_no_room g m.id.n (pending_numbered m.id.n g.pending) t (ap (takes g m.id.n) (sym is) ∙ e)
+    ∙ ap (one.takes_no_room (plain_manager g) m.id.n) (sym (plain_pending_numbered m.id.n g.pending))
+    ∙ sym (ap (λ w. plainly_taken g (with_what m (plain_what w))) is)
+
+-- the manager has the row of the kernel without machines
+pub plain_after : (r : Result (Option Message) NoMemory) (old new : Managing) (m : Message) → IsHeard m.what
+    → IfOk r (λ sent. takes old m.id.n m.what ≡ Some (record { manager = new; message = sent }))
+    → IfOk r (λ sent. plain_taken new sent ≡ plainly_taken old (plain_message m))
+plain_after (Err e) old new m is h = h
+plain_after (Ok sent) old new m is h = plain_heard old m (record { manager = new; message = sent }) is h
+
+-- a manager that is told of another place means the same
+plain_retargeted_addr : (p : Pid) (m c : ℕ) (a : Addr) → plain_child (retargeted p m c a) ≡ plain_child a
+plain_retargeted_addr p m c a = grind arith
+
+plain_retargeted_link : (p : Pid) (m c : ℕ) (l : Link) → plain_link (retargeted_link p m c l) ≡ plain_link l
+plain_retargeted_link p m c l = grind arith
+
+plain_children : (p : Pid) (m c : ℕ) (cs : List Addr) → map plain_child (map (retargeted p m c) cs) ≡ map plain_child cs
+plain_children p m c [] = refl
+plain_children p m c (a ∷ cs) = λ i. plain_retargeted_addr p m c a i ∷ plain_children p m c cs i
+
+plain_requests_kept : (p : Pid) (m c : ℕ) (rs : List Pending) → map plain_pending (map (retargeted_pending p m c) rs) ≡ map plain_pending rs
+plain_requests_kept p m c [] = refl
+plain_requests_kept p m c (r ∷ rs) = λ i. record { n = r.n; answer = plain_retargeted_link p m c r.answer i } ∷ plain_requests_kept p m c rs i
+
+pub plain_retargeted : (p : Pid) (m c : ℕ) (g : Managing) → plain_manager (retargeted_manager p m c g) ≡ plain_manager g
+plain_retargeted p m c g = λ i. record { children = plain_children p m c g.children i; pending = plain_requests_kept p m c g.pending i; sent = g.sent }

@@ -1,0 +1,38 @@
+-- The pending request of a number, and where it stands.
+use Rattle.std.proofs.Common.{◌≡◌, ◌<◌, ℕ, zero, suc, true, false, if◌then◌else◌, List, [], ◌∷◌, length, get_or, position, None, Some, refl, ap, ◌∙◌, arith}
+use Rattle.std.proofs.lemmas.Grind.{common_steps}
+use Rattle.std.proofs.lemmas.List.Quantifiers.{position-Some}
+use Rattle.std.specs.List.{remove}
+use Rattle.std.specs.Prelude.{IsSome}
+use Rattle.dm_procman.specs.declared.pending.Pending.{Pending}
+use Rattle.dm_procman.specs.Taking.{has_number, pending_numbered, without_pending}
+
+first_found : (n : ℕ) (rs : List Pending) (i : ℕ) (d : Pending) → i < length rs → has_number n (get_or rs i d) ≡ true → ((k : ℕ) → k < i → has_number n (get_or rs k d) ≡ false) → pending_numbered n rs ≡ Some (get_or rs i d)
+first_found n [] i d lt here before = absurd (omega (arith, lt))
+first_found n (r ∷ rs) zero d lt here before = ap (λ b. if b then Some r else pending_numbered n rs) here
+first_found n (r ∷ rs) (suc i) d lt here before =
+    ap (λ b. if b then Some r else pending_numbered n rs) (before 0 (omega arith))
+    ∙ first_found n rs i d (grind (arith, common_steps, lt)) here (λ k h. before (suc k) (grind (arith, h)))
+
+others_kept : (n : ℕ) (rs : List Pending) (i : ℕ) (d : Pending) → i < length rs → has_number n (get_or rs i d) ≡ true → ((k : ℕ) → k < i → has_number n (get_or rs k d) ≡ false) → without_pending n rs ≡ remove rs i
+others_kept n [] i d lt here before = absurd (omega (arith, lt))
+others_kept n (r ∷ rs) zero d lt here before = ap (λ b. if b then rs else r ∷ without_pending n rs) here ∙ grind (arith, common_steps)
+others_kept n (r ∷ rs) (suc i) d lt here before =
+    ap (λ b. if b then rs else r ∷ without_pending n rs) (before 0 (omega arith))
+    ∙ ap (λ xs. r ∷ xs) (others_kept n rs i d (grind (arith, common_steps, lt)) here (λ k h. before (suc k) (grind (arith, h))))
+
+pub found_there : (n : ℕ) (rs : List Pending) (i : ℕ) (d : Pending) → position (has_number n) rs ≡ Some i → pending_numbered n rs ≡ Some (get_or rs i d)
+found_there n rs i d h = let p = position-Some (has_number n) rs i d h in first_found n rs i d p.0 p.1 p.2
+
+pub others_there : (n : ℕ) (rs : List Pending) (i : ℕ) (d : Pending) → position (has_number n) rs ≡ Some i → without_pending n rs ≡ remove rs i
+others_there n rs i d h = let p = position-Some (has_number n) rs i d h in others_kept n rs i d p.0 p.1 p.2
+
+pub within_there : (n : ℕ) (rs : List Pending) (i : ℕ) (d : Pending) → position (has_number n) rs ≡ Some i → i < length rs
+within_there n rs i d h = (position-Some (has_number n) rs i d h).0
+
+pub none_there : (n : ℕ) (rs : List Pending) → position (has_number n) rs ≡ None → pending_numbered n rs ≡ None
+none_there n [] h = refl
+none_there n (r ∷ rs) h = grind (arith, common_steps, h, none_there n rs)
+
+pub never_none : (n : ℕ) (rs : List Pending) → IsSome (pending_numbered n rs) → position (has_number n) rs ≡ None → ⊥
+never_none n rs some none = absurd (grind (arith, common_steps, some, none_there n rs none))

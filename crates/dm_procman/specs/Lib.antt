@@ -1,0 +1,6 @@
+pub mod Managing
+pub mod Making
+pub mod Taking
+pub mod Moving
+pub mod Plainly
+pub mod Lawful

@@ -1,0 +1,52 @@
+-- What the process manager keeps, with the places that its addresses and links lead to.
+use Rattle.std.specs.Prelude.{ℕ, Bool, List, [], map, length}
+use Rattle.dm_link.specs.declared.Pid.{Pid}
+use Rattle.dm_link.specs.declared.Addr.{Addr}
+use Rattle.dm_link.specs.Places.{is_behind, retargeted, retargeted_link}
+use Rattle.dm_link.specs.Plain.{plain_link}
+use Rattle.dm_onekernel.specs.declared.boot.Boot.{Boot}
+use Rattle.dm_onekernel.specs.declared.boot.BootProcess.{BootProcess}
+use Rattle.dm_onekernel.specs.Kernel.{Manager}
+use Rattle.dm_onekernel.specs.Kernel as one
+use Rattle.dm_procman.specs.declared.pending.Pending.{Pending}
+
+-- the children, child 1 first; the requests without a taken answer; how many messages were sent; and how many machines
+-- and images there are
+pub record Managing : Type 0 where
+  pub children : List Addr
+  pub pending : List Pending
+  pub sent : ℕ
+  pub machines : ℕ
+  pub images : ℕ
+
+-- the manager without places
+abbrev pub plain_pending : Pending → one.Pending
+plain_pending r = record { n = r.n; answer = plain_link r.answer }
+
+abbrev pub plain_child : Addr → Pid
+plain_child a = a.pid
+
+abbrev pub plain_manager : Managing → Manager
+plain_manager g = record { children = map plain_child g.children; pending = map plain_pending g.pending; sent = g.sent }
+
+-- where a process starts: on its home machine
+abbrev pub at_home : Pid → Addr
+at_home p = record { pid = p; at = p.home; moves = 0 }
+
+abbrev pub child_of : BootProcess → Addr
+child_of p = at_home p.pid
+
+-- the manager at the start: its children are the processes of the boot file
+abbrev pub starting : Boot → Managing
+starting b = record { children = map child_of b.processes; pending = []; sent = 0; machines = length b.machines; images = length b.images }
+
+-- a request's link where it is told that a process is at another place, after so many moves
+abbrev pub retargeted_pending : Pid → ℕ → ℕ → Pending → Pending
+retargeted_pending about at moves r = record { n = r.n; answer = retargeted_link about at moves r.answer }
+
+abbrev pub pending_is_behind : Pid → ℕ → Pending → Bool
+pending_is_behind about moves r = is_behind about moves r.answer.addr
+
+abbrev pub retargeted_manager : Pid → ℕ → ℕ → Managing → Managing
+retargeted_manager about at moves g =
+    record g { children = map (retargeted about at moves) g.children; pending = map (retargeted_pending about at moves) g.pending }

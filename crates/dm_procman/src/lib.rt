@@ -1,0 +1,214 @@
+//! The process manager: it makes processes, controls those that it made, and tells them to move (1983).
+#![tactic(auto)]
+
+ghost use Rattle.std.specs.Prelude.{◌≡◌, ◌+◌, ◌<◌, ◌≤◌, ◌^◌, false, IfOk, IfSome, IsSome, OnErr, Some, count_by, length};
+ghost use Rattle.dm_link.specs.Lawful.{IsMachine};
+ghost use Rattle.dm_link.specs.Places.{is_behind};
+ghost use Rattle.dm_message.specs.Lawful.{IsLawfulMessage};
+ghost use Rattle.dm_message.specs.Plain.{plain_message};
+ghost use Rattle.dm_onekernel.specs.Boot.{IsValid};
+ghost use Rattle.dm_procman.specs.Lawful.{IsLawfulManager};
+ghost use Rattle.dm_procman.specs.Managing.{pending_is_behind, plain_manager, retargeted_manager, starting};
+ghost use Rattle.dm_procman.specs.Moving.{moves_child};
+ghost use Rattle.dm_procman.specs.Plainly.{plain_taken, plainly_taken};
+ghost use Rattle.dm_procman.specs.Taking.{IsForManager, takes, takes_created, takes_no_room, takes_user, pending_numbered};
+
+mod making;
+mod moving;
+mod pending;
+mod requests;
+mod starting;
+
+use dm_link::{Addr, Link, Pid};
+use dm_memory::NoMemory;
+use dm_message::{Message, MsgId, What};
+use dm_onekernel::Boot;
+use making::{answer_over, control_link};
+pub use moving::MoveNo;
+use moving::{move_child, retarget_children, retarget_pending};
+pub use pending::Pending;
+use pending::take_pending;
+use std::alloc::Global;
+use std::marker::Model;
+
+/// The processes that were made, and the requests to make one that wait for an answer.
+///
+/// Its model is a record of the children's addresses, child 1 first, the pending requests, the number of messages that
+/// were sent, and how many machines and images there are.
+#[derive(Drop)]
+pub struct ProcMan {
+    children: Vec<Addr>,
+    pending: Vec<Pending>,
+    sent: u32,
+    machines: u8,
+    images: u16,
+}
+
+impl Model for ProcMan {
+    ghost use Rattle.dm_procman.specs.Managing.{Managing};
+
+    ghost Value = { Managing };
+
+    ghost view = { λ g. record { children = g.children.items; pending = g.pending.items; sent = g.sent; machines = g.machines; images = g.images } };
+}
+
+impl ProcMan {
+    /// The manager of a system at its start: its children are the processes of the boot file, in their order.
+    pub fn new(alloc: Global, boot: &Boot) -> Result<ProcMan, NoMemory>
+        requires { IsValid boot.now }
+        ensures exact { IfOk result (λ g. g ≡ starting boot.now) }
+        ensures lawful { IfOk result IsLawfulManager }
+    {
+        ProcMan::start(alloc, boot)
+    }
+
+    /// The manager of a system at its start.
+    fn start(alloc: Global, boot: &Boot) -> Result<ProcMan, NoMemory>
+        requires { IsValid boot.now }
+        ensures { IfOk result (λ g. g ≡ starting boot.now) }
+    {
+        Ok(ProcMan {
+            children: starting::children_of(alloc, boot)?,
+            pending: Vec::new(alloc),
+            sent: 0,
+            machines: boot.machines.len() as u8,
+            images: boot.images.len() as u16,
+        })
+    }
+
+    /// Where the children are, child 1 first.
+    pub fn children(&self) -> &[Addr]
+        ensures { result.now ≡ self.now.children }
+    {
+        self.children.as_slice()
+    }
+
+    /// The requests that wait for an answer, in order.
+    pub fn pending(&self) -> &[Pending]
+        ensures { result.now ≡ self.now.pending }
+    {
+        self.pending.as_slice()
+    }
+
+    /// How many messages were sent.
+    pub fn sent(&self) -> u32
+        ensures { result ≡ self.now.sent }
+    {
+        self.sent
+    }
+
+    /// Takes a user message, or the answer to a pending request; the message that it sends, if any.
+    pub fn take(&mut self, message: &Message) -> Result<Option<Message>, NoMemory>
+        requires row { IsForManager self.old message.now.id.n message.now.what }
+        requires counts { self.old.sent < 4294967295 }
+        requires children { length self.old.children < 4294967295 }
+        ensures exact { IfOk result (λ sent. takes self.old message.now.id.n message.now.what ≡ Some (record { manager = self.new; message = sent })) }
+        ensures err { OnErr result (self.new ≡ self.old) }
+        ensures plain { IfOk result (λ sent. plain_taken self.new sent ≡ plainly_taken self.old (plain_message message.now)) }
+        ensures lawful { IsLawfulManager self.old → IsLawfulMessage message.now → IsLawfulManager self.new }
+        ensures lawful_message { IsLawfulManager self.old → IsLawfulMessage message.now → IfOk result (λ sent. IfSome sent IsLawfulMessage) }
+    {
+        self.take_what(message.id.n, &message.what)
+    }
+
+    /// Takes what a message says, by its number.
+    fn take_what(&mut self, number: u32, what: &What) -> Result<Option<Message>, NoMemory>
+        requires row { IsForManager self.old number what.now }
+        requires counts { self.old.sent < 4294967295 }
+        requires children { length self.old.children < 4294967295 }
+        ensures exact { IfOk result (λ sent. takes self.old number what.now ≡ Some (record { manager = self.new; message = sent })) }
+        ensures err { OnErr result (self.new ≡ self.old) }
+    {
+        match what {
+            What::User {
+                code,
+                body,
+                links,
+                ..
+            } => self.take_user(*code, body.as_slice(), links.as_slice()),
+            What::Created { pid } => self.take_created(number, *pid),
+            What::NoRoom => Ok(Some(self.take_no_room(number))),
+            _ => unreachable!(),
+        }
+    }
+
+    /// Takes a user message that came over a link with this code.
+    fn take_user(
+        &mut self,
+        code: u32,
+        body: &[u8],
+        links: &[Link],
+    ) -> Result<Option<Message>, NoMemory>
+        requires counts { self.old.sent < 4294967295 }
+        requires links { length links.now ≤ 4 }
+        ensures exact { IfOk result (λ sent. takes_user self.old code body.now links.now ≡ record { manager = self.new; message = sent }) }
+        ensures err { OnErr result (self.new ≡ self.old) }
+    {
+        if code == 0 {
+            self.request(body, links)
+        } else {
+            Ok(self.control(code, body, links))
+        }
+    }
+
+    /// Takes the news that the child of a pending request stands.
+    fn take_created(&mut self, number: u32, pid: Pid) -> Result<Option<Message>, NoMemory>
+        requires pending { IsSome (pending_numbered number self.old.pending) }
+        requires counts { self.old.sent < 4294967295 }
+        requires children { length self.old.children < 4294967295 }
+        ensures exact { IfOk result (λ sent. takes_created self.old number pid (pending_numbered number self.old.pending) ≡ Some (record { manager = self.new; message = sent })) }
+        ensures err { OnErr result (self.new ≡ self.old) }
+    {
+        self.children.push(Addr {
+            pid,
+            at: pid.home,
+            moves: 0,
+        })?;
+        let request = take_pending(&mut self.pending, number);
+        let control = control_link(self.children.len() as u32);
+        Ok(Some(self.answer(&request.answer, 0, &[control])))
+    }
+
+    /// Takes the news that there was no room for the child of a pending request.
+    fn take_no_room(&mut self, number: u32) -> Message
+        requires pending { IsSome (pending_numbered number self.old.pending) }
+        requires counts { self.old.sent < 4294967295 }
+        ensures { takes_no_room self.old number (pending_numbered number self.old.pending) ≡ Some (record { manager = self.new; message = Some result }) }
+    {
+        let request = take_pending(&mut self.pending, number);
+        self.answer(&request.answer, 1, &[])
+    }
+
+    /// The message that tells a child to move to machine `to`, under the name `id`.
+    pub fn ask_move(&self, pid: Pid, to: u8, id: MsgId) -> Result<Message, MoveNo>
+        ensures exact { result ≡ moves_child self.now.children pid to id }
+        ensures lawful { IsLawfulManager self.now → IsMachine to → IsMachine id.from.home → id.answer ≡ false → IfOk result IsLawfulMessage }
+    {
+        move_child(self.children.as_slice(), pid, to, id)
+    }
+
+    /// Sets the children's addresses and the links for answers that lead to a process and know fewer moves of it than
+    /// these to where it is; answers how many changed.
+    pub fn retarget(&mut self, about: Pid, at: u8, moves: u32) -> u32
+        requires { length self.old.children + length self.old.pending < 2 ^ 31 }
+        ensures manager { self.new ≡ retargeted_manager about at moves self.old }
+        ensures changed { result ≡ count_by (is_behind about moves) self.old.children + count_by (pending_is_behind about moves) self.old.pending }
+        ensures plain { plain_manager self.new ≡ plain_manager self.old }
+        ensures lawful { IsMachine at → IsLawfulManager self.old → IsLawfulManager self.new }
+    {
+        self.follow(about, at, moves)
+    }
+
+    /// Follows a process to where it is; answers how many addresses and links changed.
+    fn follow(&mut self, about: Pid, at: u8, moves: u32) -> u32
+        requires { length self.old.children + length self.old.pending < 2 ^ 31 }
+        ensures manager { self.new ≡ retargeted_manager about at moves self.old }
+        ensures changed { result ≡ count_by (is_behind about moves) self.old.children + count_by (pending_is_behind about moves) self.old.pending }
+    {
+        retarget_children(self.children.as_mut_slice(), about, at, moves)
+            + retarget_pending(self.pending.as_mut_slice(), about, at, moves)
+    }
+}
+
+#[cfg(test)]
+mod tests;

@@ -1,0 +1,83 @@
+//! Where the processes that the manager knows are, and go.
+ghost use Rattle.std.specs.Prelude.{◌≡◌, ◌<◌, ◌^◌, count_by, length, map};
+ghost use Rattle.dm_link.specs.Places.{is_behind, retargeted};
+ghost use Rattle.dm_procman.specs.Managing.{pending_is_behind, retargeted_pending};
+ghost use Rattle.dm_procman.specs.Moving.{child_named, moves_child};
+
+use crate::Pending;
+use crate::making::ADDRESS;
+use dm_link::{Addr, Pid};
+use dm_message::{Message, MsgId, What};
+use thiserror::Error;
+
+/// Why no process is told to move.
+#[derive(Clone, Copy, Debug, PartialEq, Eq, Error)]
+pub enum MoveNo {
+    #[error("it is no child of the manager")]
+    Unknown,
+    #[error("servers don't move")]
+    Pinned,
+}
+
+/// The switchboard.
+const SWITCHBOARD: Pid = Pid { home: 0, num: 1 };
+
+/// The address of the child of this name.
+fn child_named(children: &[Addr], pid: Pid) -> Option<Addr>
+    ensures { result ≡ child_named pid children.now }
+{
+    for child in children {
+        if child.pid == pid {
+            return Some(*child);
+        }
+    }
+    None
+}
+
+/// The message that tells a child to move to machine `to`, under the name `id`.
+pub fn move_child(children: &[Addr], pid: Pid, to: u8, id: MsgId) -> Result<Message, MoveNo>
+    ensures { result ≡ moves_child children.now pid to id }
+{
+    if pid == SWITCHBOARD || pid == ADDRESS.pid {
+        return Err(MoveNo::Pinned);
+    }
+    match child_named(children, pid) {
+        Some(child) => Ok(Message {
+            id,
+            to: child,
+            sender: ADDRESS,
+            what: What::Migrate { machine: to },
+        }),
+        None => Err(MoveNo::Unknown),
+    }
+}
+
+/// Tells the addresses of the children that a process is on machine `at` after so many moves; how many changed.
+pub fn retarget_children(children: &mut [Addr], about: Pid, at: u8, moves: u32) -> u32
+    requires { length children.old < 2 ^ 31 }
+    ensures children { children.new ≡ map (retargeted about at moves) children.old }
+    ensures changed { result ≡ count_by (is_behind about moves) children.old }
+{
+    let mut changed = 0;
+    for child in children.iter_mut() {
+        if child.retarget(about, at, moves) {
+            changed += 1;
+        }
+    }
+    changed
+}
+
+/// Tells the links for answers that a process is on machine `at` after so many moves; how many changed.
+pub fn retarget_pending(pending: &mut [Pending], about: Pid, at: u8, moves: u32) -> u32
+    requires { length pending.old < 2 ^ 31 }
+    ensures pending { pending.new ≡ map (retargeted_pending about at moves) pending.old }
+    ensures changed { result ≡ count_by (pending_is_behind about moves) pending.old }
+{
+    let mut changed = 0;
+    for request in pending.iter_mut() {
+        if request.answer.retarget(about, at, moves) {
+            changed += 1;
+        }
+    }
+    changed
+}

@@ -1,0 +1,33 @@
+//! Requests to make a process that wait for an answer.
+ghost use Rattle.std.specs.Prelude.{◌≡◌, IsSome, Some, position};
+ghost use Rattle.dm_procman.specs.Taking.{has_number, pending_numbered, without_pending};
+
+use dm_link::Link;
+
+/// A request to make a process, without a taken answer.
+#[derive(Clone, Copy, Debug, PartialEq, Eq)]
+pub struct Pending {
+    /// Its number among the manager's messages.
+    pub n: u32,
+    /// The link for the answer.
+    pub answer: Link,
+}
+
+/// Where the first request of this number stands.
+fn place_of(pending: &[Pending], number: u32) -> Option<usize>
+    ensures { result ≡ position (has_number number) pending.now }
+{
+    pending.iter().position(|request| request.n == number)
+}
+
+/// Takes the request of this number out of the list.
+pub fn take_pending(pending: &mut Vec<Pending>, number: u32) -> Pending
+    requires { IsSome (pending_numbered number pending.old.items) }
+    ensures request { pending_numbered number pending.old.items ≡ Some result }
+    ensures others { pending.new.items ≡ without_pending number pending.old.items }
+{
+    match place_of(pending.as_slice(), number) {
+        Some(place) => pending.remove(place),
+        None => unreachable!(),
+    }
+}

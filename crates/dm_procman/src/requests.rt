@@ -1,0 +1,164 @@
+//! Requests of processes: that one be made, that a child be stopped, resumed or killed.
+ghost use Rattle.std.specs.Prelude.{◌≡◌, ◌<◌, ◌≤◌, ◌*◌, ◌+◌, ◌&&◌, IfOk, None, OnErr, Some, length};
+ghost use Rattle.dm_procman.specs.Taking.{answers, asks_for, bad_request, child_numbered, control_of, controls, requests, sends, wants_child};
+ghost use Rattle.dm_procman.specs.Making.{message_to};
+
+use crate::making::{answer_over, kernel, message_to};
+use crate::{Pending, ProcMan};
+use arrayvec::ArrayVec;
+use dm_link::{Addr, Link};
+use dm_memory::NoMemory;
+use dm_message::{Message, What};
+
+/// The operations, the first byte of a request: over a link with code 0, and over one to a child.
+const CREATE: u8 = 1;
+
+const STOP: u8 = 2;
+
+const RESUME: u8 = 3;
+
+const KILL: u8 = 4;
+
+/// What a bad request is answered.
+const BAD_REQUEST: u8 = 2;
+
+/// What an operation does to a child.
+fn control_of(operation: u8) -> Option<What>
+    ensures { result ≡ control_of operation }
+{
+    match operation {
+        STOP => Some(What::Stop),
+        RESUME => Some(What::Resume),
+        KILL => Some(What::Kill),
+        _ => None,
+    }
+}
+
+/// Where child number `number` is; they are numbered from 1.
+fn child_numbered(children: &[Addr], number: u32) -> Option<Addr>
+    ensures { result ≡ child_numbered children.now number }
+{
+    let index = number.checked_sub(1)?;
+    children.get(index as usize).copied()
+}
+
+impl ProcMan {
+    /// Counts a message as sent.
+    fn send(&mut self, to: Addr, what: What) -> Message
+        requires { self.old.sent < 4294967295 }
+        ensures { record { manager = self.new; message = Some result } ≡ sends self.old (message_to self.old.sent to what) }
+    {
+        let message = message_to(self.sent, to, what);
+        self.sent += 1;
+        message
+    }
+
+    /// One byte goes over the link of an answer, with at most 4 links.
+    pub(crate) fn answer(&mut self, link: &Link, code: u8, links: &[Link]) -> Message
+        requires counts { self.old.sent < 4294967295 }
+        requires links { length links.now ≤ 4 }
+        ensures { record { manager = self.new; message = Some result } ≡ answers self.old link.now code links.now }
+    {
+        let message = answer_over(self.sent, link, code, links);
+        self.sent += 1;
+        message
+    }
+
+    /// A bad request is answered over its first link, if it has one.
+    fn bad_request(&mut self, links: &[Link]) -> Option<Message>
+        requires { self.old.sent < 4294967295 }
+        ensures { record { manager = self.new; message = result } ≡ bad_request self.old links.now }
+    {
+        let [first, ..] = links else {
+            return None;
+        };
+        Some(self.answer(first, BAD_REQUEST, &[]))
+    }
+
+    /// Takes a body that came over a link with code 0: it asks that a process be made.
+    pub(crate) fn request(
+        &mut self,
+        body: &[u8],
+        links: &[Link],
+    ) -> Result<Option<Message>, NoMemory>
+        requires counts { self.old.sent < 4294967295 }
+        requires links { length links.now ≤ 4 }
+        ensures exact { IfOk result (λ sent. requests self.old body.now links.now ≡ record { manager = self.new; message = sent }) }
+        ensures err { OnErr result (self.new ≡ self.old) }
+    {
+        match body {
+            [CREATE, machine, high, low] => {
+                let image = 256 * u16::from(*high) + u16::from(*low);
+                self.want_child(*machine, image, links)
+            },
+            _ => Ok(self.bad_request(links)),
+        }
+    }
+
+    /// Asks for a process if there are that machine, that image, and a link for the answer.
+    fn want_child(
+        &mut self,
+        machine: u8,
+        image: u16,
+        links: &[Link],
+    ) -> Result<Option<Message>, NoMemory>
+        requires counts { self.old.sent < 4294967295 }
+        requires links { length links.now ≤ 4 }
+        ensures exact { IfOk result (λ sent. wants_child self.old machine image links.now ≡ record { manager = self.new; message = sent }) }
+        ensures err { OnErr result (self.new ≡ self.old) }
+    {
+        let [answer, others @ ..] = links else {
+            return Ok(None);
+        };
+        if machine < self.machines && image < self.images {
+            self.ask_for(machine, image, *answer, others).map(Some)
+        } else {
+            Ok(self.bad_request(links))
+        }
+    }
+
+    /// Asks the kernel of a machine for a process; the request waits for the answer.
+    fn ask_for(
+        &mut self,
+        machine: u8,
+        image: u16,
+        answer: Link,
+        links: &[Link],
+    ) -> Result<Message, NoMemory>
+        requires counts { self.old.sent < 4294967295 }
+        requires links { length links.now ≤ 3 }
+        ensures exact { IfOk result (λ sent. asks_for self.old machine image answer links.now ≡ record { manager = self.new; message = Some sent }) }
+        ensures err { OnErr result (self.new ≡ self.old) }
+    {
+        let mut enclosed = ArrayVec::new();
+        let _ = enclosed.try_extend_from_slice(links);
+        self.pending.push(Pending {
+            n: self.sent,
+            answer,
+        })?;
+        Ok(self.send(
+            kernel(machine),
+            What::Create {
+                image,
+                links: enclosed,
+            },
+        ))
+    }
+
+    /// Takes a body that came over a link with the number of a child as its code.
+    pub(crate) fn control(&mut self, code: u32, body: &[u8], links: &[Link]) -> Option<Message>
+        requires { self.old.sent < 4294967295 }
+        ensures { controls self.old (child_numbered self.old.children code) body.now links.now ≡ record { manager = self.new; message = result } }
+    {
+        let Some(child) = child_numbered(self.children.as_slice(), code) else {
+            return self.bad_request(links);
+        };
+        let [operation] = body else {
+            return self.bad_request(links);
+        };
+        match control_of(*operation) {
+            Some(what) => Some(self.send(child, what)),
+            None => self.bad_request(links),
+        }
+    }
+}

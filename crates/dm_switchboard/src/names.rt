@@ -1,0 +1,90 @@
+//! The list of names.
+ghost use Rattle.std.specs.Prelude.{◌≡◌, ◌<◌, ◌^◌, IfOk, OnErr, count_by, length, map};
+ghost use Rattle.dm_switchboard.specs.Board.{listed, named_is_behind, retargeted_named};
+ghost use Rattle.dm_switchboard.specs.Following.{behind_at, told_at};
+ghost use Rattle.dm_switchboard.specs.Taking.{found_or_unknown, link_named, name_of, registers, registers_new};
+
+use crate::Reply;
+use arrayvec::ArrayVec;
+use dm_link::{Kind, Link, Pid};
+use dm_memory::NoMemory;
+use indexmap::IndexMap;
+
+/// The greatest length of a name, in bytes.
+const LONGEST: usize = 16;
+
+/// A name of 1 to 16 bytes.
+pub type Name = ArrayVec<u8, 16>;
+
+/// The links by name, in order of registration.
+pub type Names = IndexMap<Name, Link>;
+
+/// These bytes as a name, if they are one.
+pub fn name_of(bytes: &[u8]) -> Option<Name>
+    ensures { result ≡ name_of bytes.now }
+{
+    if bytes.is_empty() || bytes.len() > LONGEST {
+        return None;
+    }
+    let mut name = Name::new();
+    let _ = name.try_extend_from_slice(bytes);
+    Some(name)
+}
+
+/// Looks a name up.
+pub fn look_up(names: &Names, name: &Name) -> Reply
+    ensures { result ≡ found_or_unknown (link_named name.now.items (listed names.now.entries)) }
+{
+    match names.get(name) {
+        Some(link) => Reply::Found(*link),
+        None => Reply::Unknown,
+    }
+}
+
+/// Keeps a general link under a name that isn't taken.
+pub fn register(names: &mut Names, name: Name, link: Link) -> Result<Reply, NoMemory>
+    ensures ok { IfOk result (λ r. registers (listed names.old.entries) name.items link ≡ record { names = listed names.new.entries; reply = r }) }
+    ensures err { OnErr result (names.new.entries ≡ names.old.entries) }
+{
+    match link.kind {
+        Kind::General => register_general(names, name, link),
+        Kind::Reply => Ok(Reply::BadLink),
+    }
+}
+
+/// Keeps a link under a name that isn't taken.
+fn register_general(names: &mut Names, name: Name, link: Link) -> Result<Reply, NoMemory>
+    ensures ok { IfOk result (λ r. registers_new (listed names.old.entries) name.items link (link_named name.items (listed names.old.entries)) ≡ record { names = listed names.new.entries; reply = r }) }
+    ensures err { OnErr result (names.new.entries ≡ names.old.entries) }
+{
+    if names.contains_key(&name) {
+        return Ok(Reply::Taken);
+    }
+    names.insert(name, link)?;
+    Ok(Reply::Registered)
+}
+
+/// Tells the link at a place that a process is on machine `at` after so many moves; whether it changed.
+fn retarget_at(names: &mut Names, place: usize, about: Pid, at: u8, moves: u32) -> bool
+    requires { place < length names.old.entries }
+    ensures names { names.new.entries ≡ told_at about at moves place names.old.entries }
+    ensures changed { result ≡ behind_at about moves place names.old.entries }
+{
+    let (_, link) = names.pair_mut(place);
+    link.retarget(about, at, moves)
+}
+
+/// Tells all links that a process is on machine `at` after so many moves; how many changed.
+pub fn retarget_names(names: &mut Names, about: Pid, at: u8, moves: u32) -> u32
+    requires { length names.old.entries < 2 ^ 31 }
+    ensures names { listed names.new.entries ≡ map (retargeted_named about at moves) (listed names.old.entries) }
+    ensures changed { result ≡ count_by (named_is_behind about moves) (listed names.old.entries) }
+{
+    let mut changed = 0;
+    for place in 0..names.len() {
+        if retarget_at(names, place, about, at, moves) {
+            changed += 1;
+        }
+    }
+    changed
+}
