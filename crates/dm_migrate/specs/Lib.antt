@@ -1,0 +1,5 @@
+pub mod Pieces
+pub mod Departure
+pub mod Arrival
+pub mod Answer
+pub mod Coming

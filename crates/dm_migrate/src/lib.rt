@@ -1,0 +1,11 @@
+//! Migration (1983): the two states that a process has on its way, where it leaves and where it comes to.
+#![tactic(auto)]
+
+pub mod answer;
+pub mod arriving;
+pub mod leaving;
+
+pub use answer::{Asked, answer_ask};
+pub use arriving::{Arriving, Wanted};
+pub use dm_memory::NoMemory;
+pub use leaving::{Leaving, freeze};
