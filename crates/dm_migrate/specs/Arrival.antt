@@ -67,15 +67,15 @@ pub record IsStateFor (a : Arrival) (state : List ℕ) : Type 0 where
   pub moves : shell.moves ≡ a.moves
 
 -- this chunk is asked for: with those before it, it is a beginning of such state bytes, and all of them where it is the last
-pub record IsNextChunk (a : Arrival) (p : Pid) (k : ℕ) (last : Bool) (bytes : List ℕ) : Type 0 where
+pub record IsNextChunk (a : Arrival) (p : Pid) (k : ℕ) (ends : Bool) (bytes : List ℕ) : Type 0 where
   pub pid : p ≡ a.pid
   pub wanted : a.wanted ≡ Chunk k
   pub whole : List ℕ
   pub state : IsStateFor a whole
   pub number : HasChunk whole k
   pub before : a.state ≡ take (512 * k) whole
-  pub bytes : bytes ≡ chunk_bytes whole k
-  pub last : last ≡ is_last whole k
+  pub here : bytes ≡ chunk_bytes whole k
+  pub last : ends ≡ is_last whole k
 
 -- this piece is asked for
 abbrev pub IsNextPiece : Arrival → What → Type 0

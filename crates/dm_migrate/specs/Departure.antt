@@ -1,7 +1,7 @@
 -- A process that is frozen where it leaves.
-use Rattle.std.specs.Prelude.{◌≡◌, ℕ, ◌+◌, ◌/◌, ◌<◌, ◌≤◌, List, [], ◌++◌, length, map, Ok}
+use Rattle.std.specs.Prelude.{◌≡◌, ℕ, ◌+◌, ◌/◌, ◌<◌, ◌≤◌, List, [], ◌∷◌, ◌++◌, length, map}
 use Rattle.std.specs.declared.option.Option.{Option}
-use Rattle.dm_link.specs.Lawful.{IsMachine}
+use Rattle.std.specs.declared.result.Result.TheVariants.{Ok}
 use Rattle.dm_link.specs.Places.{relocated}
 use Rattle.dm_message.specs.declared.Asker.{Asker}
 use Rattle.dm_message.specs.declared.Message.{Message}

@@ -1,6 +1,6 @@
 //! A process that comes to a machine, piece by piece.
 ghost use Rattle.std.specs.Prelude.{◌≡◌, ◌⊎◌, ◌+◌, ◌*◌, ◌<◌, ◌≤◌, ◌++◌, ◌∷◌, [], IfErr, IfOk, OnErr, OnOk, Some, length, map, take, drop};
-ghost use Rattle.dm_migrate.specs.Arrival.{IsNextChunk, IsNextPiece, expected, pull, restarted, revived, with_block, with_chunk, with_held, with_piece};
+ghost use Rattle.dm_migrate.specs.Arrival.{IsNextChunk, IsNextPiece, after_block, after_chunk, expected, pull, restarted, revived, with_block, with_chunk, with_held, with_piece};
 
 use crate::leaving::CHUNK;
 use dm_carry::{Shell, unpack};
@@ -181,12 +181,8 @@ impl Arriving {
         requires { IsNextChunk self.old self.old.pid chunk last bytes.now }
         ensures { self.new ≡ with_chunk self.old chunk last bytes.now }
     {
-        write_at(&mut self.state, CHUNK * chunk as usize, bytes);
-        self.wanted = if last {
-            Wanted::Block(0)
-        } else {
-            Wanted::Chunk(chunk + 1)
-        };
+        put_at(&mut self.state, CHUNK * chunk as usize, bytes);
+        self.wanted = after_chunk(chunk, last);
     }
 
     /// Takes the block that was asked for.
@@ -194,12 +190,33 @@ impl Arriving {
         requires { self.old.wanted ≡ Wanted.Block block }
         ensures { self.new ≡ with_block self.old block bytes.now }
     {
+        let blocks = self.memory.blocks();
         self.memory.put_block(block, bytes);
-        self.wanted = if u16::from(block) + 1 < self.memory.blocks() {
-            Wanted::Block(block + 1)
-        } else {
-            Wanted::Nothing
-        };
+        self.wanted = after_block(block, blocks);
+    }
+}
+
+/// What is asked for after a chunk.
+fn after_chunk(chunk: u32, last: bool) -> Wanted
+    requires { chunk < u32.MAX }
+    ensures { result ≡ after_chunk chunk last }
+{
+    if last {
+        Wanted::Block(0)
+    } else {
+        Wanted::Chunk(chunk + 1)
+    }
+}
+
+/// What is asked for after a block, where there are so many.
+fn after_block(block: u8, blocks: u16) -> Wanted
+    requires { blocks ≤ 256 }
+    ensures { result ≡ after_block block blocks }
+{
+    if u16::from(block) + 1 < blocks {
+        Wanted::Block(block + 1)
+    } else {
+        Wanted::Nothing
     }
 }
 
@@ -221,10 +238,10 @@ fn revive(alloc: Global, shell: Shell, memory: Memory) -> Process
     }
 }
 
-/// Copies all of a slice to a place in another.
-fn write_at(bytes: &mut [u8], at: usize, from: &[u8])
-    requires { at + length from.now ≤ length bytes.old }
-    ensures { bytes.new ≡ take at bytes.old ++ from.now ++ drop (at + length from.now) bytes.old }
+/// Copies all of a slice to a place in a vector.
+fn put_at(bytes: &mut Vec<u8>, at: usize, from: &[u8])
+    requires { at + length from.now ≤ length bytes.old.items }
+    ensures { bytes.new.items ≡ take at bytes.old.items ++ from.now ++ drop (at + length from.now) bytes.old.items }
 {
     bytes[at..at + from.len()].copy_from_slice(from);
 }

@@ -1,10 +1,10 @@
 //! A process that is frozen where it leaves, and what it gives of itself.
-ghost use Rattle.std.specs.Prelude.{◌≡◌, ◌+◌, ◌<◌, ◌≤◌, ◌++◌, ◌∷◌, [], IfErr, IfOk, OnErr, OnOk, length, map};
+ghost use Rattle.std.specs.Prelude.{◌≡◌, ◌+◌, ◌*◌, ◌<◌, ◌≤◌, ◌++◌, ◌∷◌, [], IfErr, IfOk, OnErr, OnOk, length, map};
 ghost use Rattle.std.specs.Vec.{vec_capacity, vec_len};
 ghost use Rattle.dm_link.specs.Lawful.{IsMachine};
 ghost use Rattle.dm_process.specs.Lawful.{IsLawfulProcess};
 ghost use Rattle.dm_migrate.specs.Departure.{CanMove, all_sent_on, ask_of, frozen, sent_on, with_held};
-ghost use Rattle.dm_migrate.specs.Pieces.{HasBlock, HasChunk, block_of, chunk_of, state_of};
+ghost use Rattle.dm_migrate.specs.Pieces.{HasBlock, HasChunk, block_of, chunk_bytes, chunk_of, state_of};
 
 use arrayvec::ArrayVec;
 use dm_carry::pack;
@@ -113,15 +113,11 @@ impl Leaving {
         requires { HasChunk (state_of self.now.process) k }
         ensures { result ≡ chunk_of self.now.process.pid (state_of self.now.process) k }
     {
-        let start = CHUNK * k as usize;
-        let end = self.state.len().min(start + CHUNK);
-        let mut bytes = ArrayVec::new();
-        let _ = bytes.try_extend_from_slice(&self.state[start..end]);
         What::State {
             pid: self.process.pid,
             chunk: k,
-            last: end == self.state.len(),
-            bytes,
+            last: self.state.len() <= CHUNK * (k as usize + 1),
+            bytes: chunk_at(&self.state, k as usize),
         }
     }
 
@@ -165,14 +161,10 @@ impl Leaving {
             process, to, held, ..
         } = self;
         let Process {
-            mut queue, moves, ..
+            queue, moves, ..
         } = process;
-        while let Some(message) = queue.pop() {
-            send_on(&mut messages, message, to, moves + 1);
-        }
-        for message in held {
-            send_on(&mut messages, message, to, moves + 1);
-        }
+        send_queue(&mut messages, queue, to, moves + 1);
+        send_held(&mut messages, held, to, moves + 1);
         Ok((messages, to))
     }
 
@@ -183,6 +175,40 @@ impl Leaving {
     {
         let Leaving { process, held, .. } = self;
         (process, held)
+    }
+}
+
+/// The bytes of a chunk of state bytes.
+fn chunk_at(state: &[u8], k: usize) -> ArrayVec<u8, 512>
+    requires { HasChunk state.now k }
+    ensures { result.items ≡ chunk_bytes state.now k }
+{
+    let rest = &state[CHUNK * k..];
+    let mut bytes = ArrayVec::new();
+    let _ = bytes.try_extend_from_slice(&rest[..CHUNK.min(rest.len())]);
+    bytes
+}
+
+/// Adds the messages of a queue, which go on to a machine, where there is room for them.
+fn send_queue(messages: &mut Vec<Message>, queue: Queue<Message>, to: u8, moves: u32)
+    requires room { vec_len messages.old + length queue ≤ vec_capacity messages.old }
+    ensures items { messages.new.items ≡ messages.old.items ++ map (sent_on to moves) queue }
+    ensures len { vec_len messages.new ≡ vec_len messages.old + length queue }
+    ensures capacity { vec_capacity messages.old ≤ vec_capacity messages.new }
+{
+    let mut queue = queue;
+    while let Some(message) = queue.pop() {
+        send_on(messages, message, to, moves);
+    }
+}
+
+/// Adds messages that were held, which go on to a machine, where there is room for them.
+fn send_held(messages: &mut Vec<Message>, held: Vec<Message>, to: u8, moves: u32)
+    requires room { vec_len messages.old + length held.items ≤ vec_capacity messages.old }
+    ensures items { messages.new.items ≡ messages.old.items ++ map (sent_on to moves) held.items }
+{
+    for message in held {
+        send_on(messages, message, to, moves);
     }
 }
 
