@@ -1,7 +1,7 @@
 //! (stub) A process without its memory and its queue, as bytes.
 #![tactic(auto)]
 
-ghost use Rattle.std.specs.Prelude.{◌≡◌, ◌≤◌, IfOk, OnOk, Ok, length};
+ghost use Rattle.std.specs.Prelude.{◌≡◌, ◌⊎◌, ◌≤◌, IfOk, Ok, length};
 ghost use Rattle.dm_process.specs.Lawful.{IsLawfulProcess};
 ghost use Rattle.dm_carry.specs.Shell.{shell_of, shell_of_bytes, spelling};
 
@@ -34,15 +34,15 @@ pub enum CarryBad {
 pub fn pack(alloc: Global, process: &Process) -> Result<Vec<u8>, NoMemory>
     requires lawful { IsLawfulProcess process.now }
     ensures ok { IfOk result (λ v. v.items ≡ spelling (shell_of process.now)) }
-    ensures again { OnOk result (shell_of_bytes (spelling (shell_of process.now)) (length process.now.table) ≡ Ok (shell_of process.now)) }
-    ensures least { OnOk result (1 ≤ length (spelling (shell_of process.now))) }
-    ensures most { OnOk result (length (spelling (shell_of process.now)) ≤ 65536) }
+    ensures size { IfOk result (λ v. (102 ≤ length v.items) × (length v.items ≤ 3201)) }
+    ensures again { IfOk result (λ v. shell_of_bytes v.items (length process.now.table) ≡ Ok (shell_of process.now)) }
 {
     Err(NoMemory)
 }
 
 #[tactic(auto, unfolding(crate::specs::Shell::shell_of_bytes))]
 pub fn unpack(bytes: &[u8], cap: u8) -> Result<Shell, CarryBad>
+    requires { (cap ≡ 32) ⊎ (cap ≡ 128) }
     ensures exact { result ≡ shell_of_bytes bytes.now cap }
 {
     Err(CarryBad::Version)

@@ -1,2 +1,4 @@
 pub mod Pieces
 pub mod Coming
+pub mod Messages
+pub mod Way

@@ -37,8 +37,8 @@ pub record CanMove (p : Process) : Type 0 where
   pub lawful : IsLawfulProcess p
   pub moves : p.moves < 4294967295
   pub again : shell_of_bytes (state_of p) (length p.table) ≡ Ok (shell_of p)
-  pub least : 1 ≤ length (state_of p)
-  pub most : length (state_of p) ≤ 65536
+  pub least : 102 ≤ length (state_of p)
+  pub most : length (state_of p) ≤ 3201
 
 -- a message that goes on to where its receiver is after so many moves
 abbrev pub sent_on : ℕ → ℕ → Message → Message

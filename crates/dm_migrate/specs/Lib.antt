@@ -3,3 +3,4 @@ pub mod Departure
 pub mod Arrival
 pub mod Answer
 pub mod Coming
+pub mod Way

@@ -1,7 +1,8 @@
 //! A process that is frozen where it leaves, and what it gives of itself.
 ghost use Rattle.std.specs.Prelude.{◌≡◌, ◌+◌, ◌*◌, ◌<◌, ◌≤◌, ◌++◌, ◌∷◌, [], IfErr, IfOk, OnErr, OnOk, length, map};
 ghost use Rattle.std.specs.Vec.{vec_capacity, vec_len};
-ghost use Rattle.dm_link.specs.Lawful.{IsMachine};
+ghost use Rattle.dm_message.specs.Lawful.{IsLawfulWhat};
+ghost use Rattle.dm_message.specs.Plain.{plain_message};
 ghost use Rattle.dm_process.specs.Lawful.{IsLawfulProcess};
 ghost use Rattle.dm_migrate.specs.Departure.{CanMove, all_sent_on, ask_of, frozen, sent_on, with_held};
 ghost use Rattle.dm_migrate.specs.Pieces.{HasBlock, HasChunk, block_of, chunk_bytes, chunk_of, state_of};
@@ -82,7 +83,8 @@ pub fn freeze(
 impl Leaving {
     /// The process, as it was when it was frozen.
     pub fn process(&self) -> &Process
-        ensures { result.now ≡ self.now.process }
+        ensures process { result.now ≡ self.now.process }
+        ensures can_move { CanMove self.now.process }
     {
         &self.process
     }
@@ -111,7 +113,8 @@ impl Leaving {
     /// The chunk of this number of its state bytes.
     pub fn chunk(&self, k: u32) -> What
         requires { HasChunk (state_of self.now.process) k }
-        ensures { result ≡ chunk_of self.now.process.pid (state_of self.now.process) k }
+        ensures piece { result ≡ chunk_of self.now.process.pid (state_of self.now.process) k }
+        ensures lawful { IsLawfulWhat result }
     {
         What::State {
             pid: self.process.pid,
@@ -124,7 +127,8 @@ impl Leaving {
     /// The block of this number of its memory.
     pub fn block(&self, k: u8) -> What
         requires { HasBlock self.now.process.memory k }
-        ensures { result ≡ block_of self.now.process.pid self.now.process.memory k }
+        ensures piece { result ≡ block_of self.now.process.pid self.now.process.memory k }
+        ensures lawful { IsLawfulWhat result }
     {
         What::Memory {
             pid: self.process.pid,
@@ -149,6 +153,7 @@ impl Leaving {
     /// is no memory it is handed back.
     pub fn leave(self) -> Result<(Vec<Message>, u8), (Leaving, NoMemory)>
         ensures messages { IfOk result (λ r. r.0.items ≡ all_sent_on self) }
+        ensures plain { IfOk result (λ r. map plain_message r.0.items ≡ map plain_message (self.process.queue ++ self.held)) }
         ensures to { IfOk result (λ r. r.1 ≡ self.to) }
         ensures returned { IfErr result (λ e. e.0 ≡ self) }
     {

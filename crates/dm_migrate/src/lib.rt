@@ -3,9 +3,11 @@
 
 pub mod answer;
 pub mod arriving;
+mod laws;
 pub mod leaving;
 
 pub use answer::{Asked, answer_ask};
 pub use arriving::{Arriving, Wanted};
 pub use dm_memory::NoMemory;
+pub use laws::{arrives_whole, comes_by_pieces};
 pub use leaving::{Leaving, freeze};
