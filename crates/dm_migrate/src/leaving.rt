@@ -1,7 +1,9 @@
 //! A process that is frozen where it leaves, and what it gives of itself.
-ghost use Rattle.std.specs.Prelude.{◌≡◌, ◌+◌, ◌*◌, ◌<◌, ◌≤◌, ◌++◌, ◌∷◌, [], IfErr, IfOk, OnErr, OnOk, length, map};
+ghost use Rattle.std.specs.Prelude.{◌≡◌, ◌+◌, ◌*◌, ◌<◌, ◌≤◌, ◌++◌, ◌∷◌, [], IfErr, IfOk, IfSome, OnErr, OnOk, length, map};
+ghost use Rattle.std.specs.List.{All};
 ghost use Rattle.std.specs.Vec.{vec_capacity, vec_len};
-ghost use Rattle.dm_message.specs.Lawful.{IsLawfulWhat};
+ghost use Rattle.dm_link.specs.Lawful.{IsLawfulAddr, IsMachine};
+ghost use Rattle.dm_message.specs.Lawful.{IsLawfulMessage, IsLawfulWhat, IsServer};
 ghost use Rattle.dm_message.specs.Plain.{plain_message};
 ghost use Rattle.dm_process.specs.Lawful.{IsLawfulProcess};
 ghost use Rattle.dm_migrate.specs.Departure.{CanMove, all_sent_on, ask_of, frozen, sent_on, with_held};
@@ -55,6 +57,7 @@ pub fn freeze(
     requires moves { process.moves < 4294967295 }
     ensures frozen { IfOk result (λ l. l.0 ≡ frozen process to asker) }
     ensures ask { IfOk result (λ l. l.1 ≡ ask_of process asker) }
+    ensures lawful { ¬ IsServer process.pid → IfSome asker (λ a. IsLawfulAddr a.addr) → IfOk result (λ l. IsLawfulWhat l.1) }
     ensures can_move { OnOk result (CanMove process) }
     ensures returned { IfErr result (λ e. e.0 ≡ process) }
 {
@@ -155,6 +158,7 @@ impl Leaving {
         ensures messages { IfOk result (λ r. r.0.items ≡ all_sent_on self) }
         ensures plain { IfOk result (λ r. map plain_message r.0.items ≡ map plain_message (self.process.queue ++ self.held)) }
         ensures to { IfOk result (λ r. r.1 ≡ self.to) }
+        ensures lawful { IsMachine self.to → All IsLawfulMessage self.held → IfOk result (λ r. All IsLawfulMessage r.0.items) }
         ensures returned { IfErr result (λ e. e.0 ≡ self) }
     {
         let total = self.process.queue.len() + self.held.len();
@@ -211,6 +215,8 @@ fn send_queue(messages: &mut Vec<Message>, queue: Queue<Message>, to: u8, moves:
 fn send_held(messages: &mut Vec<Message>, held: Vec<Message>, to: u8, moves: u32)
     requires room { vec_len messages.old + length held.items ≤ vec_capacity messages.old }
     ensures items { messages.new.items ≡ messages.old.items ++ map (sent_on to moves) held.items }
+    ensures len { vec_len messages.new ≡ vec_len messages.old + length held.items }
+    ensures capacity { vec_capacity messages.old ≤ vec_capacity messages.new }
 {
     for message in held {
         send_on(messages, message, to, moves);
