@@ -1,7 +1,7 @@
 //! The links that a process holds, each in a slot of its table, by whose number the process names it (1977).
 #![tactic(auto)]
 
-ghost use Rattle.std.specs.Prelude.{◌≡◌, ◌⊎◌, List, length, map, count_by, slice_set, IfOk, IfErr, MatchResult, option_copied, Some, None};
+ghost use Rattle.std.specs.Prelude.{◌≡◌, ◌⊎◌, ◌<◌, List, length, map, count_by, slice_set, IfOk, IfErr, MatchResult, option_copied, Some, None};
 ghost use Rattle.std.proofs.Math.ListN.{replicate};
 ghost use Rattle.std.specs.Option.{is_none};
 ghost use Rattle.dm_linktable.specs.Slots.{copy_of, first_empty, link_at, plain_slot, retargeted_slot, slot_is_behind};
@@ -97,12 +97,21 @@ impl Table {
         match first_free(&self.slots) {
             Some(slot) => {
                 let slot = slot as u8;
-                index::add(&mut self.index, link.addr.pid, slot);
-                self.slots[slot as usize] = Some(link);
+                self.place(slot, link);
                 Ok(slot)
             },
             None => Err(link),
         }
+    }
+
+    /// Puts a link into an empty slot.
+    pub fn place(&mut self, slot: u8, link: Link)
+        requires within { slot < length self.old }
+        requires empty { link_at self.old slot ≡ None }
+        ensures { self.new ≡ slice_set self.old slot (Some link) }
+    {
+        index::add(&mut self.index, link.addr.pid, slot);
+        self.slots[slot as usize] = Some(link);
     }
 
     /// Takes the link out of a slot.

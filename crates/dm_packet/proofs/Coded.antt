@@ -45,14 +45,14 @@ some_is : {X : Type 0} (x y : X) → Some x ≡ Some y → x ≡ y
 some_is x y e = cc
 
 -- a number that is one value's, or is looked up among the others
-one_or_later : {X : Type 0} (code : X → ℕ) (n m : ℕ) (x y : X) (later : Option X) → code x ≡ m → (later ≡ Some y → code y ≡ n) → cond (eqb n m) (Some x) later ≡ Some y → code y ≡ n
+pub one_or_later : {X : Type 0} (code : X → ℕ) (n m : ℕ) (x y : X) (later : Option X) → code x ≡ m → (later ≡ Some y → code y ≡ n) → cond (eqb n m) (Some x) later ≡ Some y → code y ≡ n
 one_or_later code n m x y later is others e =
     elim (first_or_later (eqb n m) x y later e) [
       | inl first ↦ ap code (sym (some_is x y first.1)) ∙ is ∙ sym (eqb-true n m first.0)
       | inr found ↦ others found
     ]
 
-none_left : {X : Type 0} (y : X) (P : Type 0) → None ≡ Some y → P
+pub none_left : {X : Type 0} (y : X) (P : Type 0) → None ≡ Some y → P
 none_left y P e = absurd cc
 
 bool_back : (n : ℕ) (b : Bool) → bool_coded n ≡ Some b → bit_of b ≡ n

@@ -8,8 +8,8 @@ ghost use Rattle.dm_packet.specs.Rules.{number_of_rule};
 ghost use Rattle.dm_packet.specs.Widths.{FitsPacket};
 
 mod front;
-mod reading;
-mod writing;
+pub mod reading;
+pub mod writing;
 
 pub use dm_memory::NoMemory;
 use dm_message::Message;

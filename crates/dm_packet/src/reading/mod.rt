@@ -3,10 +3,10 @@ ghost use Rattle.std.specs.Prelude.{◌≡◌};
 ghost use Rattle.dm_packet.specs.Packets.{head, head_parts, id, opening, packet_kind, packet_of, read_message, read_rest};
 ghost use Rattle.dm_packet.specs.Reads.{Reads};
 
-mod fields;
+pub mod fields;
 mod kinds;
 mod lists;
-mod parts;
+pub mod parts;
 
 use crate::front::{Head, Opening, PacketKind};
 use crate::{Bad, Packet};

@@ -8,7 +8,7 @@ ghost use Rattle.dm_packet.specs.Whats.{message_kind};
 ghost use Rattle.dm_packet.specs.Widths.{FitsAddr, FitsId, FitsMessage, FitsPacket};
 ghost use Rattle.dm_packet.specs.Writes.{HasRoom, Puts};
 
-mod fields;
+pub mod fields;
 mod kinds;
 mod lists;
 

@@ -1,0 +1,6 @@
+pub mod Statuses
+pub mod Tables
+pub mod Shells
+pub mod Loops
+pub mod Sizes
+pub mod Lawful

@@ -1,0 +1,50 @@
+-- The links of a process as bytes: a mask of the slots that hold one, and those links in the order of their slots.
+use Rattle.std.specs.Prelude.{ℕ, zero, suc, ◌+◌, ◌*◌, ◌/◌, ◌%◌, ◌^◌, Bool, List, [], ◌∷◌, nat_lt, ◌==◌, Option, None, Some, Ok}
+use Rattle.std.specs.declared.result.Result.{Result}
+use Rattle.std.specs.List.{flat_map}
+use Rattle.dm_link.specs.declared.Link.{Link}
+use Rattle.dm_packet.specs.declared.Bad.{Bad}
+use Rattle.dm_packet.specs.declared.Bad.TheVariants as bad
+use Rattle.dm_packet.specs.Field.{Field, ◌>>=◌, number, tested, both, made}
+use Rattle.dm_packet.specs.Fields.{link}
+use Rattle.dm_packet.specs.Whats.{optional_read}
+
+-- 1 where a slot holds a link
+abbrev pub held : Option Link → ℕ
+held None = 0
+held (Some l) = 1
+
+-- the number whose bit s is 1 where slot s holds a link
+abbrev pub mask_of : List (Option Link) → ℕ
+mask_of [] = 0
+mask_of (slot ∷ slots) = held slot + 2 * mask_of slots
+
+abbrev pub spell_slot : Option Link → List ℕ
+spell_slot None = []
+spell_slot (Some l) = link.spell l
+
+-- a slot that holds a link, or doesn't
+abbrev pub slot : Bool → Field (Option Link)
+slot holds = record {
+  spell = spell_slot;
+  read = λ bytes. optional_read link holds bytes;
+}
+
+-- so many slots, with a link where the mask has a bit, the lowest for the first
+abbrev pub read_slots : ℕ → ℕ → List ℕ → Result (List (Option Link) × List ℕ) Bad
+read_slots zero mask bytes = Ok ([], bytes)
+read_slots (suc n) mask bytes = (slot (mask % 2 == 1)).read bytes >>= λ first. read_slots n (mask / 2) first.1 >>= λ others. Ok (first.0 ∷ others.0, others.1)
+
+abbrev pub slots : ℕ → ℕ → Field (List (Option Link))
+slots n mask = record {
+  spell = λ slots. flat_map spell_slot slots;
+  read = λ bytes. read_slots n mask bytes;
+}
+
+-- a mask without a bit above the last slot
+abbrev pub mask : ℕ → Field ℕ
+mask cap = tested (number 16) (λ m. nat_lt m (2 ^ cap)) bad.Limit
+
+-- a table of so many slots
+abbrev pub table : ℕ → Field (List (Option Link))
+table cap = made (both (mask cap) (slots cap)) (λ t. t.1) (λ slots. (mask_of slots, slots))
