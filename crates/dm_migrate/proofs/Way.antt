@@ -8,7 +8,13 @@ use Rattle.dm_message.specs.declared.Message.{Message}
 use Rattle.dm_message.specs.declared.What.{What}
 use Rattle.dm_message.specs.declared.What.TheVariants as what
 use Rattle.dm_process.specs.declared.process.Process.{Process}
+use Rattle.dm_process.specs.Lawful.{IsLawfulProcess}
+use Rattle.dm_carry.specs.Lawful.{IsLawfulShell}
 use Rattle.dm_carry.specs.Shell.{shell_of}
+use Rattle.dm_carry.specs.Widths.{FitsShell}
+use Rattle.dm_carry.proofs.Lawful.{shell_is_lawful}
+use Rattle.dm_carry.proofs.Shells.{shell_again}
+use Rattle.dm_carry.proofs.Sizes.{lawful_size}
 use Rattle.dm_room.specs.Room.{Taken}
 use Rattle.dm_migrate.specs.declared.answer.Asked.TheVariants.{Accepted}
 use Rattle.dm_migrate.specs.declared.arriving.Wanted.{Wanted}
@@ -189,3 +195,15 @@ arrives p asker h = record {
       (subst (λ (x : Arrival). Goes p (count_of_pieces p) x (what.PullState p.pid 0) (coming p asker [] Nothing)) (sym answers.2) (goes_whole p asker [] h)),
       whole p asker [] h);
 }
+
+-- every lawful process can move
+pub can_move : (p : Process) → IsLawfulProcess p → FitsShell (shell_of p) → p.moves < 4294967295 → CanMove p
+can_move p l f m =
+    let s : IsLawfulShell (length p.table) (shell_of p) = shell_is_lawful p l in
+    record {
+      lawful = l;
+      moves = m;
+      again = shell_again (length p.table) (shell_of p) l.slots s f;
+      least = (lawful_size (length p.table) (shell_of p) l.slots s).0;
+      most = (lawful_size (length p.table) (shell_of p) l.slots s).1;
+    }

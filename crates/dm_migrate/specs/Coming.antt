@@ -56,5 +56,7 @@ pub record IsComing (a : Parts) : Type 0 where
   pub cap : (a.cap ≡ 32) ⊎ (a.cap ≡ 128)
   pub moves : a.moves < 4294967295
   pub size : length a.state ≤ 4294967295
-  pub some : 1 ≤ length a.memory
+  pub whole : length a.memory ≡ 256 * (length a.memory / 256)
+  pub least : 1 ≤ length a.memory / 256
+  pub most : length a.memory / 256 ≤ 256
   pub stage : IsStage (come_of a) a.state a.memory a.wanted

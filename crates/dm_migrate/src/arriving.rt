@@ -1,5 +1,6 @@
 //! A process that comes to a machine, piece by piece.
 ghost use Rattle.std.specs.Prelude.{◌≡◌, ◌⊎◌, ◌+◌, ◌*◌, ◌<◌, ◌≤◌, ◌++◌, ◌∷◌, [], IfErr, IfOk, OnErr, OnOk, Some, length, map, take, drop};
+ghost use Rattle.dm_process.specs.Lawful.{IsLawfulProcess};
 ghost use Rattle.dm_migrate.specs.Arrival.{IsNextChunk, IsNextPiece, after_block, after_chunk, expected, pull, restarted, revived, with_block, with_chunk, with_held, with_piece};
 
 use crate::leaving::CHUNK;
@@ -148,6 +149,7 @@ impl Arriving {
     pub fn restart(self) -> (Process, Vec<Message>)
         requires { self.wanted ≡ Wanted.Nothing }
         ensures process { restarted self ≡ Some result.0 }
+        ensures lawful { IsLawfulProcess result.0 }
         ensures held { result.1.items ≡ self.held }
     {
         let Arriving {

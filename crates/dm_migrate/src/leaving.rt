@@ -180,6 +180,7 @@ impl Leaving {
     /// It stays: the process as it was, and what was held.
     pub fn stay(self) -> (Process, Vec<Message>)
         ensures process { result.0 ≡ self.process }
+        ensures lawful { IsLawfulProcess result.0 }
         ensures held { result.1.items ≡ self.held }
     {
         let Leaving { process, held, .. } = self;

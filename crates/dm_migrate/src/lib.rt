@@ -9,5 +9,5 @@ pub mod leaving;
 pub use answer::{Asked, answer_ask};
 pub use arriving::{Arriving, Wanted};
 pub use dm_memory::NoMemory;
-pub use laws::{arrives_whole, comes_by_pieces};
+pub use laws::{arrives_whole, can_move, comes_by_pieces};
 pub use leaving::{Leaving, freeze};
