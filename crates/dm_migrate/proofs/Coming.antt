@@ -4,7 +4,7 @@ use Rattle.dm_process.specs.Lawful.{IsLawfulProcess, IsLawfulStatus}
 use Rattle.dm_carry.specs.declared.Shell.{Shell}
 use Rattle.dm_carry.specs.Lawful.{IsLawfulShell}
 use Rattle.dm_carry.specs.Shell.{shell_of_bytes}
-use Rattle.dm_migrate.specs.Arrival.{Arrival, IsNextChunk, IsStateFor, after_chunk, revived, with_chunk}
+use Rattle.dm_migrate.specs.Arrival.{IsNextChunk, IsStateFor, after_chunk, revived, with_chunk}
 use Rattle.std.specs.declared.result.Result.{Result}
 use Rattle.std.specs.declared.result.Result.TheVariants.{Ok, Err}
 use Rattle.dm_carry.specs.declared.CarryBad.{CarryBad}

@@ -2,3 +2,4 @@ pub mod Pieces
 pub mod Coming
 pub mod Messages
 pub mod Way
+pub mod Begun

@@ -1,5 +1,5 @@
 -- Piece by piece, from the first chunk to the process.
-use Rattle.std.proofs.Common.{ℕ, zero, suc, ◌≡◌, ◌+◌, ◌-◌, ◌*◌, ◌/◌, ◌<◌, ◌≤◌, Bool, true, false, nat_le, nat_lt, if◌then◌else◌, List, [], ◌++◌, length, take, drop, Option, Some, None, ap, sym, subst, ◌∙◌, refl, arith}
+use Rattle.std.proofs.Common.{ℕ, zero, suc, ◌≡◌, ◌+◌, ◌-◌, ◌*◌, ◌/◌, ◌<◌, ◌≤◌, Bool, true, false, nat_lt, if◌then◌else◌, List, [], ◌++◌, length, take, drop, Option, Some, ap, sym, subst, ◌∙◌, refl, arith}
 use Rattle.std.proofs.Math.Seq.{take-add}
 use Rattle.std.proofs.lemmas.List.{take_all}
 use Rattle.std.proofs.lemmas.Bool.Decides.{nat_tests}
@@ -15,14 +15,11 @@ use Rattle.dm_carry.specs.Widths.{FitsShell}
 use Rattle.dm_carry.proofs.Lawful.{shell_is_lawful}
 use Rattle.dm_carry.proofs.Shells.{shell_again}
 use Rattle.dm_carry.proofs.Sizes.{lawful_size}
-use Rattle.dm_room.specs.Room.{Taken}
-use Rattle.dm_migrate.specs.declared.answer.Asked.TheVariants.{Accepted}
 use Rattle.dm_migrate.specs.declared.arriving.Wanted.{Wanted}
 use Rattle.dm_migrate.specs.declared.arriving.Wanted.TheVariants.{Chunk, Block, Nothing}
-use Rattle.dm_migrate.specs.Answer.{Answers, IsAskOfProcess}
 use Rattle.dm_migrate.specs.Arrival.{Arrival, IsNextPiece, after_block, after_chunk, pull, restarted, revived_from, with_piece}
 use Rattle.dm_migrate.specs.Coming.{memory_come, state_come}
-use Rattle.dm_migrate.specs.Departure.{CanMove, ask_of}
+use Rattle.dm_migrate.specs.Departure.{CanMove}
 use Rattle.dm_migrate.specs.Pieces.{HasBlock, HasChunk, block_bytes, block_of, chunk_bytes, chunk_of, is_last, state_of}
 use Rattle.dm_migrate.specs.Way.{ArrivesWhole, ComesByPieces, Goes, HasPiece, coming, count_of_pieces, moved, piece_for}
 use Rattle.dm_migrate.proofs.Pieces.{memory_waits}

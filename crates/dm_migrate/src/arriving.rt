@@ -110,6 +110,13 @@ impl Arriving {
         self.asker
     }
 
+    /// The piece that is asked for.
+    pub fn wanted(&self) -> Wanted
+        ensures { result ≡ self.now.wanted }
+    {
+        self.wanted
+    }
+
     /// The messages that came for it meanwhile, in order.
     pub fn held(&self) -> &[Message]
         ensures { result.now ≡ self.now.held }

@@ -1,5 +1,5 @@
-use Rattle.std.proofs.Common.{ℕ, ◌*◌, Bool, List, length, ◌≡◌, ◌∙◌, sym, ap, ap₂, subst}
-use Rattle.dm_migrate.specs.Arrival.{Arrival, IsNextChunk, after_chunk, with_chunk}
+use Rattle.std.proofs.Common.{ℕ, ◌*◌, Bool, List, ◌≡◌, ◌∙◌, sym, ap, ap₂, subst}
+use Rattle.dm_migrate.specs.Arrival.{Arrival, IsNextChunk, with_chunk}
 use Rattle.dm_migrate.specs.Coming.{IsComing, Parts, come_of}
 use Rattle.dm_migrate.specs.declared.arriving.Wanted.{Wanted}
 use Rattle.dm_migrate.proofs.arriving.Arriving.take_chunk.Goals as goal

@@ -1,7 +1,6 @@
-use Rattle.std.proofs.Common.{◌≡◌, ◌∙◌, ◌+◌, ◌++◌, List, map, ap, subst}
+use Rattle.std.proofs.Common.{◌≡◌, ◌+◌, ◌++◌, map, subst}
 use Rattle.std.specs.List.{All}
 use Rattle.dm_link.specs.Lawful.{IsMachine}
-use Rattle.dm_message.specs.declared.Message.{Message}
 use Rattle.dm_message.specs.Lawful.{IsLawfulMessage}
 use Rattle.dm_message.specs.Plain.{plain_message}
 use Rattle.dm_migrate.specs.Departure.{Departure, sent_on}
