@@ -25,15 +25,17 @@ fits a k ends bytes n = within a.state n.whole bytes k n.state.size n.number n.h
 
 stage : (a : Parts) (k : ℕ) (ends : Bool) (bytes : List ℕ) → IsComing a → IsNextChunk (come_of a) a.pid k ends bytes → IsStage (come_of (chunk_put a k ends bytes)) (put a.state (512 * k) bytes) a.memory (after_chunk k ends)
 stage a k true bytes h n =
-    let w : put a.state (512 * k) bytes ≡ n.whole = last_come a.state n.whole bytes k n.state.size n.number n.here n.last (sym (before a k true bytes n) ∙ n.before) in
-    (omega (arith, h.whole, h.least), record {
-      size = refl;
-      shell = n.state.shell;
-      read = ap (λ x. shell_of_bytes x a.cap) w ∙ n.state.read;
-      pid = n.state.pid;
-      blocks = n.state.blocks;
-      moves = n.state.moves;
-    })
+    let w : put a.state (512 * k) bytes ≡ n.whole = last_come a.state n.whole bytes k n.state.size n.number n.here n.last (sym (before a k true bytes n) ∙ n.before) in (
+      omega (arith, h.whole, h.least),
+      record {
+        size = refl;
+        shell = n.state.shell;
+        read = ap (λ x. shell_of_bytes x a.cap) w ∙ n.state.read;
+        pid = n.state.pid;
+        blocks = n.state.blocks;
+        moves = n.state.moves;
+      },
+    )
 stage a k false bytes h n =
     let g : 512 * (k + 1) < length a.state = (goes_on a.state n.whole bytes k n.state.size n.number n.here n.last).1 in
     omega (arith, g, length-put a.state bytes (512 * k) (fits a k false bytes n))

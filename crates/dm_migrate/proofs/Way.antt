@@ -149,13 +149,23 @@ module _ (p : Process) (asker : Option Asker) (held : List Message) (h : CanMove
 
   blocks_go : (n k : ℕ) → suc n + k ≡ length p.memory / 256 → Goes p (suc n) (coming p asker held (Block k)) (what.PullBlock p.pid k) (coming p asker held Nothing)
   blocks_go zero k e =
-      let b : HasBlock p.memory k = omega (arith, e, (whole_memory p h).all) in
-      (block_of p.pid p.memory k, coming p asker held (after_block k (length p.memory / 256)), block_there k b, (refl, refl), block_taken k b,
-      subst (λ (w : Wanted). Goes p zero (coming p asker held w) (pull p.pid w) (coming p asker held Nothing)) (sym (no_more k (omega (arith, e)))) (refl, refl))
+      let b : HasBlock p.memory k = omega (arith, e, (whole_memory p h).all) in (
+        block_of p.pid p.memory k,
+        coming p asker held (after_block k (length p.memory / 256)),
+        block_there k b,
+        (refl, refl),
+        block_taken k b,
+        subst (λ (w : Wanted). Goes p zero (coming p asker held w) (pull p.pid w) (coming p asker held Nothing)) (sym (no_more k (omega (arith, e)))) (refl, refl),
+      )
   blocks_go (suc n) k e =
-      let b : HasBlock p.memory k = omega (arith, e, (whole_memory p h).all) in
-      (block_of p.pid p.memory k, coming p asker held (after_block k (length p.memory / 256)), block_there k b, (refl, refl), block_taken k b,
-      subst (λ (w : Wanted). Goes p (suc n) (coming p asker held w) (pull p.pid w) (coming p asker held Nothing)) (sym (one_block_more k (omega (arith, e)))) (blocks_go n (k + 1) (omega (arith, e))))
+      let b : HasBlock p.memory k = omega (arith, e, (whole_memory p h).all) in (
+        block_of p.pid p.memory k,
+        coming p asker held (after_block k (length p.memory / 256)),
+        block_there k b,
+        (refl, refl),
+        block_taken k b,
+        subst (λ (w : Wanted). Goes p (suc n) (coming p asker held w) (pull p.pid w) (coming p asker held Nothing)) (sym (one_block_more k (omega (arith, e)))) (blocks_go n (k + 1) (omega (arith, e))),
+      )
 
   all_blocks : (n : ℕ) → n ≡ length p.memory / 256 → Goes p n (coming p asker held (Block 0)) (what.PullBlock p.pid 0) (coming p asker held Nothing)
   all_blocks zero e = absurd (omega (arith, e, (whole_memory p h).least))
@@ -170,13 +180,23 @@ module _ (p : Process) (asker : Option Asker) (held : List Message) (h : CanMove
   chunks_go : (c k n : ℕ) → length (state_of p) ≤ 512 * (k + suc c) → 512 * (k + c) < length (state_of p) → n ≡ suc c + length p.memory / 256 → Goes p n (coming p asker held (Chunk k)) (what.PullState p.pid k) (coming p asker held Nothing)
   chunks_go c k zero e f g = absurd (omega (arith, g))
   chunks_go zero k (suc n) e f g =
-      let b : HasChunk (state_of p) k = omega (arith, f) in
-      (chunk_of p.pid (state_of p) k, coming p asker held (after_chunk k (is_last (state_of p) k)), chunk_there k b, chunk_asked k b, chunk_taken k b,
-      subst (λ (l : Bool). Goes p n (coming p asker held (after_chunk k l)) (pull p.pid (after_chunk k l)) (coming p asker held Nothing)) (sym (last_chunk k (omega (arith, e)))) (all_blocks n (omega (arith, g))))
+      let b : HasChunk (state_of p) k = omega (arith, f) in (
+        chunk_of p.pid (state_of p) k,
+        coming p asker held (after_chunk k (is_last (state_of p) k)),
+        chunk_there k b,
+        chunk_asked k b,
+        chunk_taken k b,
+        subst (λ (l : Bool). Goes p n (coming p asker held (after_chunk k l)) (pull p.pid (after_chunk k l)) (coming p asker held Nothing)) (sym (last_chunk k (omega (arith, e)))) (all_blocks n (omega (arith, g))),
+      )
   chunks_go (suc c) k (suc n) e f g =
-      let b : HasChunk (state_of p) k = omega (arith, f) in
-      (chunk_of p.pid (state_of p) k, coming p asker held (after_chunk k (is_last (state_of p) k)), chunk_there k b, chunk_asked k b, chunk_taken k b,
-      subst (λ (l : Bool). Goes p n (coming p asker held (after_chunk k l)) (pull p.pid (after_chunk k l)) (coming p asker held Nothing)) (sym (not_last_chunk k (omega (arith, f)))) (chunks_go c (k + 1) n (omega (arith, e)) (omega (arith, f)) (omega (arith, g))))
+      let b : HasChunk (state_of p) k = omega (arith, f) in (
+        chunk_of p.pid (state_of p) k,
+        coming p asker held (after_chunk k (is_last (state_of p) k)),
+        chunk_there k b,
+        chunk_asked k b,
+        chunk_taken k b,
+        subst (λ (l : Bool). Goes p n (coming p asker held (after_chunk k l)) (pull p.pid (after_chunk k l)) (coming p asker held Nothing)) (sym (not_last_chunk k (omega (arith, f)))) (chunks_go c (k + 1) n (omega (arith, e)) (omega (arith, f)) (omega (arith, g))),
+      )
 
   goes_whole : Goes p (count_of_pieces p) (coming p asker held (Chunk 0)) (what.PullState p.pid 0) (coming p asker held Nothing)
   goes_whole =
@@ -186,11 +206,12 @@ module _ (p : Process) (asker : Option Asker) (held : List Message) (h : CanMove
 pub arrives : (p : Process) (asker : Option Asker) → CanMove p → ArrivesWhole p asker
 arrives p asker h = record {
   may_ask = let w : IsWhole p = whole_memory p h in (w.least, w.most, h.moves);
-  arrives = λ old new a asked answers.
-      (coming p asker [] Nothing,
-      subst (λ (w : What). Goes p (count_of_pieces p) a w (coming p asker [] Nothing)) (sym answers.3)
-      (subst (λ (x : Arrival). Goes p (count_of_pieces p) x (what.PullState p.pid 0) (coming p asker [] Nothing)) (sym answers.2) (goes_whole p asker [] h)),
-      whole p asker [] h);
+  arrives = λ old new a asked answers. (
+    coming p asker [] Nothing,
+    subst (λ (w : What). Goes p (count_of_pieces p) a w (coming p asker [] Nothing)) (sym answers.3)
+        (subst (λ (x : Arrival). Goes p (count_of_pieces p) x (what.PullState p.pid 0) (coming p asker [] Nothing)) (sym answers.2) (goes_whole p asker [] h)),
+    whole p asker [] h,
+  );
 }
 
 -- every lawful process can move

@@ -132,7 +132,10 @@ impl Arriving {
     {
         match piece {
             What::State {
-                chunk, last, bytes, ..
+                chunk,
+                last,
+                bytes,
+                ..
             } => self.take_chunk(chunk, last, &bytes),
             What::Memory { block, bytes, .. } => self.take_block(block, &bytes),
             _ => unreachable!(),

@@ -167,11 +167,12 @@ impl Leaving {
             Err(_) => return Err((self, NoMemory)),
         };
         let Leaving {
-            process, to, held, ..
+            process,
+            to,
+            held,
+            ..
         } = self;
-        let Process {
-            queue, moves, ..
-        } = process;
+        let Process { queue, moves, .. } = process;
         send_queue(&mut messages, queue, to, moves + 1);
         send_held(&mut messages, held, to, moves + 1);
         Ok((messages, to))
