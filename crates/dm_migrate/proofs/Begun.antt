@@ -1,5 +1,5 @@
 -- A process that hasn't executed anything, for which a message waits, is lawful.
-use Rattle.std.proofs.Common.{ℕ, ◌≡◌, ◌<◌, ◌≤◌, ◌⊎◌, List, [], ◌∷◌, ◌++◌, length, replicate, None, Option, slice_index_or, subst, sym, inl, refl, arith}
+use Rattle.std.proofs.Common.{ℕ, ◌≡◌, ◌<◌, ◌≤◌, ◌⊎◌, List, [], ◌∷◌, length, replicate, None, Option, slice_index_or, subst, sym, inl, refl, arith}
 use Rattle.std.proofs.lemmas.List.Elements.{All-replicate, All-cons}
 use Rattle.dm_link.specs.declared.Link.{Link}
 use Rattle.dm_link.specs.declared.Pid.{Pid}
