@@ -1,0 +1,90 @@
+-- What stands after a chunk has come.
+use Rattle.std.proofs.Common.{ℕ, ◌≡◌, ◌⊎◌, ◌+◌, ◌*◌, ◌/◌, ◌<◌, ◌≤◌, Bool, true, false, List, ◌++◌, length, take, ap, subst, sym, ◌∙◌, refl, arith}
+use Rattle.dm_process.specs.Lawful.{IsLawfulProcess, IsLawfulStatus}
+use Rattle.dm_carry.specs.declared.Shell.{Shell}
+use Rattle.dm_carry.specs.Lawful.{IsLawfulShell}
+use Rattle.dm_carry.specs.Shell.{shell_of_bytes}
+use Rattle.dm_migrate.specs.Arrival.{IsNextChunk, IsStateFor, after_chunk, revived, with_chunk}
+use Rattle.std.specs.declared.result.Result.{Result}
+use Rattle.std.specs.declared.result.Result.TheVariants.{Ok, Err}
+use Rattle.dm_carry.specs.declared.CarryBad.{CarryBad}
+use Rattle.dm_migrate.specs.declared.arriving.Wanted.{Wanted}
+use Rattle.dm_migrate.specs.declared.arriving.Wanted.TheVariants.{Nothing}
+use Rattle.dm_migrate.specs.Coming.{IsComing, IsStage, Parts, come_of, memory_come, state_come}
+use Rattle.dm_migrate.proofs.Pieces.{put, within, goes_on, chunk_come, last_come, length-put, memory_waits}
+
+abbrev pub chunk_put : Parts → ℕ → Bool → List ℕ → Parts
+chunk_put a k ends bytes = record a { state = put a.state (512 * k) bytes; wanted = after_chunk k ends }
+
+-- the state bytes that have come before this chunk
+before : (a : Parts) (k : ℕ) (ends : Bool) (bytes : List ℕ) → IsNextChunk (come_of a) a.pid k ends bytes → state_come a.wanted a.state ≡ take (512 * k) a.state
+before a k ends bytes n = ap (λ w. state_come w a.state) n.wanted
+
+pub fits : (a : Parts) (k : ℕ) (ends : Bool) (bytes : List ℕ) → IsNextChunk (come_of a) a.pid k ends bytes → 512 * k + length bytes ≤ length a.state
+fits a k ends bytes n = within a.state n.whole bytes k n.state.size n.number n.here
+
+stage : (a : Parts) (k : ℕ) (ends : Bool) (bytes : List ℕ) → IsComing a → IsNextChunk (come_of a) a.pid k ends bytes → IsStage (come_of (chunk_put a k ends bytes)) (put a.state (512 * k) bytes) a.memory (after_chunk k ends)
+stage a k true bytes h n =
+    let w : put a.state (512 * k) bytes ≡ n.whole = last_come a.state n.whole bytes k n.state.size n.number n.here n.last (sym (before a k true bytes n) ∙ n.before) in (
+      omega (arith, h.whole, h.least),
+      record {
+        size = refl;
+        shell = n.state.shell;
+        read = ap (λ x. shell_of_bytes x a.cap) w ∙ n.state.read;
+        pid = n.state.pid;
+        blocks = n.state.blocks;
+        moves = n.state.moves;
+      },
+    )
+stage a k false bytes h n =
+    let g : 512 * (k + 1) < length a.state = (goes_on a.state n.whole bytes k n.state.size n.number n.here n.last).1 in
+    omega (arith, g, length-put a.state bytes (512 * k) (fits a k false bytes n))
+
+pub chunk_after : (a : Parts) (k : ℕ) (ends : Bool) (bytes : List ℕ) → IsComing a → IsNextChunk (come_of a) a.pid k ends bytes → IsComing (chunk_put a k ends bytes)
+chunk_after a k ends bytes h n = record {
+  cap = h.cap;
+  moves = h.moves;
+  size = omega (arith, h.size, length-put a.state bytes (512 * k) (fits a k ends bytes n));
+  whole = h.whole;
+  least = h.least;
+  most = h.most;
+  stage = stage a k ends bytes h n;
+}
+
+pub chunk_view : (a : Parts) (k : ℕ) (ends : Bool) (bytes : List ℕ) → IsNextChunk (come_of a) a.pid k ends bytes → come_of (chunk_put a k ends bytes) ≡ with_chunk (come_of a) k ends bytes
+chunk_view a k ends bytes n i = record {
+  pid = a.pid;
+  blocks = (come_of a).blocks;
+  moves = a.moves;
+  size = length-put a.state bytes (512 * k) (fits a k ends bytes n) i;
+  asker = a.asker;
+  cap = a.cap;
+  state = (chunk_come ends a.state n.whole bytes k n.state.size n.number n.here n.last ∙ ap (λ (x : List ℕ). x ++ bytes) (sym (before a k ends bytes n))) i;
+  memory = (memory_waits ends k a.memory ∙ ap (λ w. memory_come w a.memory) (sym n.wanted)) i;
+  wanted = after_chunk k ends;
+  held = a.held;
+}
+
+-- what has come is lawful, once all has
+pub lawful_after : (a : Parts) (s : Shell) → IsComing a → s.blocks ≡ length a.memory / 256 → IsLawfulShell a.cap s → IsLawfulProcess (revived s a.memory)
+lawful_after a s h e l =
+    let n : length a.memory ≡ 256 * s.blocks = omega (arith, e, h.whole) in
+    record {
+      home = l.home;
+      registers = l.registers;
+      size = (s.blocks, n, l.blocks.0, l.blocks.1);
+      links = l.links;
+      slots = subst (λ (c : ℕ). (c ≡ 32) ⊎ (c ≡ 128)) (sym l.slots) h.cap;
+      status = subst (λ (size : ℕ). IsLawfulStatus size s.status) (sym n) l.status;
+      queue = λ k d i. absurd (omega (arith, i));
+    }
+
+abbrev blocks_read : Result Shell CarryBad → ℕ
+blocks_read (Ok s) = s.blocks
+blocks_read (Err bad) = 0
+
+pub all_come : (a : Parts) (s : Shell) (bytes : List ℕ) → IsComing a → a.wanted ≡ Nothing → bytes ≡ a.state → shell_of_bytes bytes a.cap ≡ Ok s → IsLawfulShell a.cap s → IsLawfulProcess (revived s a.memory)
+all_come a s bytes h n b r l =
+    let for : IsStateFor (come_of a) a.state = subst (λ (w : Wanted). IsStage (come_of a) a.state a.memory w) n h.stage in
+    let same : shell_of_bytes bytes a.cap ≡ Ok for.shell = ap (λ (x : List ℕ). shell_of_bytes x a.cap) b ∙ for.read in
+    lawful_after a s h (ap blocks_read (sym r ∙ same) ∙ for.blocks) l

@@ -1,0 +1,5 @@
+pub mod Pieces
+pub mod Coming
+pub mod Messages
+pub mod Way
+pub mod Begun

@@ -1,0 +1,127 @@
+-- A process that comes, piece by piece.
+use Rattle.std.specs.Prelude.{◌≡◌, ℕ, ◌+◌, ◌*◌, Bool, true, false, nat_lt, if◌then◌else◌, List, [], ◌∷◌, ◌++◌, length, take, Ok}
+use Rattle.std.specs.declared.option.Option.{Option}
+use Rattle.std.specs.declared.option.Option.TheVariants.{None, Some}
+use Rattle.std.specs.declared.result.Result.{Result}
+use Rattle.std.specs.declared.result.Result.TheVariants.{Ok, Err}
+use Rattle.dm_link.specs.declared.Pid.{Pid}
+use Rattle.dm_message.specs.declared.Asker.{Asker}
+use Rattle.dm_message.specs.declared.Message.{Message}
+use Rattle.dm_message.specs.declared.What.{What}
+use Rattle.dm_message.specs.declared.What.TheVariants as what
+use Rattle.dm_process.specs.declared.process.Process.{Process}
+use Rattle.dm_carry.specs.declared.CarryBad.{CarryBad}
+use Rattle.dm_carry.specs.declared.Shell.{Shell}
+use Rattle.dm_carry.specs.Shell.{shell_of_bytes}
+use Rattle.dm_migrate.specs.declared.arriving.Wanted.{Wanted}
+use Rattle.dm_migrate.specs.declared.arriving.Wanted.TheVariants.{Chunk, Block, Nothing}
+use Rattle.dm_migrate.specs.Pieces.{HasChunk, chunk_bytes, is_last}
+
+-- what its machine was told of the process and how large its tables are here; the pieces that have come, in order;
+-- the piece that is asked for; and the messages that came for it meanwhile, in order
+pub record Arrival : Type 0 where
+  pub pid : Pid
+  pub blocks : ℕ
+  pub moves : ℕ
+  pub size : ℕ
+  pub asker : Option Asker
+  pub cap : ℕ
+  pub state : List ℕ
+  pub memory : List ℕ
+  pub wanted : Wanted
+  pub held : List Message
+
+-- nothing has come yet
+abbrev pub expected : Pid → ℕ → ℕ → ℕ → Option Asker → ℕ → Arrival
+expected p blocks moves size asker cap =
+    record {
+      pid = p;
+      blocks = blocks;
+      moves = moves;
+      size = size;
+      asker = asker;
+      cap = cap;
+      state = [];
+      memory = [];
+      wanted = Chunk 0;
+      held = [];
+    }
+
+-- one message more is held
+abbrev pub with_held : Arrival → Message → Arrival
+with_held a m = record a { held = a.held ++ m ∷ [] }
+
+-- the message that asks for a piece, or says that all has come
+abbrev pub pull : Pid → Wanted → What
+pull p (Chunk k) = what.PullState p k
+pull p (Block k) = what.PullBlock p k
+pull p Nothing = what.AllTaken p
+
+-- the state bytes are of a process of this name, size and count of moves
+pub record IsStateFor (a : Arrival) (state : List ℕ) : Type 0 where
+  pub size : length state ≡ a.size
+  pub shell : Shell
+  pub read : shell_of_bytes state a.cap ≡ Ok shell
+  pub pid : shell.pid ≡ a.pid
+  pub blocks : shell.blocks ≡ a.blocks
+  pub moves : shell.moves ≡ a.moves
+
+-- this chunk is asked for: with those before it, it is a beginning of such state bytes, and all of them where it is the last
+pub record IsNextChunk (a : Arrival) (p : Pid) (k : ℕ) (ends : Bool) (bytes : List ℕ) : Type 0 where
+  pub pid : p ≡ a.pid
+  pub wanted : a.wanted ≡ Chunk k
+  pub whole : List ℕ
+  pub state : IsStateFor a whole
+  pub number : HasChunk whole k
+  pub before : a.state ≡ take (512 * k) whole
+  pub here : bytes ≡ chunk_bytes whole k
+  pub last : ends ≡ is_last whole k
+
+-- this piece is asked for
+abbrev pub IsNextPiece : Arrival → What → Type 0
+IsNextPiece a (what.State p k last bytes) = IsNextChunk a p k last bytes.items
+IsNextPiece a (what.Memory p k bytes) = (p ≡ a.pid) × (a.wanted ≡ Block k)
+IsNextPiece a _ = ⊥
+
+abbrev pub after_chunk : ℕ → Bool → Wanted
+after_chunk k true = Block 0
+after_chunk k false = Chunk (k + 1)
+
+abbrev pub after_block : ℕ → ℕ → Wanted
+after_block k blocks = if nat_lt (k + 1) blocks then Block (k + 1) else Nothing
+
+-- one chunk more has come, and one block more
+abbrev pub with_chunk : Arrival → ℕ → Bool → List ℕ → Arrival
+with_chunk a k last bytes = record a { state = a.state ++ bytes; wanted = after_chunk k last }
+
+abbrev pub with_block : Arrival → ℕ → List ℕ → Arrival
+with_block a k bytes = record a { memory = a.memory ++ bytes; wanted = after_block k a.blocks }
+
+-- one piece more has come; nothing else is a piece
+abbrev pub with_piece : Arrival → What → Option Arrival
+with_piece a (what.State p k last bytes) = Some (with_chunk a k last bytes.items)
+with_piece a (what.Memory p k bytes) = Some (with_block a k bytes)
+with_piece a _ = None
+
+-- the process that has come, with an empty queue; it has moved once more
+abbrev pub revived : Shell → List ℕ → Process
+revived s memory =
+    record {
+      pid = s.pid;
+      regs = s.regs;
+      memory = memory;
+      table = s.table;
+      status = s.status;
+      stopped = s.stopped;
+      sent = s.sent;
+      moves = s.moves + 1;
+      queue = [];
+    }
+
+abbrev pub revived_from : Result Shell CarryBad → List ℕ → Option Process
+revived_from (Ok s) memory = Some (revived s memory)
+revived_from (Err bad) memory = None
+
+-- the process that all the pieces are of
+abbrev pub restarted : Arrival → Option Process
+restarted a = revived_from (shell_of_bytes a.state a.cap) a.memory

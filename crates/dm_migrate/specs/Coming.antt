@@ -1,0 +1,62 @@
+-- How an arriving process is kept: with room for all of it, filled from the front.
+use Rattle.std.specs.Prelude.{◌⊎◌, ◌≡◌, ℕ, ◌*◌, ◌/◌, ◌<◌, ◌≤◌, List, [], length, take}
+use Rattle.std.specs.declared.option.Option.{Option}
+use Rattle.dm_link.specs.declared.Pid.{Pid}
+use Rattle.dm_message.specs.declared.Asker.{Asker}
+use Rattle.dm_message.specs.declared.Message.{Message}
+use Rattle.dm_migrate.specs.declared.arriving.Wanted.{Wanted}
+use Rattle.dm_migrate.specs.declared.arriving.Wanted.TheVariants.{Chunk, Block, Nothing}
+use Rattle.dm_migrate.specs.Arrival.{Arrival, IsStateFor}
+
+-- as many state bytes, and as much memory, as there will be
+pub record Parts : Type 0 where
+  pub pid : Pid
+  pub moves : ℕ
+  pub asker : Option Asker
+  pub cap : ℕ
+  pub state : List ℕ
+  pub memory : List ℕ
+  pub wanted : Wanted
+  pub held : List Message
+
+-- the state bytes that have come
+abbrev pub state_come : Wanted → List ℕ → List ℕ
+state_come (Chunk k) state = take (512 * k) state
+state_come (Block k) state = state
+state_come Nothing state = state
+
+-- the memory that has come
+abbrev pub memory_come : Wanted → List ℕ → List ℕ
+memory_come (Chunk k) memory = []
+memory_come (Block k) memory = take (256 * k) memory
+memory_come Nothing memory = memory
+
+abbrev pub come_of : Parts → Arrival
+come_of a =
+    record {
+      pid = a.pid;
+      blocks = length a.memory / 256;
+      moves = a.moves;
+      size = length a.state;
+      asker = a.asker;
+      cap = a.cap;
+      state = state_come a.wanted a.state;
+      memory = memory_come a.wanted a.memory;
+      wanted = a.wanted;
+      held = a.held;
+    }
+
+-- the piece that is asked for lies within what there will be, and all that comes before it has come
+abbrev pub IsStage : Arrival → List ℕ → List ℕ → Wanted → Type 0
+IsStage a state memory (Chunk k) = 512 * k ≤ length state
+IsStage a state memory (Block k) = (256 * k < length memory) × IsStateFor a state
+IsStage a state memory Nothing = IsStateFor a state
+
+pub record IsComing (a : Parts) : Type 0 where
+  pub cap : (a.cap ≡ 32) ⊎ (a.cap ≡ 128)
+  pub moves : a.moves < 4294967295
+  pub size : length a.state ≤ 4294967295
+  pub whole : length a.memory ≡ 256 * (length a.memory / 256)
+  pub least : 1 ≤ length a.memory / 256
+  pub most : length a.memory / 256 ≤ 256
+  pub stage : IsStage (come_of a) a.state a.memory a.wanted

@@ -1,0 +1,6 @@
+pub mod Pieces
+pub mod Departure
+pub mod Arrival
+pub mod Answer
+pub mod Coming
+pub mod Way

@@ -1,0 +1,259 @@
+//! A process that comes to a machine, piece by piece.
+ghost use Rattle.std.specs.Prelude.{◌≡◌, ◌⊎◌, ◌+◌, ◌*◌, ◌<◌, ◌≤◌, ◌++◌, ◌∷◌, [], IfErr, IfOk, OnErr, OnOk, Some, length, map, take, drop};
+ghost use Rattle.dm_process.specs.Lawful.{IsLawfulProcess};
+ghost use Rattle.dm_migrate.specs.Arrival.{IsNextChunk, IsNextPiece, after_block, after_chunk, expected, pull, restarted, revived, with_block, with_chunk, with_held, with_piece};
+
+use crate::leaving::CHUNK;
+use dm_carry::{Shell, unpack};
+use dm_link::Pid;
+use dm_lists::Queue;
+use dm_memory::NoMemory;
+use dm_message::{Asker, Message, What};
+use dm_process::Process;
+use dm_regs::Memory;
+use std::alloc::{AllocFailed, Global};
+use std::marker::Model;
+
+/// The piece of a process that is asked for.
+#[derive(Clone, Copy, Debug, PartialEq, Eq)]
+pub enum Wanted {
+    /// A chunk of 512 of its state bytes, or fewer where it is the last.
+    Chunk(u32),
+    /// A block of 256 bytes of its memory.
+    Block(u8),
+    /// All has come.
+    Nothing,
+}
+
+/// A process that is on its way to a machine, which has taken the memory that all of it needs.
+#[derive(Drop)]
+pub struct Arriving {
+    pid: Pid,
+    moves: u32,
+    asker: Option<Asker>,
+    cap: u8,
+    /// As many as there will be; those that haven't come are 0.
+    state: Vec<u8>,
+    /// All of it; the blocks that haven't come are 0.
+    memory: Memory,
+    wanted: Wanted,
+    held: Vec<Message>,
+    alloc: Global,
+}
+
+impl Model for Arriving {
+    ghost use Rattle.dm_migrate.specs.Arrival.{Arrival};
+    ghost use Rattle.dm_migrate.specs.Coming.{IsComing, come_of, Parts};
+
+    ghost Value = { Arrival };
+
+    ghost view = { λ a. come_of (record { pid = a.pid; moves = a.moves; asker = a.asker; cap = a.cap; state = a.state.items; memory = a.memory; wanted = a.wanted; held = a.held.items }) };
+
+    ghost invariant = { λ a. IsComing (record { pid = a.pid; moves = a.moves; asker = a.asker; cap = a.cap; state = a.state.items; memory = a.memory; wanted = a.wanted; held = a.held.items }) };
+}
+
+/// Makes room for a process that is to come, with nothing of it yet.
+pub(crate) fn expect(
+    alloc: Global,
+    pid: Pid,
+    blocks: u16,
+    moves: u32,
+    size: u32,
+    asker: Option<Asker>,
+    cap: u8,
+) -> Result<Arriving, NoMemory>
+    requires least { 1 ≤ blocks }
+    requires most { blocks ≤ 256 }
+    requires moves { moves < 4294967295 }
+    requires cap { (cap ≡ 32) ⊎ (cap ≡ 128) }
+    ensures { IfOk result (λ a. a ≡ expected pid blocks moves size asker cap) }
+{
+    Ok(Arriving {
+        pid,
+        moves,
+        asker,
+        cap,
+        state: Vec::from_elem(alloc, 0, size as usize)?,
+        memory: Memory::from_image(alloc, &[], blocks)?,
+        wanted: Wanted::Chunk(0),
+        held: Vec::new(alloc),
+        alloc,
+    })
+}
+
+impl Arriving {
+    /// The name of the process.
+    pub fn pid(&self) -> Pid
+        ensures { result ≡ self.now.pid }
+    {
+        self.pid
+    }
+
+    /// How many blocks of memory it has, 1 to 256.
+    pub fn blocks(&self) -> u16
+        ensures { result ≡ self.now.blocks }
+    {
+        self.memory.blocks()
+    }
+
+    /// How often it had moved before.
+    pub fn moves(&self) -> u32
+        ensures { result ≡ self.now.moves }
+    {
+        self.moves
+    }
+
+    /// Who waits to hear how the move ends.
+    pub fn asker(&self) -> Option<Asker>
+        ensures { result ≡ self.now.asker }
+    {
+        self.asker
+    }
+
+    /// The piece that is asked for.
+    pub fn wanted(&self) -> Wanted
+        ensures { result ≡ self.now.wanted }
+    {
+        self.wanted
+    }
+
+    /// The messages that came for it meanwhile, in order.
+    pub fn held(&self) -> &[Message]
+        ensures { result.now ≡ self.now.held }
+    {
+        self.held.as_slice()
+    }
+
+    /// Takes the piece that was asked for, and asks for the next, or says that all has come. It takes no memory.
+    pub fn take(&mut self, piece: What) -> What
+        requires { IsNextPiece self.old piece }
+        ensures after { with_piece self.old piece ≡ Some self.new }
+        ensures pull { result ≡ pull self.new.pid self.new.wanted }
+    {
+        match piece {
+            What::State {
+                chunk,
+                last,
+                bytes,
+                ..
+            } => self.take_chunk(chunk, last, &bytes),
+            What::Memory { block, bytes, .. } => self.take_block(block, &bytes),
+            _ => unreachable!(),
+        }
+        self.pull()
+    }
+
+    /// Keeps a message that came for it, or hands it back.
+    pub fn hold(&mut self, message: Message) -> Result<(), (Message, NoMemory)>
+        ensures ok { OnOk result (self.new ≡ with_held self.old message) }
+        ensures err { OnErr result (self.new ≡ self.old) }
+        ensures returned { IfErr result (λ e. e.0 ≡ message) }
+    {
+        match self.held.push(message) {
+            Ok(()) => Ok(()),
+            Err(AllocFailed { value, .. }) => Err((value, NoMemory)),
+        }
+    }
+
+    /// It is here: the process that has come, which has moved once more, and what was held. It takes no memory.
+    pub fn restart(self) -> (Process, Vec<Message>)
+        requires { self.wanted ≡ Wanted.Nothing }
+        ensures process { restarted self ≡ Some result.0 }
+        ensures lawful { IsLawfulProcess result.0 }
+        ensures held { result.1.items ≡ self.held }
+    {
+        let Arriving {
+            cap,
+            state,
+            memory,
+            held,
+            alloc,
+            ..
+        } = self;
+        match unpack(&state, cap) {
+            Ok(shell) => (revive(alloc, shell, memory), held),
+            Err(_) => unreachable!(),
+        }
+    }
+
+    /// Asks for the piece that is to come next.
+    fn pull(&self) -> What
+        ensures { result ≡ pull self.now.pid self.now.wanted }
+    {
+        let pid = self.pid;
+        match self.wanted {
+            Wanted::Chunk(chunk) => What::PullState { pid, chunk },
+            Wanted::Block(block) => What::PullBlock { pid, block },
+            Wanted::Nothing => What::AllTaken { pid },
+        }
+    }
+
+    /// Takes the chunk that was asked for.
+    fn take_chunk(&mut self, chunk: u32, last: bool, bytes: &[u8])
+        requires { IsNextChunk self.old self.old.pid chunk last bytes.now }
+        ensures { self.new ≡ with_chunk self.old chunk last bytes.now }
+    {
+        put_at(&mut self.state, CHUNK * chunk as usize, bytes);
+        self.wanted = after_chunk(chunk, last);
+    }
+
+    /// Takes the block that was asked for.
+    fn take_block(&mut self, block: u8, bytes: &[u8; 256])
+        requires { self.old.wanted ≡ Wanted.Block block }
+        ensures { self.new ≡ with_block self.old block bytes.now }
+    {
+        let blocks = self.memory.blocks();
+        self.memory.put_block(block, bytes);
+        self.wanted = after_block(block, blocks);
+    }
+}
+
+/// What is asked for after a chunk.
+fn after_chunk(chunk: u32, last: bool) -> Wanted
+    requires { chunk < u32.MAX }
+    ensures { result ≡ after_chunk chunk last }
+{
+    if last {
+        Wanted::Block(0)
+    } else {
+        Wanted::Chunk(chunk + 1)
+    }
+}
+
+/// What is asked for after a block, where there are so many.
+fn after_block(block: u8, blocks: u16) -> Wanted
+    requires { blocks ≤ 256 }
+    ensures { result ≡ after_block block blocks }
+{
+    if u16::from(block) + 1 < blocks {
+        Wanted::Block(block + 1)
+    } else {
+        Wanted::Nothing
+    }
+}
+
+/// The process that a shell and a memory make, after one move more.
+fn revive(alloc: Global, shell: Shell, memory: Memory) -> Process
+    requires { shell.moves < 4294967295 }
+    ensures { result ≡ revived shell memory }
+{
+    Process {
+        pid: shell.pid,
+        regs: shell.regs,
+        memory,
+        table: shell.table,
+        status: shell.status,
+        stopped: shell.stopped,
+        sent: shell.sent,
+        moves: shell.moves + 1,
+        queue: Queue::new(alloc),
+    }
+}
+
+/// Copies all of a slice to a place in a vector.
+fn put_at(bytes: &mut Vec<u8>, at: usize, from: &[u8])
+    requires { at + length from.now ≤ length bytes.old.items }
+    ensures { bytes.new.items ≡ take at bytes.old.items ++ from.now ++ drop (at + length from.now) bytes.old.items }
+{
+    bytes[at..at + from.len()].copy_from_slice(from);
+}

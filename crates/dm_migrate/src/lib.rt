@@ -1,0 +1,16 @@
+//! Migration (1983): the two states that a process has on its way, where it leaves and where it comes to.
+#![tactic(auto)]
+
+pub mod answer;
+pub mod arriving;
+mod laws;
+pub mod leaving;
+
+pub use answer::{Asked, answer_ask};
+pub use arriving::{Arriving, Wanted};
+pub use dm_memory::NoMemory;
+pub use laws::{arrives_whole, can_move, comes_by_pieces};
+pub use leaving::{Leaving, freeze};
+
+#[cfg(test)]
+mod tests;
