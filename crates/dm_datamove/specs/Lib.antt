@@ -1,0 +1,3 @@
+pub mod Requests
+pub mod Serving
+pub mod Landing

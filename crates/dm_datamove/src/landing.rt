@@ -1,0 +1,115 @@
+//! The landing of pieces at the mover.
+ghost use Rattle.std.specs.Prelude.{◌≡◌, ◌↔◌, ◌+◌, ◌≤◌, ◌<◌, Some, length};
+ghost use Rattle.dm_message.specs.declared.What.TheVariants as what;
+ghost use Rattle.dm_message.specs.Lawful.{IsLawfulMessage};
+ghost use Rattle.dm_message.specs.Plain.{plain_message};
+ghost use Rattle.dm_process.specs.Lawful.{IsLawfulProcess};
+ghost use Rattle.dm_onekernel.specs.declared.label.Reply.TheVariants as reply;
+ghost use Rattle.dm_datamove.specs.declared.Landed.TheVariants as landed;
+ghost use Rattle.dm_datamove.specs.Landing.{IsAnswerOf, IsAwaited, IsLawfulLanded, done, goes_on, landing, lands_what, plain_landed, plainly_landed};
+
+use crate::requests::{piece_of, send_request};
+use crate::{Landed, Rest};
+use dm_message::{Message, What};
+use dm_onekernel::Reply;
+use dm_process::{Direction, Process, Status};
+use dm_regs::Cells;
+
+/// Ends the move with a reply in register 0.
+fn end(process: &mut Process, reply: Reply) -> Landed
+    ensures landed { result ≡ (done reply process.old).landed }
+    ensures process { process.new ≡ (done reply process.old).process }
+{
+    process.regs.r[0] = u32::from(reply.code());
+    process.status = Status::Ready;
+    Landed::Done(reply)
+}
+
+/// Goes on behind the first piece of the rest, which has come.
+fn go_on(process: &mut Process, rest: Rest, here: u8) -> Landed
+    requires area { rest.base + rest.left ≤ 65536 }
+    requires own { rest.own + rest.left ≤ length process.old.memory }
+    requires size { length process.old.memory ≤ 65536 }
+    requires counts { process.old.sent < 4294967295 }
+    ensures landed { result ≡ (goes_on here process.old rest).landed }
+    ensures process { process.new ≡ (goes_on here process.old rest).process }
+{
+    let piece = piece_of(rest.left);
+    let left = rest.left - piece;
+    if left == 0 {
+        end(process, Reply::Done)
+    } else {
+        let rest = Rest {
+            base: rest.base + piece,
+            own: rest.own + piece,
+            left,
+            ..rest
+        };
+        Landed::Next(send_request(process, rest, here))
+    }
+}
+
+/// Lands the answer to the request for the first piece of the rest.
+fn land_first(process: &mut Process, rest: Rest, what: &What, here: u8) -> Landed
+    requires answer { IsAnswerOf rest.dir rest.left what.now }
+    requires area { rest.base + rest.left ≤ 65536 }
+    requires own { rest.own + rest.left ≤ length process.old.memory }
+    requires size { length process.old.memory ≤ 65536 }
+    requires counts { process.old.sent < 4294967295 }
+    ensures { lands_what here process.old rest rest.dir what.now ≡ Some (record { landed = result; process = process.new }) }
+{
+    match (rest.dir, what) {
+        (Direction::FromArea, What::Block { bytes }) => {
+            process.memory.copy_in(rest.own, bytes.as_slice());
+            go_on(process, rest, here)
+        },
+        (Direction::IntoArea, What::Written) => go_on(process, rest, here),
+        (_, What::Gone) => end(process, Reply::Gone),
+        _ => unreachable!(),
+    }
+}
+
+/// Lands the answer, if it is one to the request that is under way.
+fn land_awaited(process: &mut Process, message: &Message, here: u8) -> Landed
+    requires lawful { IsLawfulProcess process.old }
+    requires awaited { IsAwaited process.old.status message.now }
+    requires counts { process.old.sent < 4294967295 }
+    ensures { landing here process.old message.now.what process.old.status ≡ Some (record { landed = result; process = process.new }) }
+{
+    let Status::Moving {
+        dir,
+        owner,
+        base,
+        own,
+        left,
+        ..
+    } = process.status
+    else {
+        unreachable!()
+    };
+    let rest = Rest {
+        dir,
+        owner,
+        base,
+        own,
+        left,
+    };
+    land_first(process, rest, &message.what, here)
+}
+
+/// Lands the answer to the request that is under way at the mover, on machine `here`: the next request goes out, or the
+/// move is over. A stopped process's pieces land too.
+pub fn land(process: &mut Process, message: &Message, here: u8) -> Landed
+    requires lawful { IsLawfulProcess process.old }
+    requires lawful_answer { IsLawfulMessage message.now }
+    requires here { here < 16 }
+    requires awaited { IsAwaited process.old.status message.now }
+    requires counts { process.old.sent < 4294967295 }
+    ensures exact { landing here process.old message.now.what process.old.status ≡ Some (record { landed = result; process = process.new }) }
+    ensures gone { (result ≡ landed.Done reply.Gone) ↔ (message.now.what ≡ what.Gone) }
+    ensures plain { plain_landed result process.new ≡ plainly_landed process.old (plain_message message.now) }
+    ensures lawful { IsLawfulProcess process.new }
+    ensures lawful_next { IsLawfulLanded result }
+{
+    land_awaited(process, message, here)
+}

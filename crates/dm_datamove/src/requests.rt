@@ -1,0 +1,95 @@
+//! Requests for pieces of a data move.
+ghost use Rattle.std.specs.Prelude.{◌≡◌, ◌+◌, ◌≤◌, ◌<◌, Some, length};
+ghost use Rattle.dm_message.specs.Lawful.{IsLawfulMessage};
+ghost use Rattle.dm_message.specs.Plain.{plain_message};
+ghost use Rattle.dm_process.specs.Lawful.{IsLawfulProcess};
+ghost use Rattle.dm_onekernel.specs.Pieces.{piece_of, requests};
+ghost use Rattle.dm_onekernel.specs.Plain.{plain_process};
+ghost use Rattle.dm_datamove.specs.Requests.{IsRest, moving, plain_requested, request, request_of};
+
+use crate::{Rest, address_of, body_at};
+use dm_message::{Message, MsgId, What};
+use dm_process::{Direction, Process, Status};
+
+/// The most bytes of a piece.
+const PIECE: u32 = 256;
+
+/// The length of the first piece of so many bytes.
+pub fn piece_of(left: u32) -> u32
+    ensures piece { result ≡ piece_of left }
+    ensures short { result ≤ 256 }
+    ensures part { result ≤ left }
+{
+    left.min(PIECE)
+}
+
+/// What is asked for.
+fn request_of(process: &Process, rest: Rest) -> What
+    requires { rest.own + rest.left ≤ length process.now.memory }
+    ensures { result ≡ request_of process.now rest.dir rest.base rest.own rest.left }
+{
+    let piece = piece_of(rest.left);
+    match rest.dir {
+        Direction::FromArea => What::Read {
+            base: rest.base,
+            len: piece as u16,
+        },
+        Direction::IntoArea => What::Write {
+            base: rest.base,
+            bytes: body_at(&process.memory, rest.own, piece),
+        },
+    }
+}
+
+/// Sends the request for the first piece of what is left.
+pub fn send_request(process: &mut Process, rest: Rest, here: u8) -> Message
+    requires own { rest.own + rest.left ≤ length process.old.memory }
+    requires counts { process.old.sent < 4294967295 }
+    ensures message { result ≡ request here process.old rest }
+    ensures process { process.new ≡ moving process.old rest }
+{
+    let n = process.sent;
+    let Rest {
+        dir,
+        owner,
+        base,
+        own,
+        left,
+    } = rest;
+    let message = Message {
+        id: MsgId {
+            from: process.pid,
+            n,
+            answer: false,
+        },
+        to: owner,
+        sender: address_of(process, here),
+        what: request_of(process, rest),
+    };
+    process.status = Status::Moving {
+        dir,
+        owner,
+        base,
+        own,
+        left,
+        pending: n,
+    };
+    process.sent += 1;
+    message
+}
+
+/// Sends the request for the first piece of what is left of a move, from machine `here`; the mover waits for its answer
+/// then.
+pub fn request(process: &mut Process, rest: Rest, here: u8) -> Message
+    requires lawful { IsLawfulProcess process.old }
+    requires here { here < 16 }
+    requires rest { IsRest (length process.old.memory) rest }
+    requires counts { process.old.sent < 4294967295 }
+    ensures message { result ≡ request here process.old rest }
+    ensures process { process.new ≡ moving process.old rest }
+    ensures plain { plain_requested (plain_message result) process.new ≡ Some (requests process.old.pid (plain_process process.old) rest.dir rest.owner.pid rest.base rest.own rest.left) }
+    ensures lawful { IsLawfulProcess process.new }
+    ensures lawful_message { IsLawfulMessage result }
+{
+    send_request(process, rest, here)
+}

@@ -1,0 +1,89 @@
+//! The service of requests where the area is.
+ghost use Rattle.std.specs.Prelude.{◌≡◌, ◌<◌, Some, length};
+ghost use Rattle.dm_message.specs.Lawful.{IsLawfulMessage, IsLawfulWhat};
+ghost use Rattle.dm_message.specs.Plain.{plain_message};
+ghost use Rattle.dm_process.specs.Lawful.{IsLawfulProcess};
+ghost use Rattle.dm_datamove.specs.Serving.{IsRequest, IsWithin, after_serving, answer, answer_of, gone_answer, plain_served, plainly_gone, served_plainly, serving_answer};
+
+use crate::body_at;
+use dm_link::Addr;
+use dm_message::{Message, MsgId, What};
+use dm_process::Process;
+use dm_regs::Cells;
+
+/// An answer under the request's name to who asked, from its receiver on machine `here`, so often moved.
+fn answer(request: &Message, here: u8, moves: u32, what: What) -> Message
+    ensures { result ≡ answer here moves request.now what }
+{
+    Message {
+        id: MsgId {
+            answer: true,
+            ..request.id
+        },
+        to: request.sender,
+        sender: Addr {
+            pid: request.to.pid,
+            at: here,
+            moves,
+        },
+        what,
+    }
+}
+
+/// Reads or writes what is asked for; what the answer says.
+fn serve_what(process: &mut Process, what: &What) -> What
+    requires lawful { IsLawfulWhat what.now }
+    requires within { IsWithin (length process.old.memory) what.now }
+    ensures answer { answer_of process.old what.now ≡ Some result }
+    ensures process { process.new ≡ after_serving process.old what.now }
+{
+    match what {
+        What::Read { base, len } => What::Block {
+            bytes: body_at(&process.memory, *base, u32::from(*len)),
+        },
+        What::Write { base, bytes } => {
+            process.memory.copy_in(*base, bytes.as_slice());
+            What::Written
+        },
+        _ => unreachable!(),
+    }
+}
+
+/// Serves a request; the answer.
+fn serve_request(process: &mut Process, message: &Message, here: u8) -> Message
+    requires lawful { IsLawfulWhat message.now.what }
+    requires within { IsWithin (length process.old.memory) message.now.what }
+    ensures answer { serving_answer here process.old message.now ≡ Some result }
+    ensures process { process.new ≡ after_serving process.old message.now.what }
+{
+    let what = serve_what(process, &message.what);
+    answer(message, here, process.moves, what)
+}
+
+/// Serves a request for a piece that lies within the memory of its receiver, on machine `here`; a stopped process is
+/// served too.
+pub fn serve(process: &mut Process, message: &Message, here: u8) -> Message
+    requires lawful { IsLawfulProcess process.old }
+    requires lawful_request { IsLawfulMessage message.now }
+    requires here { here < 16 }
+    requires within { IsWithin (length process.old.memory) message.now.what }
+    ensures answer { serving_answer here process.old message.now ≡ Some result }
+    ensures process { process.new ≡ after_serving process.old message.now.what }
+    ensures plain { plain_served process.new (plain_message result) ≡ served_plainly process.old (plain_message message.now) }
+    ensures lawful { IsLawfulProcess process.new }
+    ensures lawful_answer { IsLawfulMessage result }
+{
+    serve_request(process, message, here)
+}
+
+/// The answer to a request for a piece where its receiver has ended, on machine `here`.
+pub fn gone(message: &Message, here: u8) -> Message
+    requires lawful { IsLawfulMessage message.now }
+    requires here { here < 16 }
+    requires request { IsRequest message.now.what }
+    ensures answer { result ≡ gone_answer here message.now }
+    ensures plain { plain_message result ≡ plainly_gone (plain_message message.now) }
+    ensures lawful { IsLawfulMessage result }
+{
+    answer(message, here, message.to.moves, What::Gone)
+}

@@ -1,0 +1,8 @@
+-- Whether one of those that are left is empty says whether one of all is.
+use Rattle.std.proofs.Common.{◌≡◌, drop, map}
+use Rattle.dm_linktable.specs.Slots.{plain_slot}
+use Rattle.dm_onekernel.specs.Calls.{any_empty}
+use Rattle.dm_syscall.proofs.send.any_empty.Given as goal
+
+abbrev pub invariant-loop-slot : goal.invariant-loop-slot
+invariant-loop-slot l = any_empty (map plain_slot l.table) (drop l.slot-index l.slots) ≡ any_empty (map plain_slot l.table) l.slots

@@ -1,0 +1,4 @@
+pub mod Calls
+pub mod Sends
+pub mod Plainly
+pub mod Completing

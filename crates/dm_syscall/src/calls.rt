@@ -1,0 +1,108 @@
+//! The calls by number.
+ghost use Rattle.std.specs.Prelude.{◌≡◌, ◌+◌, ◌≤◌, ◌<◌, Some, length, nat_lt};
+ghost use Rattle.dm_process.specs.Lawful.{IsLawfulProcess};
+ghost use Rattle.dm_onekernel.specs.Calls as kernel;
+ghost use Rattle.dm_onekernel.specs.Plain.{plain_process};
+ghost use Rattle.dm_syscall.specs.Calls.{calls, outputs, replied, waits};
+ghost use Rattle.dm_syscall.specs.Plainly.{IsLawfulCalled, plain_called};
+
+use crate::Called;
+use crate::links::{copy, drop_link, make};
+use crate::send::send;
+use crate::transfer::transfer;
+use dm_onekernel::{Reply, Why};
+use dm_process::{Process, Status};
+use dm_regs::{Cells, Memory};
+
+/// The numbers of the calls.
+const EXIT: u8 = 1;
+
+const OUT: u8 = 2;
+
+const MAKE: u8 = 3;
+
+const COPY: u8 = 4;
+
+const DROP: u8 = 5;
+
+const SEND: u8 = 6;
+
+const RECEIVE: u8 = 7;
+
+const MOVE: u8 = 8;
+
+/// Does the call with a number for a process on machine `here`, whose program counter is past the instruction.
+pub fn call(process: &mut Process, number: u8, here: u8) -> Called
+    requires lawful { IsLawfulProcess process.old }
+    requires here { here < 16 }
+    requires counts { process.old.sent < 4294967295 }
+    ensures called { result ≡ (calls here process.old number).called }
+    ensures process { process.new ≡ (calls here process.old number).process }
+    ensures plain { plain_called result process.new ≡ Some (kernel.call process.old.pid (plain_process process.old) number) }
+    ensures lawful { IsLawfulProcess process.new }
+    ensures lawful_message { IsLawfulCalled result }
+    ensures counted { process.new.sent ≤ process.old.sent + 1 }
+{
+    dispatch(process, number, here)
+}
+
+/// Does the call with a number.
+fn dispatch(process: &mut Process, number: u8, here: u8) -> Called
+    requires lawful { IsLawfulProcess process.old }
+    requires here { here < 16 }
+    requires counts { process.old.sent < 4294967295 }
+    ensures called { result ≡ (calls here process.old number).called }
+    ensures process { process.new ≡ (calls here process.old number).process }
+{
+    match number {
+        EXIT => Called::Ended(Why::Exit),
+        OUT => out(process),
+        MAKE => make(process, here),
+        COPY => copy(process),
+        DROP => drop_link(process),
+        SEND => send(process, here),
+        RECEIVE => receive(process),
+        MOVE => transfer(process, here),
+        _ => Called::Ended(Why::UnknownCall),
+    }
+}
+
+/// Ends a call with a reply in register 0.
+pub fn reply(process: &mut Process, reply: Reply) -> Called
+    ensures called { result ≡ (replied reply process.old).called }
+    ensures process { process.new ≡ (replied reply process.old).process }
+{
+    process.regs.r[0] = u32::from(reply.code());
+    Called::Replied(reply)
+}
+
+/// Puts out the word in register 1.
+fn out(process: &mut Process) -> Called
+    ensures called { result ≡ (outputs process.old).called }
+    ensures process { process.new ≡ (outputs process.old).process }
+{
+    let word = process.regs.r[1];
+    reply(process, Reply::Done);
+    Called::Out(word)
+}
+
+/// Whether so many bytes at an address end outside the memory.
+pub fn ends_outside(memory: &Memory, base: u32, len: u32) -> bool
+    ensures { result ≡ nat_lt (length memory.now) (base + len) }
+{
+    u64::from(memory.len()) < u64::from(base) + u64::from(len)
+}
+
+/// Waits for a message on a channel of mask r1, to come into r3 bytes at r2.
+fn receive(process: &mut Process) -> Called
+    ensures called { result ≡ (waits process.old).called }
+    ensures process { process.new ≡ (waits process.old).process }
+{
+    let [_, mask, base, cap, ..] = process.regs.r;
+    if ends_outside(&process.memory, base, cap) {
+        reply(process, Reply::BadRange)
+    } else {
+        process.status = Status::Waiting { mask, base, cap };
+        Called::Waits
+    }
+}
