@@ -37,7 +37,7 @@ use Rattle.dm_laws.proofs.Sound.{Sound, Serves, plus, leaves, sends, answers, se
 use Rattle.dm_laws.proofs.Steps.{bind-is, when-is, After, quiet, puts, was_none, Grown-bag}
 
 -- a server's answer: nothing, and its count stays, or a message under its count, which it raises
-abbrev ServerSends : Pid → ℕ → Option PlainMessage → ℕ → Type 0
+abbrev pub ServerSends : Pid → ℕ → Option PlainMessage → ℕ → Type 0
 ServerSends server n None after = after ≡ n
 ServerSends server n (Some m) after = (m.id ≡ id_of server n) × (after ≡ n + 1) × (is_of_memory m.what ≡ false) × (is_piece m.what ≡ false)
 
@@ -45,7 +45,7 @@ board_request : (b : Switchboard) (body : List ℕ) (links : List PlainLink) →
 board_request b body [] = refl
 board_request b body (l ∷ ls) = (refl, refl, refl, refl)
 
-board_takes : (b : Switchboard) (m : PlainMessage) (w : PlainWhat) (k : board.Took) → board.takes b m w ≡ Some k
+pub board_takes : (b : Switchboard) (m : PlainMessage) (w : PlainWhat) (k : board.Took) → board.takes b m w ≡ Some k
     → (is_of_memory w ≡ false) × (is_piece w ≡ false) × ServerSends switchboard b.sent k.answer k.switchboard.sent
 board_takes b m (what.User code channel body links) k e =
     let f : board.takes_request b body links ≡ k = cc in
@@ -65,9 +65,9 @@ board_takes b m (what.Move a) k e = cc
 board_takes b m (what.Moved a) k e = cc
 
 -- the manager: its children and its count only rise
-record ManagerSends (g : Manager) (k : manage.Took) : Type 0 where
-  sends : ServerSends manager g.sent k.message k.manager.sent
-  children : length g.children ≤ length k.manager.children
+pub record ManagerSends (g : Manager) (k : manage.Took) : Type 0 where
+  pub sends : ServerSends manager g.sent k.message k.manager.sent
+  pub children : length g.children ≤ length k.manager.children
 
 manager_answers : (g h : Manager) (l : PlainLink) (code : ℕ) (links : List PlainLink) → h.sent ≡ g.sent → length g.children ≤ length h.children → ManagerSends g (manage.answers h l code links)
 manager_answers g h l code links e le = record { sends = (ap (id_of manager) e, ap (λ n. n + 1) e, refl, refl); children = le }
@@ -132,7 +132,7 @@ manager_no_room g n (Some r) k e =
     let f : manage.answers h r.answer 1 [] ≡ k = cc in
     subst (ManagerSends g) f (manager_answers g h r.answer 1 [] refl (omega arith))
 
-manager_takes : (g : Manager) (machines images : ℕ) (m : PlainMessage) (w : PlainWhat) (k : manage.Took) → manage.takes g machines images m w ≡ Some k
+pub manager_takes : (g : Manager) (machines images : ℕ) (m : PlainMessage) (w : PlainWhat) (k : manage.Took) → manage.takes g machines images m w ≡ Some k
     → (is_of_memory w ≡ false) × (is_piece w ≡ false) × ManagerSends g k
 manager_takes g machines images m (what.User code channel body links) k e =
     let f : manage.takes_user g machines images code body links ≡ k = cc in (
@@ -245,7 +245,7 @@ after_took r e s t id is h =
     takes_by r e s t id m (pid_eq m.to switchboard) (pid_eq m.to manager) there rest h
 
 -- a message whose receiver has ended
-ended-is : (l : Option Life) (y : Why) → step.ended l ≡ Some y → l ≡ Some (Ended y)
+pub ended-is : (l : Option Life) (y : Why) → step.ended l ≡ Some y → l ≡ Some (Ended y)
 ended-is None y e = cc
 ended-is (Some (Alive x)) y e = cc
 ended-is (Some (Ended z)) y e = ap (λ (v : Why). Some (Ended v)) (let f : z ≡ y = cc in f)

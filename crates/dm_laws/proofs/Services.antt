@@ -58,7 +58,7 @@ serves_piece r e s id m x y w l there is sent pending memory asking answering no
     (stayed v id) (Grown-process s t m.to x y is (omega (arith, sent)) (λ q. refl) (λ n. refl) refl refl) after_
 
 -- what a landing comes to
-abbrev LandsSo : Pid → PlainProcess → pieces.Landed → Type 0
+abbrev pub LandsSo : Pid → PlainProcess → pieces.Landed → Type 0
 LandsSo p x (pieces.Next m y) = Sent p x m y × (is_of_memory m.what ≡ true)
 LandsSo p x (pieces.Done c y) = (y.sent ≡ x.sent) × (pending_of y.status ≡ None)
 
@@ -114,7 +114,7 @@ if_lands_what : (p : Pid) (x : PlainProcess) (b : Bool) (dir : Direction) (owner
 if_lands_what p x true dir owner base own left w c e = lands_what-is p x dir owner base own left w c e
 if_lands_what p x false dir owner base own left w c e = cc
 
-lands-is : (p : Pid) (x : PlainProcess) (m : PlainMessage) (st : PlainStatus) (c : pieces.Landed) → pieces.lands p x m st ≡ Some c → LandsSo p x c
+pub lands-is : (p : Pid) (x : PlainProcess) (m : PlainMessage) (st : PlainStatus) (c : pieces.Landed) → pieces.lands p x m st ≡ Some c → LandsSo p x c
 lands-is p x m (Moving dir owner base own left pending) c e = if_lands_what p x (m.id.n == pending) dir owner base own left m.what c e
 lands-is p x m Ready c e = cc
 lands-is p x m (Waiting mask base size) c e = cc

@@ -75,10 +75,10 @@ pub received : (r e : MsgId → ℕ) (s : OneKernel) (id : MsgId) → is_some (s
 received r e s id there un h = record { entered = Entered-received r e s id there h.entered; made = record { least = h.made.least; most = h.made.most }; movers = Movers-out s id un h.movers }
 
 -- no process is named as a server
-not_server : (s : OneKernel) (p : Pid) (x : PlainProcess) → s.processes p ≡ Some (Alive x) → Made s → (pid_eq p switchboard ≡ false) × (pid_eq p manager ≡ false)
+pub not_server : (s : OneKernel) (p : Pid) (x : PlainProcess) → s.processes p ≡ Some (Alive x) → Made s → (pid_eq p switchboard ≡ false) × (pid_eq p manager ≡ false)
 not_server s p x is h = let k = h.least p (alive_is_some s p x is) in (grind (arith, nat_tests), grind (arith, nat_tests))
 
-counts_process : (s : OneKernel) (p : Pid) (i : MsgId) → i.from ≡ p → (pid_eq p switchboard ≡ false) × (pid_eq p manager ≡ false) → counts s i ≡ is_counted i.n (s.processes p)
+pub counts_process : (s : OneKernel) (p : Pid) (i : MsgId) → i.from ≡ p → (pid_eq p switchboard ≡ false) × (pid_eq p manager ≡ false) → counts s i ≡ is_counted i.n (s.processes p)
 counts_process s p i e f = let a = f.0 in let b = f.1 in grind (arith, nat_tests)
 
 process_at : (s : OneKernel) (p : Pid) (life : Life) → (with_process s p life).processes p ≡ Some life
@@ -132,7 +132,7 @@ none_of r e s i None f fresh h = refl
 none_of r e s i (Some m) f fresh h = absurd (false≢true (sym fresh ∙ counted_in r e s i m f h))
 
 -- what isn't counted isn't in the bag
-not_counted : (r e : MsgId → ℕ) (s : OneKernel) (i : MsgId) → counts s i ≡ false → Entered r e s → s.bag i ≡ None
+pub not_counted : (r e : MsgId → ℕ) (s : OneKernel) (i : MsgId) → counts s i ≡ false → Entered r e s → s.bag i ≡ None
 not_counted r e s i fresh h = none_of r e s i (s.bag i) refl fresh h
 
 abbrev pub plus : MsgId → MsgId → ℕ
@@ -160,7 +160,7 @@ answer_free_of r e s id m (Some a) f there back h =
     let entered : 1 ≤ e (answer_id id) = let k = h.fewer (answer_id id) in let g : in_bag (s.bag (answer_id id)) ≡ 1 = ap in_bag f in omega (arith, k, g) in
     absurd (let gone : s.bag id ≡ None = sym (ap s.bag back) ∙ h.answers (answer_id id) refl entered in let k : None ≡ Some m = sym gone ∙ there in cc)
 
-answer_free : (r e : MsgId → ℕ) (s : OneKernel) (id : MsgId) (m : PlainMessage) → s.bag id ≡ Some m → id.answer ≡ false → Entered r e s → s.bag (answer_id id) ≡ None
+pub answer_free : (r e : MsgId → ℕ) (s : OneKernel) (id : MsgId) (m : PlainMessage) → s.bag id ≡ Some m → id.answer ≡ false → Entered r e s → s.bag (answer_id id) ≡ None
 answer_free r e s id m there request h =
     let back : request_id (answer_id id) ≡ id = grind arith in
     answer_free_of r e s id m (s.bag (answer_id id)) refl there back h

@@ -1,0 +1,15 @@
+pub mod Worked
+pub mod Standing
+pub mod Once
+pub mod Lines
+pub mod Bags
+pub mod States
+pub mod Turns
+pub mod Handled
+pub mod Groups
+pub mod PairsStand
+pub mod PairsMoves
+pub mod PairsLines
+pub mod PairsTurns
+pub mod PairsComes
+pub mod Pairs

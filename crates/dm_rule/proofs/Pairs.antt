@@ -1,0 +1,129 @@
+-- The pairs of machines stand, wherever the rule leads.
+use Rattle.std.proofs.Common.{◌≡◌, ℕ, ◌+◌, ◌<◌, ◌≤◌, ◌==◌, ◌&&◌, Bool, true, false, List, [], ◌∷◌, refl, ap, ◌∙◌, sym, subst, arith, length}
+use Rattle.std.specs.Prelude.{◌≢◌, slice_get}
+use Rattle.std.specs.declared.option.Option.TheVariants.{Some}
+use Rattle.std.proofs.lemmas.Bool.{false≢true}
+use Rattle.std.proofs.lemmas.Bool.Decides.{nat_tests}
+use Rattle.dm_onekernel.specs.declared.boot.Boot.{Boot}
+use Rattle.dm_onekernel.specs.Options.{bind}
+use Rattle.dm_schedule.specs.declared.Step.{Step}
+use Rattle.dm_schedule.specs.declared.Step.TheVariants as step
+use Rattle.dm_rule.specs.declared.line.Line.TheVariants as line
+use Rattle.dm_rule.specs.declared.line.Load.TheVariants as load
+use Rattle.dm_rule.specs.Sets.{at_pair}
+use Rattle.dm_rule.specs.View.{View, Pair, Sent, first_view, marked}
+use Rattle.dm_rule.specs.Point.{Point, after_line, first_point}
+use Rattle.dm_rule.specs.Parts.{Part, Says, Spelled, spelled}
+use Rattle.dm_rule.specs.Rule.{has, outstanding, resends, arrives, outcome, headed, group_of}
+use Rattle.dm_rule.specs.Pairs.{PairStands, HomeStands}
+use Rattle.dm_rule.specs.Laws.{IsStep, Leads, PairsStandAlways}
+use Rattle.dm_rule.proofs.PairsStand.{LoadStands, WireStands-at, set_same, set_other}
+use Rattle.dm_rule.proofs.PairsMoves.{Paired, marked_goes}
+use Rattle.dm_rule.proofs.PairsLines.{bind-is, line_view, AllFit, keeps}
+use Rattle.dm_rule.proofs.PairsTurns.{turns_fit, resends_fit}
+use Rattle.dm_rule.proofs.PairsComes.{arrives_keep}
+
+abbrev pub Pairs : View → Type 0
+Pairs v = Paired v.pair
+
+pub Pairs-start : (b : Boot) → Pairs (first_view b)
+Pairs-start b = record {
+  stand = record {
+    apart = λ m n e. record { acked = omega arith; taken = omega arith; gone = omega arith; full = omega arith; wire = tt };
+    home = λ m. record { taken = refl; gone = refl; acked = refl; kept = refl; wire = refl };
+  };
+  kept = λ m n k e. absurd (false≢true e);
+}
+
+-- on a machine's pair with itself nothing is out, and on others no more was acknowledged than went out
+acked_out_by : (v : View) (m b : ℕ) (same : Bool) → (m == b) ≡ same → Pairs v → (v.pair m b).acked ≤ (v.pair m b).gone
+acked_out_by v m b false e h = let x = h.stand.apart m b e in let y = x.acked in let z = x.taken in omega arith
+acked_out_by v m b true e h =
+    let is : m ≡ b = grind (arith, nat_tests) in
+    let x = h.stand.home m in
+    let y : (v.pair m m).acked ≤ (v.pair m m).gone = let p = x.acked in let q = x.gone in omega arith in
+    subst (λ (n : ℕ). (v.pair m n).acked ≤ (v.pair m n).gone) is y
+
+-- the three steps of a group
+record Group (b : Boot) (pt : Point) (e : Step) (w : Spelled) : Type 0 where
+  parts : List Part
+  follows : outcome b pt e ≡ Some parts
+  begun : Point
+  begins : after_line pt (line.Head e) ≡ Some begun
+  rest : Spelled
+  on : spelled begun parts ≡ Some rest
+  end : rest.point ≡ w.point
+
+group : (b : Boot) (pt : Point) (e : Step) (w : Spelled) → group_of b pt e ≡ Some w → Group b pt e w
+group b pt e w is =
+    let (parts, follows, more) = bind-is (outcome b pt e) (λ parts. bind (after_line pt (line.Head e)) (λ begun. bind (spelled begun parts) (λ w. Some (headed (line.Head e) w)))) w is in
+    let (begun, begins, last) = bind-is (after_line pt (line.Head e)) (λ begun. bind (spelled begun parts) (λ w. Some (headed (line.Head e) w))) w more in
+    let (rest, on, all) = bind-is (spelled begun parts) (λ w. Some (headed (line.Head e) w)) w last in
+    let f : headed (line.Head e) rest ≡ w = cc in
+    record { parts = parts; follows = follows; begun = begun; begins = begins; rest = rest; on = on; end = ap (λ (x : Spelled). x.point) f }
+
+turn_keeps : (b : Boot) (pt : Point) (m : ℕ) (w : Spelled) → Group b pt (step.Turn m) w → Pairs pt.view → Pairs w.point.view
+turn_keeps b pt m w g h =
+    let is : g.begun.view.pair ≡ pt.view.pair = ap (λ (v : View). v.pair) (line_view pt g.begun (line.Head (step.Turn m)) g.begins) in
+    let k : Pairs g.rest.point.view = keeps g.parts g.begun g.rest (turns_fit g.begun.view.pair b pt m (pt.view.inbox m) g.parts g.follows) (subst Paired (sym is) h) g.on in
+    subst (λ (q : Point). Pairs q.view) g.end k
+
+tick_keeps : (b : Boot) (pt : Point) (m : ℕ) (w : Spelled) → Group b pt (step.Tick m) w → Pairs pt.view → Pairs w.point.view
+tick_keeps b pt m w g h =
+    let is : g.begun.view.pair ≡ pt.view.pair = ap (λ (v : View). v.pair) (line_view pt g.begun (line.Head (step.Tick m)) g.begins) in
+    let parts : Says (line.Resent m (outstanding pt.view m pt.kernel.machines)) ∷ resends pt.view m pt.kernel.machines ≡ g.parts = let f = g.follows in cc in
+    let fit : AllFit pt.view.pair (Says (line.Resent m (outstanding pt.view m pt.kernel.machines)) ∷ resends pt.view m pt.kernel.machines) =
+    (refl, resends_fit pt.view m pt.kernel.machines (λ n. acked_out_by pt.view m n (m == n) refl h)) in
+    let fits : AllFit g.begun.view.pair g.parts = subst (λ (f : ℕ → ℕ → Pair). AllFit f g.parts) (sym is) (subst (AllFit pt.view.pair) parts fit) in
+    let k : Pairs g.rest.point.view = keeps g.parts g.begun g.rest fits (subst Paired (sym is) h) g.on in
+    subst (λ (q : Point). Pairs q.view) g.end k
+
+deliver_keeps : (b : Boot) (pt : Point) (a c k : ℕ) (w : Spelled) → a ≢ c → Group b pt (step.Deliver a c k) w → Pairs pt.view → Pairs w.point.view
+deliver_keeps b pt a c k w apart g h =
+    let ac : (a == c) ≡ false = grind (arith, nat_tests) in
+    let ca : (c == a) ≡ false = grind (arith, nat_tests) in
+    let f = pt.view.pair in
+    let is : g.begun.view.pair ≡ at_pair f a c (marked (f a c) k) = ap (λ (v : View). v.pair) (line_view pt g.begun (line.Head (step.Deliver a c k)) g.begins) in
+    let goes = marked_goes f a c k ac h in
+    let there : g.begun.view.pair a c ≡ marked (f a c) k = ap (λ (p : ℕ → ℕ → Pair). p a c) is ∙ set_same f a c (marked (f a c) k) in
+    let off : ((a == c) && (c == a)) ≡ false = grind (arith, nat_tests) in
+    let back : g.begun.view.pair c a ≡ f c a = ap (λ (p : ℕ → ℕ → Pair). p c a) is ∙ set_other f a c (marked (f a c) k) c a off in
+    let parts : arrives a c (f a c) (f c a) (slice_get (f a c).wire k) ≡ g.parts = let x = g.follows in cc in
+    let on : spelled g.begun (arrives a c (f a c) (f c a) (slice_get (f a c).wire k)) ≡ Some g.rest = ap (spelled g.begun) parts ∙ g.on in
+    let r : Pairs g.rest.point.view = arrives_keep g.begun a c k (f a c) (f c a) (slice_get (f a c).wire k) g.rest refl ac ca there back (h.stand.apart a c ac) (subst Paired (sym is) goes.paired) on in
+    subst (λ (q : Point). Pairs q.view) g.end r
+
+pub Pairs-group : (b : Boot) (pt : Point) (e : Step) (w : Spelled) → IsStep pt.kernel.machines e → group_of b pt e ≡ Some w → Pairs pt.view → Pairs w.point.view
+Pairs-group b pt (step.Turn m) w fits is h = turn_keeps b pt m w (group b pt (step.Turn m) w is) h
+Pairs-group b pt (step.Tick m) w fits is h = tick_keeps b pt m w (group b pt (step.Tick m) w is) h
+Pairs-group b pt (step.Deliver a c k) w fits is h = deliver_keeps b pt a c k w fits.2 (group b pt (step.Deliver a c k) w is) h
+Pairs-group b pt (step.Migrate p m) w fits is h = cc
+
+Pairs-on : (b : Boot) (es : List Step) (pt end : Point) → Leads b pt es end → Pairs pt.view → Pairs end.view
+Pairs-on b [] pt end leads h = subst (λ (q : Point). Pairs q.view) leads h
+Pairs-on b (e ∷ es) pt end (w, fits, is, rest) h = Pairs-on b es w.point end rest (Pairs-group b pt e w fits is h)
+
+-- wherever the rule leads
+pub Pairs-always : (b : Boot) (es : List Step) (pt : Point) → Leads b (first_point b) es pt → Pairs pt.view
+Pairs-always b es pt leads = Pairs-on b es (first_point b) pt leads (Pairs-start b)
+
+pub pair_stands : (v : View) (a b : ℕ) → a ≢ b → Pairs v → PairStands (v.pair a b) (v.pair b a)
+pair_stands v a b apart h =
+    let p = v.pair a b in
+    let back = v.pair b a in
+    let x = h.stand.apart a b (grind (arith, nat_tests)) in
+    record {
+      acked = x.acked;
+      taken = x.taken;
+      gone = x.gone;
+      full = x.full;
+      out = λ k n s there is. subst (LoadStands p.gone back.taken) is (WireStands-at p.gone back.taken p.wire k s there x.wire);
+      counted = λ k n s there is. subst (LoadStands p.gone back.taken) is (WireStands-at p.gone back.taken p.wire k s there x.wire);
+      kept = h.kept a b;
+    }
+
+pub pair_home : (v : View) (a : ℕ) → Pairs v → HomeStands (v.pair a a)
+pair_home v a h = h.stand.home a
+
+pub pairs_stand_always : PairsStandAlways
+pairs_stand_always b es pt m n leads apart = let h : Pairs pt.view = Pairs-always b es pt leads in (pair_stands pt.view m n apart h, pair_home pt.view m h)

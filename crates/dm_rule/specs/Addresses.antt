@@ -1,0 +1,405 @@
+-- Addresses: the place that each link and each message names, folded from the lines beside the kernel without machines.
+use Rattle.std.specs.Prelude.{ℕ, zero, suc, ◌+◌, Bool, false, ◌==◌, ◌&&◌, nat_lt, if◌then◌else◌, List, [], ◌∷◌, ◌++◌, length, map, slice_get, slice_set}
+use Rattle.std.specs.declared.option.Option.{Option}
+use Rattle.std.specs.declared.option.Option.TheVariants.{None, Some}
+use Rattle.dm_link.specs.declared.Pid.{Pid}
+use Rattle.dm_link.specs.declared.Link.{Link}
+use Rattle.dm_link.specs.Names.{Place, place_of, pid_eq}
+use Rattle.dm_link.specs.Plain.{PlainLink}
+use Rattle.dm_linktable.specs.Slots.{first_empty, link_at}
+use Rattle.dm_message.specs.declared.MsgId.{MsgId}
+use Rattle.dm_message.specs.Ids.{id_eq, id_of}
+use Rattle.dm_message.specs.Plain as what
+use Rattle.dm_message.specs.Plain.{PlainMessage, PlainWhat}
+use Rattle.dm_onekernel.specs.declared.boot.BootProcess.{BootProcess}
+use Rattle.dm_onekernel.specs.declared.boot.Boot.{Boot}
+use Rattle.dm_onekernel.specs.declared.label.Label.{Label}
+use Rattle.dm_onekernel.specs.declared.label.Label.TheVariants as label
+use Rattle.dm_onekernel.specs.declared.label.Reply.{Reply}
+use Rattle.dm_onekernel.specs.declared.label.Reply.TheVariants as reply
+use Rattle.dm_onekernel.specs.Boot.{switchboard, manager}
+use Rattle.dm_onekernel.specs.PlainProcess.{PlainProcess, PlainStatus, Ready, Waiting, Moving, reg}
+use Rattle.dm_onekernel.specs.Kernel.{NamedLink, Pending, OneKernel}
+use Rattle.dm_onekernel.specs.Calls as calls
+use Rattle.dm_onekernel.specs.Pieces as pieces
+use Rattle.dm_onekernel.specs.Pieces.{answer_id}
+use Rattle.dm_onekernel.specs.Switchboard as board
+use Rattle.dm_onekernel.specs.Manager as manage
+use Rattle.dm_onekernel.specs.Step as kernel
+use Rattle.dm_rule.specs.declared.line.Line.{Line}
+use Rattle.dm_rule.specs.declared.line.Line.TheVariants as line
+use Rattle.dm_rule.specs.View.{View, Told, About, NothingElse, Target, Of, Known, Unknown, Here, Frozen, Incoming, Forward, Ended}
+use Rattle.dm_rule.specs.View as view
+
+-- what has an address: a link in a slot, the owner in a data move, a message's receiver, its sender and its links, the
+-- manager's link to a child, the switchboard's link at a place of its list, the link for the answer to a request of the
+-- manager's
+pub data Holder : Type 0 where
+  Slot : (process : Pid) → (slot : ℕ) → Holder
+  Owner : (process : Pid) → Holder
+  Receiver : (id : MsgId) → Holder
+  Sender : (id : MsgId) → Holder
+  Enclosed : (id : MsgId) → (place : ℕ) → Holder
+  Child : (number : ℕ) → Holder
+  Name : (place : ℕ) → Holder
+  Answer : (n : ℕ) → Holder
+
+abbrev pub Addresses : Type 0
+Addresses = Holder → Place
+
+abbrev pub holder_eq : Holder → Holder → Bool
+holder_eq (Slot p k) (Slot q l) = pid_eq p q && (k == l)
+holder_eq (Owner p) (Owner q) = pid_eq p q
+holder_eq (Receiver i) (Receiver j) = id_eq i j
+holder_eq (Sender i) (Sender j) = id_eq i j
+holder_eq (Enclosed i k) (Enclosed j l) = id_eq i j && (k == l)
+holder_eq (Child m) (Child n) = m == n
+holder_eq (Name m) (Name n) = m == n
+holder_eq (Answer m) (Answer n) = m == n
+holder_eq g h = false
+
+-- a holder gets an address
+pub record Gets : Type 0 where
+  pub holder : Holder
+  pub place : Place
+
+abbrev pub gets : Holder → Place → Gets
+gets h p = record { holder = h; place = p }
+
+-- the addresses once some holders got theirs; of two for one holder the first counts
+abbrev pub given : Addresses → List Gets → Addresses
+given a [] h = a h
+given a (g ∷ gs) h = if holder_eq g.holder h then g.place else given a gs h
+
+-- the acting machine, as far as a process has moved
+abbrev pub here : View → Pid → Place
+here v p = record { at = v.acting; moves = v.moves p }
+
+abbrev pub unmoved : ℕ → Place
+unmoved m = record { at = m; moves = 0 }
+
+-- the links of a message, in order, from places that are given
+abbrev pub encloses : MsgId → ℕ → List Place → List Gets
+encloses id k [] = []
+encloses id k (p ∷ ps) = gets (Enclosed id k) p ∷ encloses id (k + 1) ps
+
+-- the places of a message's links from place k on
+abbrev pub enclosed_from : Addresses → MsgId → ℕ → List PlainLink → List Place
+enclosed_from a id k [] = []
+enclosed_from a id k (l ∷ ls) = a (Enclosed id k) ∷ enclosed_from a id (k + 1) ls
+
+-- a process sends: over its link in slot r1, from where it is; the links that it encloses keep their places
+abbrev pub sends_what : View → Addresses → Pid → PlainProcess → MsgId → PlainWhat → List Gets
+sends_what v a p x id (what.User code channel body links) =
+    gets (Receiver id) (a (Slot p (reg x.regs 1))) ∷ gets (Sender id) (here v p) ∷ encloses id 0 (map (λ k. a (Slot p k)) (calls.listed x))
+sends_what v a p x id w =
+    gets (Receiver id) (a (Slot p (reg x.regs 1))) ∷ gets (Sender id) (here v p) ∷ gets (Owner p) (a (Slot p (reg x.regs 1))) ∷ []
+
+abbrev pub sends_next : View → Addresses → Pid → PlainProcess → MsgId → Option kernel.Next → List Gets
+sends_next v a p x id (Some (kernel.Calls number (calls.Sends m y))) = sends_what v a p x id m.what
+sends_next v a p x id next = []
+
+abbrev pub sends : OneKernel → View → Addresses → Pid → MsgId → Option PlainProcess → List Gets
+sends s v a p id None = []
+sends s v a p id (Some x) = sends_next v a p x id (kernel.next s p)
+
+-- a call that makes a link, or copies one
+abbrev pub fills : Pid → Option ℕ → Place → List Gets
+fills p None place = []
+fills p (Some slot) place = gets (Slot p slot) place ∷ []
+
+abbrev pub fills_by : View → Addresses → Pid → PlainProcess → calls.CallNumber → List Gets
+fills_by v a p x calls.Make = fills p (first_empty x.links) (here v p)
+fills_by v a p x calls.Copy = fills p (first_empty x.links) (a (Slot p (reg x.regs 1)))
+fills_by v a p x n = []
+
+abbrev pub made : View → Addresses → Pid → ℕ → Reply → Option PlainProcess → List Gets
+made v a p n reply.Done (Some x) = fills_by v a p x (calls.call_number n)
+made v a p n c x = []
+
+-- the slots that so many links go into: the lowest empty ones, in order
+abbrev pub slot_after : List (Option PlainLink) → PlainLink → Option ℕ → List (Option PlainLink)
+slot_after slots l None = slots
+slot_after slots l (Some k) = slice_set slots k (Some l)
+
+abbrev pub receives_links : Addresses → Pid → MsgId → ℕ → List (Option PlainLink) → List PlainLink → List Gets
+receives_links a p id k slots [] = []
+receives_links a p id k slots (l ∷ ls) =
+    fills p (first_empty slots) (a (Enclosed id k)) ++ receives_links a p id (k + 1) (slot_after slots l (first_empty slots)) ls
+
+abbrev pub receives_what : Addresses → Pid → MsgId → PlainProcess → PlainWhat → List Gets
+receives_what a p id x (what.User code channel body links) = receives_links a p id 0 x.links links
+receives_what a p id x w = []
+
+abbrev pub receives : Addresses → Pid → MsgId → Option PlainProcess → Option PlainMessage → List Gets
+receives a p id None m = []
+receives a p id (Some x) None = []
+receives a p id (Some x) (Some m) = receives_what a p id x m.what
+
+-- an answer goes back to where its request came from
+abbrev pub answers : Addresses → MsgId → Place → List Gets
+answers a id sender = gets (Receiver (answer_id id)) (a (Sender id)) ∷ gets (Sender (answer_id id)) sender ∷ []
+
+-- the next request of a data move goes to its owner
+abbrev pub lands : View → Addresses → Pid → Option pieces.Landed → List Gets
+lands v a p None = []
+lands v a p (Some (pieces.Done reply x)) = []
+lands v a p (Some (pieces.Next request x)) = gets (Receiver request.id) (a (Owner p)) ∷ gets (Sender request.id) (here v p) ∷ []
+
+abbrev pub serves_what : View → Addresses → MsgId → PlainMessage → PlainProcess → PlainWhat → List Gets
+serves_what v a id m x (what.Read base len) = answers a id (here v m.to)
+serves_what v a id m x (what.Write base bytes) = answers a id (here v m.to)
+serves_what v a id m x (what.Block bytes) = lands v a m.to (pieces.lands m.to x m x.status)
+serves_what v a id m x what.Written = lands v a m.to (pieces.lands m.to x m x.status)
+serves_what v a id m x what.Gone = []
+serves_what v a id m x what.Stop = []
+serves_what v a id m x what.Resume = []
+serves_what v a id m x what.Kill = []
+serves_what v a id m x (what.User code channel body links) = []
+serves_what v a id m x (what.Create image links) = []
+serves_what v a id m x (what.Created pid) = []
+serves_what v a id m x what.NoRoom = []
+serves_what v a id m x (what.Move machine) = []
+serves_what v a id m x (what.Moved outcome) = []
+
+abbrev pub serves_alive : View → Addresses → MsgId → PlainMessage → Option PlainProcess → List Gets
+serves_alive v a id m None = []
+serves_alive v a id m (Some x) = serves_what v a id m x m.what
+
+abbrev pub serves : OneKernel → View → Addresses → MsgId → Option PlainMessage → List Gets
+serves s v a id None = []
+serves s v a id (Some m) = serves_alive v a id m (kernel.alive (s.processes m.to))
+
+-- a child begins with the links that its request brought
+abbrev pub child_links : Addresses → Pid → MsgId → ℕ → List PlainLink → List Gets
+child_links a child id k [] = []
+child_links a child id k (l ∷ ls) = gets (Slot child k) (a (Enclosed id k)) ∷ child_links a child id (k + 1) ls
+
+abbrev pub creates_what : Addresses → MsgId → Pid → PlainWhat → List Gets
+creates_what a id child (what.Create image links) = child_links a child id 0 links
+creates_what a id child w = []
+
+abbrev pub creates : View → Addresses → MsgId → Pid → Option PlainMessage → List Gets
+creates v a id child None = []
+creates v a id child (Some m) = answers a id (unmoved v.acting) ++ creates_what a id child m.what
+
+-- the switchboard answers over the first link; what it hands out keeps its place, and what it keeps too
+abbrev pub place_named : List ℕ → List NamedLink → ℕ → ℕ
+place_named name [] n = n
+place_named name (k ∷ ks) n = if board.bytes_eq k.name name then n else place_named name ks (n + 1)
+
+abbrev pub board_finds : Addresses → MsgId → List NamedLink → List ℕ → board.Answer → List Gets
+board_finds a sent names [] answer = []
+board_finds a sent names (operation ∷ name) board.Registered = []
+board_finds a sent names (operation ∷ name) (board.Found link) = gets (Enclosed sent 0) (a (Name (place_named name names 0))) ∷ []
+board_finds a sent names (operation ∷ name) board.Unknown = []
+board_finds a sent names (operation ∷ name) board.Taken = []
+board_finds a sent names (operation ∷ name) board.BadLink = []
+board_finds a sent names (operation ∷ name) board.BadRequest = []
+
+abbrev pub board_keeps : Addresses → MsgId → List NamedLink → board.Answer → List Gets
+board_keeps a id names board.Registered = gets (Name (length names)) (a (Enclosed id 1)) ∷ []
+board_keeps a id names (board.Found link) = []
+board_keeps a id names board.Unknown = []
+board_keeps a id names board.Taken = []
+board_keeps a id names board.BadLink = []
+board_keeps a id names board.BadRequest = []
+
+abbrev pub board_asks : View → Addresses → MsgId → MsgId → List NamedLink → List ℕ → board.Asked → List Gets
+board_asks v a id sent names body asked =
+    gets (Receiver sent) (a (Enclosed id 0)) ∷ gets (Sender sent) (unmoved v.acting) ∷ board_finds a sent names body asked.answer ++ board_keeps a id names asked.answer
+
+abbrev pub board_takes : OneKernel → View → Addresses → MsgId → PlainWhat → List Gets
+board_takes s v a id (what.User code channel body []) = []
+board_takes s v a id (what.User code channel body (l ∷ ls)) =
+    board_asks v a id (id_of switchboard s.switchboard.sent) s.switchboard.names body (board.asks s.switchboard.names body ls)
+board_takes s v a id w = []
+
+-- the manager: a request to make a process goes to a kernel, a control message over the link to the child, and an answer
+-- over the link that came with the request
+abbrev pub manager_tells : View → Addresses → MsgId → ℕ → PlainMessage → PlainWhat → List Gets
+manager_tells v a id code sent (what.Create image links) =
+    gets (Receiver sent.id) (unmoved sent.to.home) ∷ gets (Sender sent.id) (unmoved v.acting) ∷ gets (Answer sent.id.n) (a (Enclosed id 0)) ∷ encloses sent.id 0 (enclosed_from a id 1 links)
+manager_tells v a id code sent (what.User c channel body links) = gets (Receiver sent.id) (a (Enclosed id 0)) ∷ gets (Sender sent.id) (unmoved v.acting) ∷ []
+manager_tells v a id code sent w = gets (Receiver sent.id) (a (Child code)) ∷ gets (Sender sent.id) (unmoved v.acting) ∷ []
+
+abbrev pub manager_sends : View → Addresses → MsgId → ℕ → Option PlainMessage → List Gets
+manager_sends v a id code None = []
+manager_sends v a id code (Some sent) = manager_tells v a id code sent sent.what
+
+abbrev pub manager_answers : View → Addresses → ℕ → Option PlainMessage → List Gets
+manager_answers v a n None = []
+manager_answers v a n (Some sent) = gets (Receiver sent.id) (a (Answer n)) ∷ gets (Sender sent.id) (unmoved v.acting) ∷ gets (Enclosed sent.id 0) (unmoved v.acting) ∷ []
+
+abbrev pub manager_takes : OneKernel → View → Addresses → PlainMessage → PlainWhat → Option manage.Took → List Gets
+manager_takes s v a m w None = []
+manager_takes s v a m (what.User code channel body links) (Some t) = manager_sends v a m.id code t.message
+manager_takes s v a m (what.Created child) (Some t) = gets (Child (length s.manager.children + 1)) (unmoved child.home) ∷ manager_answers v a m.id.n t.message
+manager_takes s v a m w (Some t) = manager_answers v a m.id.n t.message
+
+abbrev pub takes : OneKernel → View → Addresses → MsgId → Option PlainMessage → List Gets
+takes s v a id None = []
+takes s v a id (Some m) =
+    if pid_eq m.to switchboard then board_takes s v a id m.what
+    else manager_takes s v a m m.what (manage.takes s.manager s.machines (length s.images) m m.what)
+
+-- what each label gives, a row a label
+abbrev pub gives : OneKernel → View → Addresses → Label → List Gets
+gives s v a (label.Ran p k) = []
+gives s v a (label.Call p n c) = made v a p n c (kernel.running s p)
+gives s v a (label.Send p id) = sends s v a p id (kernel.running s p)
+gives s v a (label.Wait p) = []
+gives s v a (label.Out p w) = []
+gives s v a (label.End p y) = []
+gives s v a (label.Receive p id) = receives a p id (kernel.alive (s.processes p)) (s.bag id)
+gives s v a (label.Refuse p id c) = []
+gives s v a (label.Dropped id) = []
+gives s v a (label.Served id) = serves s v a id (s.bag id)
+gives s v a (label.Gone id) = answers a id (record { at = v.acting; moves = (a (Receiver id)).moves })
+gives s v a (label.Took id) = takes s v a id (s.bag id)
+gives s v a (label.Created id child) = creates v a id child (s.bag id)
+gives s v a (label.NoSpace id f b) = answers a id (unmoved v.acting)
+
+-- a message that goes on, or that step 6 of a migration sends on, follows its receiver
+abbrev pub place_known : Known → ℕ → Place → Place
+place_known Unknown moves p = p
+place_known Here moves p = p
+place_known (Frozen to) moves p = record { at = to; moves = moves + 1 }
+place_known (Incoming from) moves p = p
+place_known (Forward at count) moves p = record { at = at; moves = count }
+place_known Ended moves p = p
+
+abbrev pub follows : View → Addresses → MsgId → Option Pid → List Gets
+follows v a id None = []
+follows v a id (Some p) = gets (Receiver id) (place_known (v.known v.acting p) (v.moves p) (a (Receiver id))) ∷ []
+
+abbrev pub all_follow : View → Addresses → Pid → List MsgId → List Gets
+all_follow v a p [] = []
+all_follow v a p (i ∷ is) = follows v a i (Some p) ++ all_follow v a p is
+
+-- what an update is about: where a process is
+abbrev pub place_told : About → Option (Pid × Place)
+place_told NothingElse = None
+place_told (Target m) = None
+place_told (Of p) = None
+place_told (view.Place p at moves) = Some (p, record { at = at; moves = moves })
+
+-- whose address it is that a holder has: a process's or a server's own, or a message's
+abbrev pub belongs_to : Pid → Holder → Bool
+belongs_to q (Slot p k) = pid_eq p q
+belongs_to q (Owner p) = pid_eq p q
+belongs_to q (Receiver id) = false
+belongs_to q (Sender id) = false
+belongs_to q (Enclosed id k) = false
+belongs_to q (Child n) = pid_eq q manager
+belongs_to q (Name n) = pid_eq q switchboard
+belongs_to q (Answer n) = pid_eq q manager
+
+-- the process that a holder's address leads to
+abbrev pub link_to : Option PlainLink → Option Pid
+link_to None = None
+link_to (Some l) = Some l.to
+
+abbrev pub slot_of : Option PlainProcess → ℕ → Option PlainLink
+slot_of None k = None
+slot_of (Some x) k = link_at x.links k
+
+abbrev pub owner_in : PlainStatus → Option Pid
+owner_in Ready = None
+owner_in (Waiting mask base cap_) = None
+owner_in (Moving dir owner base own left pending) = Some owner
+
+abbrev pub owner_of : Option PlainProcess → Option Pid
+owner_of None = None
+owner_of (Some x) = owner_in x.status
+
+abbrev pub name_link : Option NamedLink → Option PlainLink
+name_link None = None
+name_link (Some k) = Some k.link
+
+abbrev pub answer_link : Option Pending → Option PlainLink
+answer_link None = None
+answer_link (Some r) = Some r.answer
+
+abbrev pub leads_to : OneKernel → Holder → Option Pid
+leads_to s (Slot p k) = link_to (slot_of (kernel.alive (s.processes p)) k)
+leads_to s (Owner p) = owner_of (kernel.alive (s.processes p))
+leads_to s (Receiver id) = None
+leads_to s (Sender id) = None
+leads_to s (Enclosed id k) = None
+leads_to s (Child n) = manage.child_numbered s.manager.children n
+leads_to s (Name n) = link_to (name_link (slice_get s.switchboard.names n))
+leads_to s (Answer n) = link_to (answer_link (manage.pending_numbered n s.manager.pending))
+
+abbrev pub is_pid : Pid → Option Pid → Bool
+is_pid p None = false
+is_pid p (Some q) = pid_eq p q
+
+-- an address of q's that leads to p and knows fewer moves of it
+abbrev pub is_behind : OneKernel → Addresses → Pid → Pid → ℕ → Holder → Bool
+is_behind s a q p moves h = belongs_to q h && (is_pid p (leads_to s h) && nat_lt (a h).moves moves)
+
+abbrev pub updated_to : OneKernel → Addresses → Option Pid → Option (Pid × Place) → Addresses
+updated_to s a None t h = a h
+updated_to s a (Some q) None h = a h
+updated_to s a (Some q) (Some t) h = if is_behind s a q t.0 t.1.moves h then t.1 else a h
+
+abbrev pub updated : OneKernel → View → Addresses → Option Told → Addresses
+updated s v a None h = a h
+updated s v a (Some t) h = updated_to s a (Some t.receiver) (place_told t.about) h
+
+-- a row a line
+abbrev pub addresses_after : OneKernel → View → Addresses → Line → Addresses
+addresses_after s v a (line.Label l) = given a (gives s v a l)
+addresses_after s v a (line.Forwarded id m) = given a (follows v a id (view.receiver_of (v.told id)))
+addresses_after s v a (line.SentOn p n) = given a (all_follow v a p (v.queue v.acting p ++ v.held v.acting p))
+addresses_after s v a (line.Updated id n) = updated s v a (v.told id)
+addresses_after s v a (line.Head d) = a
+addresses_after s v a (line.Idle m) = a
+addresses_after s v a (line.Put from to id k q) = a
+addresses_after s v a (line.Packet from to k l) = a
+addresses_after s v a (line.Taken from to n) = a
+addresses_after s v a (line.Old from to n) = a
+addresses_after s v a (line.Early from to n) = a
+addresses_after s v a (line.Acked from to n) = a
+addresses_after s v a line.Nothing = a
+addresses_after s v a (line.Resent m n) = a
+addresses_after s v a (line.Queued id) = a
+addresses_after s v a (line.Held id) = a
+addresses_after s v a (line.Migration step p) = a
+addresses_after s v a (line.Lacks p f b) = a
+addresses_after s v a (line.Stays p) = a
+addresses_after s v a (line.Here id) = a
+addresses_after s v a (line.NoMove id) = a
+addresses_after s v a (line.Proto id) = a
+addresses_after s v a (line.NoChild p) = a
+addresses_after s v a (line.Pinned p) = a
+addresses_after s v a (line.End e) = a
+
+-- the place of a boot file's link, where there is one
+abbrev pub place_in : Option Link → Place
+place_in None = unmoved 0
+place_in (Some l) = place_of l.addr
+
+abbrev pub links_at : List BootProcess → Pid → List Link
+links_at [] q = []
+links_at (p ∷ ps) q = if pid_eq p.pid q then p.links else links_at ps q
+
+abbrev pub home_of : Option BootProcess → ℕ
+home_of None = 0
+home_of (Some p) = p.pid.home
+
+abbrev pub nth_child : List BootProcess → ℕ → Option BootProcess
+nth_child ps zero = None
+nth_child ps (suc n) = slice_get ps n
+
+-- the boot file gives the first
+abbrev pub first_addresses : Boot → Addresses
+first_addresses b (Slot p k) = place_in (slice_get (links_at b.processes p) k)
+first_addresses b (Owner p) = unmoved 0
+first_addresses b (Receiver id) = unmoved 0
+first_addresses b (Sender id) = unmoved 0
+first_addresses b (Enclosed id k) = unmoved 0
+first_addresses b (Child n) = unmoved (home_of (nth_child b.processes n))
+first_addresses b (Name n) = unmoved 0
+first_addresses b (Answer n) = unmoved 0

@@ -1,0 +1,113 @@
+-- What printed lines promise.
+use Rattle.std.specs.Prelude.{◌≡◌, ℕ, zero, suc, ◌+◌, ◌≤◌, ◌==◌, if◌then◌else◌, List, [], ◌∷◌, ◌++◌, length}
+use Rattle.std.specs.declared.option.Option.{Option}
+use Rattle.std.specs.declared.option.Option.TheVariants.{None, Some}
+use Rattle.dm_message.specs.declared.MsgId.{MsgId}
+use Rattle.dm_onekernel.specs.declared.boot.Boot.{Boot}
+use Rattle.dm_schedule.specs.declared.Step.{Step}
+use Rattle.dm_schedule.specs.declared.Step.TheVariants as step
+use Rattle.dm_schedule.specs.declared.Directive.{Directive}
+use Rattle.dm_schedule.specs.declared.Directive.TheVariants as directive
+use Rattle.dm_rule.specs.declared.line.Line.{Line}
+use Rattle.dm_rule.specs.View.{View, Sent}
+use Rattle.dm_rule.specs.Point.{Point}
+use Rattle.dm_rule.specs.Parts.{Spelled}
+use Rattle.dm_rule.specs.Rule.{group_of}
+use Rattle.dm_rule.specs.Spots.{StandsAsBag, standing}
+
+-- an ordered pair of machines
+pub record Two : Type 0 where
+  pub from : ℕ
+  pub to : ℕ
+
+-- what is left to do: of a round, the pairs whose packets come and the machines that take their turns; further rounds;
+-- further directives
+pub record Todo : Type 0 where
+  pub pairs : List Two
+  pub machines : List ℕ
+  pub rounds : ℕ
+  pub directives : List Directive
+
+-- the machines below n, ascending; the pairs of different ones
+abbrev pub below : ℕ → List ℕ
+below zero = []
+below (suc n) = below n ++ n ∷ []
+
+abbrev pub pairs_with : ℕ → List ℕ → List Two
+pairs_with a [] = []
+pairs_with a (b ∷ bs) = if a == b then pairs_with a bs else record { from = a; to = b } ∷ pairs_with a bs
+
+abbrev pub pairs_of : List ℕ → List ℕ → List Two
+pairs_of [] bs = []
+pairs_of (a ∷ as_) bs = pairs_with a bs ++ pairs_of as_ bs
+
+-- the first packet of a wire that was never delivered, counted from k
+abbrev pub first_undelivered : ℕ → List Sent → Option ℕ
+first_undelivered k [] = None
+first_undelivered k (s ∷ ss) = if s.delivered then first_undelivered (k + 1) ss else Some k
+
+-- an elementary directive, and what is left then
+pub record Next : Type 0 where
+  pub step : Step
+  pub left : Todo
+
+abbrev pub next : Step → Todo → Option Next
+next s t = Some (record { step = s; left = t })
+
+abbrev pub round_begun : ℕ → ℕ → List Directive → Todo
+round_begun machines rounds ds = record { pairs = pairs_of (below machines) (below machines); machines = below machines; rounds = rounds; directives = ds }
+
+abbrev pub here_or_later : Two → List Two → Option ℕ → Option (Step × List Two) → Option (Step × List Two)
+here_or_later p ps None later = later
+here_or_later p ps (Some k) later = Some (step.Deliver p.from p.to k, p ∷ ps)
+
+-- the next of some pairs whose wire has a packet that was never delivered
+abbrev pub next_delivery : View → List Two → Option (Step × List Two)
+next_delivery v [] = None
+next_delivery v (p ∷ ps) = here_or_later p ps (first_undelivered 0 (v.pair p.from p.to).wire) (next_delivery v ps)
+
+-- a machine's turn, once no delivery is left
+abbrev pub next_turn : Todo → List ℕ → Option Next
+next_turn t [] = None
+next_turn t (m ∷ ms) = next (step.Turn m) (record t { pairs = []; machines = ms })
+
+abbrev pub in_round : Todo → Option (Step × List Two) → Option Next
+in_round t (Some d) = next d.0 (record t { pairs = d.1 })
+in_round t None = next_turn t t.machines
+
+abbrev pub or : {A : Type 0} → Option A → Option A → Option A
+or None y = y
+or (Some x) y = Some x
+
+abbrev pub begin_round : ℕ → View → ℕ → List Directive → Option Next
+begin_round machines v rounds ds = in_round (round_begun machines rounds ds) (next_delivery v (pairs_of (below machines) (below machines)))
+
+abbrev pub begin_rounds : ℕ → View → ℕ → List Directive → Option Next
+begin_rounds machines v zero ds = None
+begin_rounds machines v (suc n) ds = begin_round machines v n ds
+
+-- where a round is over, the next one begins, and where there is none, the next directive
+abbrev pub next_round : ℕ → View → ℕ → List Directive → Option Next
+next_round machines v zero [] = None
+next_round machines v zero (directive.One s ∷ ds) = next s (record { pairs = []; machines = []; rounds = 0; directives = ds })
+next_round machines v zero (directive.Round ∷ ds) = begin_round machines v 0 ds
+next_round machines v zero (directive.Spin n ∷ ds) = begin_rounds machines v n ds
+next_round machines v (suc k) ds = begin_round machines v k ds
+
+abbrev pub next_step : ℕ → View → Todo → Option Next
+next_step machines v t = or (in_round t (next_delivery v t.pairs)) (next_round machines v t.rounds t.directives)
+
+abbrev pub all_of : List Directive → Todo
+all_of ds = record { pairs = []; machines = []; rounds = 0; directives = ds }
+
+-- each message that the kernel without machines holds stands exactly once among the printed queues, held lists, inboxes
+-- and streams, and no other stands there; no pair of machines counts more messages than it may
+pub record IsKept (b : Boot) (pt : Point) : Type 0 where
+  pub once : (id : MsgId) → StandsAsBag (pt.kernel.bag id) (standing pt.view id)
+  pub counts : (m n : ℕ) → length (pt.view.pair m n).ids ≤ b.numbers
+
+-- one group after the other, each by the rule, for the directives one by one; what is left of them, and where it leads
+abbrev pub IsRun : Boot → Point → Todo → List (List Line) → Point → Todo → Type 0
+IsRun b pt t [] end left = (pt ≡ end) × (t ≡ left)
+IsRun b pt t (g ∷ gs) end left =
+    (n : Next) × (w : Spelled) × (next_step pt.kernel.machines pt.view t ≡ Some n) × (group_of b pt n.step ≡ Some w) × (w.lines ≡ g) × IsKept b w.point × IsRun b w.point n.left gs end left

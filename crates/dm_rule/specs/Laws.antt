@@ -1,0 +1,34 @@
+-- What holds wherever the rule leads.
+use Rattle.std.specs.Prelude.{◌≡◌, ◌≢◌, ℕ, ◌<◌, List, [], ◌∷◌}
+use Rattle.std.specs.declared.option.Option.TheVariants.{Some}
+use Rattle.dm_message.specs.declared.MsgId.{MsgId}
+use Rattle.dm_onekernel.specs.declared.boot.Boot.{Boot}
+use Rattle.dm_onekernel.specs.Boot.{IsValid}
+use Rattle.dm_schedule.specs.declared.Step.{Step}
+use Rattle.dm_schedule.specs.declared.Step.TheVariants as step
+use Rattle.dm_rule.specs.Point.{Point, first_point}
+use Rattle.dm_rule.specs.Parts.{Spelled}
+use Rattle.dm_rule.specs.Rule.{group_of}
+use Rattle.dm_rule.specs.Spots.{StandsAsBag, standing}
+use Rattle.dm_rule.specs.Pairs.{PairStands, HomeStands}
+
+-- a directive for so many machines
+abbrev pub IsStep : ℕ → Step → Type 0
+IsStep machines (step.Turn m) = m < machines
+IsStep machines (step.Tick m) = m < machines
+IsStep machines (step.Deliver a b k) = (a < machines) × (b < machines) × (a ≢ b)
+IsStep machines (step.Migrate p m) = m < machines
+
+-- the rule leads from a point to another, group by group
+abbrev pub Leads : Boot → Point → List Step → Point → Type 0
+Leads b pt [] end = pt ≡ end
+Leads b pt (e ∷ es) end = (w : Spelled) × IsStep pt.kernel.machines e × (group_of b pt e ≡ Some w) × Leads b w.point es end
+
+-- wherever the rule leads, each message that the kernel without machines holds stands exactly once among the queues, held
+-- lists, inboxes and streams of the printed lines, and no other stands there
+abbrev pub StandsOnceAlways : Type 0
+StandsOnceAlways = (b : Boot) (es : List Step) (pt : Point) (id : MsgId) → IsValid b → Leads b (first_point b) es pt → StandsAsBag (pt.kernel.bag id) (standing pt.view id)
+
+-- wherever the rule leads, each pair of machines stands, and so does each machine's pair with itself
+abbrev pub PairsStandAlways : Type 0
+PairsStandAlways = (b : Boot) (es : List Step) (pt : Point) (m n : ℕ) → Leads b (first_point b) es pt → m ≢ n → PairStands (pt.view.pair m n) (pt.view.pair n m) × HomeStands (pt.view.pair m m)

@@ -1,0 +1,10 @@
+pub mod Sets
+pub mod View
+pub mod Addresses
+pub mod Point
+pub mod Spots
+pub mod Parts
+pub mod Rule
+pub mod Pairs
+pub mod Good
+pub mod Laws

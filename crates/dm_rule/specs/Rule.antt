@@ -1,0 +1,329 @@
+-- The group rule: what follows the head of a group, decided by where the run stands before it.
+use Rattle.std.specs.Prelude.{ℕ, zero, suc, ◌+◌, ◌-◌, ◌/◌, ◌||◌, Bool, true, false, not, ◌==◌, ◌&&◌, nat_lt, nat_le, if◌then◌else◌, is_some, List, [], ◌∷◌, ◌++◌, length, map, slice_get}
+use Rattle.std.specs.declared.option.Option.{Option}
+use Rattle.std.specs.declared.option.Option.TheVariants.{None, Some}
+use Rattle.dm_link.specs.declared.Pid.{Pid}
+use Rattle.dm_link.specs.Names.{pid_of, pid_eq}
+use Rattle.dm_message.specs.declared.MsgId.{MsgId}
+use Rattle.dm_message.specs.Plain as what
+use Rattle.dm_message.specs.Plain.{PlainMessage, PlainWhat}
+use Rattle.dm_process.specs.Mail.{on_mask}
+use Rattle.dm_regs.specs.Instructions.{instruction}
+use Rattle.dm_onekernel.specs.declared.boot.BootMachine.{BootMachine}
+use Rattle.dm_onekernel.specs.declared.boot.BootImage.{BootImage}
+use Rattle.dm_onekernel.specs.declared.boot.Boot.{Boot}
+use Rattle.dm_onekernel.specs.declared.label.Label.{Label}
+use Rattle.dm_onekernel.specs.declared.label.Label.TheVariants as label
+use Rattle.dm_onekernel.specs.declared.label.Why.TheVariants as why
+use Rattle.dm_onekernel.specs.Boot.{first_number, switchboard, manager}
+use Rattle.dm_onekernel.specs.Options.{bind}
+use Rattle.dm_onekernel.specs.PlainProcess.{PlainProcess, PlainStatus, Ready, Waiting, Moving}
+use Rattle.dm_onekernel.specs.Kernel.{OneKernel}
+use Rattle.dm_onekernel.specs.Calls as calls
+use Rattle.dm_onekernel.specs.Pieces as pieces
+use Rattle.dm_onekernel.specs.Pieces.{answer_id}
+use Rattle.dm_onekernel.specs.Receiving as receiving
+use Rattle.dm_onekernel.specs.Switchboard as board
+use Rattle.dm_onekernel.specs.Manager as manage
+use Rattle.dm_onekernel.specs.Step as kernel
+use Rattle.dm_onekernel.specs.Step.{Machine, machine_of, with_machine, plain_row}
+use Rattle.dm_schedule.specs.declared.Step.{Step}
+use Rattle.dm_schedule.specs.declared.Step.TheVariants as step
+use Rattle.dm_rule.specs.declared.line.Line.{Line}
+use Rattle.dm_rule.specs.declared.line.Line.TheVariants as line
+use Rattle.dm_rule.specs.declared.line.Load.{Load}
+use Rattle.dm_rule.specs.declared.line.Load.TheVariants as load
+use Rattle.dm_rule.specs.View.{View, Pair, Sent, Known, Unknown, Here, Frozen, Incoming, Forward, Ended}
+use Rattle.dm_rule.specs.Point.{Point, after_line}
+use Rattle.dm_rule.specs.Parts.{Part, Says, Routes, Transmits, Spelled, spelled, window}
+
+abbrev pub says : Label → Part
+says l = Says (line.Label l)
+
+-- a user message on a channel of the mask
+abbrev pub what_is_awaited : ℕ → PlainWhat → Bool
+what_is_awaited mask (what.User code channel body links) = on_mask mask channel
+what_is_awaited mask w = false
+
+abbrev pub is_awaited : ℕ → Option PlainMessage → Bool
+is_awaited mask None = false
+is_awaited mask (Some m) = what_is_awaited mask m.what
+
+-- the first of the queued messages that a process with this mask may take
+abbrev pub first_awaited : OneKernel → ℕ → List MsgId → Option MsgId
+first_awaited s mask [] = None
+first_awaited s mask (i ∷ is) = if is_awaited mask (s.bag i) then Some i else first_awaited s mask is
+
+-- a process can be served: it isn't stopped, and it is ready, or a message that it waits for is queued
+abbrev pub status_can_go : OneKernel → List MsgId → PlainStatus → Bool
+status_can_go s queue Ready = true
+status_can_go s queue (Waiting mask base cap_) = is_some (first_awaited s mask queue)
+status_can_go s queue (Moving dir owner base own left pending) = false
+
+abbrev pub can_go : OneKernel → List MsgId → Option PlainProcess → Bool
+can_go s queue None = false
+can_go s queue (Some x) = not x.stopped && status_can_go s queue x.status
+
+-- the first process of a ring that can be served
+abbrev pub first_runnable : OneKernel → (Pid → List MsgId) → List Pid → Option Pid
+first_runnable s queue [] = None
+first_runnable s queue (p ∷ ps) = if can_go s (queue p) (kernel.alive (s.processes p)) then Some p else first_runnable s queue ps
+
+-- how far a process comes: at most so many plain instructions, up to the first that isn't one
+pub record Ran : Type 0 where
+  pub count : ℕ
+  pub machine : Machine
+
+abbrev pub one_more : Ran → Ran
+one_more r = record { count = r.count + 1; machine = r.machine }
+
+abbrev pub goes_on : Machine → Option Machine → (Machine → Ran) → Ran
+goes_on m None go = record { count = 0; machine = m }
+goes_on m (Some n) go = one_more (go n)
+
+abbrev pub ran : ℕ → Machine → Ran
+ran zero m = record { count = 0; machine = m }
+ran (suc k) m = goes_on m (plain_row (instruction m.regs m.bytes)) (ran k)
+
+-- the queue of a process that ends goes message by message
+abbrev pub drops : List MsgId → List Part
+drops ids = map (λ i. says (label.Dropped i)) ids
+
+-- what a call or a fault says, a row an outcome
+abbrev pub called : Pid → ℕ → List MsgId → calls.Called → List Part
+called p n queue (calls.Replies reply x) = says (label.Call p n reply) ∷ []
+called p n queue (calls.Sends m x) = says (label.Send p m.id) ∷ Routes m.id ∷ []
+called p n queue (calls.Waits x) = says (label.Wait p) ∷ []
+called p n queue (calls.Outputs word x) = says (label.Out p word) ∷ []
+called p n queue (calls.Ends because) = says (label.End p because) ∷ drops queue
+
+abbrev pub stops : Pid → List MsgId → Option kernel.Next → List Part
+stops p queue None = []
+stops p queue (Some (kernel.Calls n c)) = called p n queue c
+stops p queue (Some (kernel.Faults fault)) = says (label.End p (why.Fault fault)) ∷ drops queue
+
+-- a ready process runs as far as the quantum allows; where it stops before, the call or fault follows
+abbrev pub executes : ℕ → Pid → List MsgId → PlainProcess → Ran → List Part
+executes quantum p queue x r =
+    says (label.Ran p r.count) ∷ (if r.count == quantum then [] else stops p queue (kernel.next_row p (with_machine x r.machine) (instruction r.machine.regs r.machine.bytes)))
+
+-- a waiting process takes the first queued message on its mask, or is refused it
+abbrev pub completes : Pid → MsgId → receiving.Completed → List Part
+completes p id (receiving.Receives x) = says (label.Receive p id) ∷ []
+completes p id (receiving.Refuses reply x) = says (label.Refuse p id reply) ∷ []
+
+abbrev pub receives : OneKernel → Pid → PlainProcess → Option MsgId → Option (List Part)
+receives s p x None = None
+receives s p x (Some id) = bind (s.bag id) (λ m. bind (receiving.completes_with p x m) (λ c. Some (completes p id c)))
+
+abbrev pub serves_status : ℕ → OneKernel → Pid → List MsgId → PlainProcess → PlainStatus → Option (List Part)
+serves_status quantum s p queue x Ready = Some (executes quantum p queue x (ran quantum (machine_of x)))
+serves_status quantum s p queue x (Waiting mask base cap_) = receives s p x (first_awaited s mask queue)
+serves_status quantum s p queue x (Moving dir owner base own left pending) = None
+
+-- with an empty inbox the first process of the ring that can be served is served
+abbrev pub goes_round : Boot → Point → ℕ → Option Pid → Option (List Part)
+goes_round b pt m None = Some (Says (line.Idle m) ∷ [])
+goes_round b pt m (Some p) =
+    bind (kernel.alive (pt.kernel.processes p)) (λ x. serves_status b.quantum pt.kernel p (pt.view.queue m p) x x.status)
+
+-- what is free of a machine: what it has, less what its processes take that are here, leaving or coming
+abbrev pub takes_room : Known → ℕ
+takes_room Unknown = 0
+takes_room Here = 1
+takes_room (Frozen to) = 1
+takes_room (Incoming from) = 1
+takes_room (Forward at moves) = 0
+takes_room Ended = 0
+
+abbrev pub blocks_of : Option PlainProcess → ℕ
+blocks_of None = 0
+blocks_of (Some x) = length x.memory / 256
+
+pub record Room : Type 0 where
+  pub slots : ℕ
+  pub blocks : ℕ
+
+-- the slots and blocks that the first n processes of a home take on a machine
+abbrev pub taken_by : Point → ℕ → Pid → Room
+taken_by pt m p =
+    record {
+      slots = takes_room (pt.view.known m p);
+      blocks = if takes_room (pt.view.known m p) == 0 then 0 else blocks_of (kernel.alive (pt.kernel.processes p));
+    }
+
+abbrev pub and : Room → Room → Room
+and r t = record { slots = r.slots + t.slots; blocks = r.blocks + t.blocks }
+
+abbrev pub taken_of_home : Point → ℕ → ℕ → ℕ → Room
+taken_of_home pt m home zero = record { slots = 0; blocks = 0 }
+taken_of_home pt m home (suc n) = and (taken_of_home pt m home n) (taken_by pt m (pid_of home (first_number + n)))
+
+abbrev pub taken_at : Point → ℕ → ℕ → Room
+taken_at pt m zero = record { slots = 0; blocks = 0 }
+taken_at pt m (suc home) = and (taken_at pt m home) (taken_of_home pt m home (pt.kernel.made home))
+
+abbrev pub free_of : Option BootMachine → Room → Room
+free_of None t = record { slots = 0; blocks = 0 }
+free_of (Some r) t = record { slots = r.slots - t.slots; blocks = r.blocks - t.blocks }
+
+abbrev pub free_room : Boot → Point → ℕ → Room
+free_room b pt m = free_of (slice_get b.machines m) (taken_at pt m pt.kernel.machines)
+
+abbrev pub has_room : Room → ℕ → Bool
+has_room r blocks = nat_le 1 r.slots && nat_le blocks r.blocks
+
+-- a kernel makes the process, or says what is free
+abbrev pub creates : Point → ℕ → MsgId → Room → Option BootImage → Option (List Part)
+creates pt m id r None = None
+creates pt m id r (Some i) =
+    Some ((if has_room r i.blocks then says (label.Created id (pid_of m (first_number + pt.kernel.made m))) else says (label.NoSpace id r.slots r.blocks)) ∷ Routes (answer_id id) ∷ [])
+
+abbrev pub kernel_handles : Boot → Point → ℕ → MsgId → PlainWhat → Option (List Part)
+kernel_handles b pt m id (what.Create image links) = creates pt m id (free_room b pt m) (slice_get b.images image)
+kernel_handles b pt m id w = None
+
+-- a message that a server sends
+abbrev pub routes : Option PlainMessage → List Part
+routes None = []
+routes (Some m) = Routes m.id ∷ []
+
+abbrev pub board_took : MsgId → Option board.Took → Option (List Part)
+board_took id None = None
+board_took id (Some t) = Some (says (label.Took id) ∷ routes t.answer)
+
+abbrev pub manager_took : MsgId → Option manage.Took → Option (List Part)
+manager_took id None = None
+manager_took id (Some t) = Some (says (label.Took id) ∷ routes t.message)
+
+-- what a process's kernel does with a message for it, a row a kind
+abbrev pub lands : MsgId → Option pieces.Landed → Option (List Part)
+lands id None = None
+lands id (Some (pieces.Next request x)) = Some (says (label.Served id) ∷ Routes request.id ∷ [])
+lands id (Some (pieces.Done reply x)) = Some (says (label.Served id) ∷ [])
+
+abbrev pub here_handles : Point → ℕ → MsgId → PlainMessage → PlainProcess → PlainWhat → Option (List Part)
+here_handles pt m id msg x (what.User code channel body links) = Some (Says (line.Queued id) ∷ [])
+here_handles pt m id msg x what.Stop = Some (says (label.Served id) ∷ [])
+here_handles pt m id msg x what.Resume = Some (says (label.Served id) ∷ [])
+here_handles pt m id msg x what.Kill = Some (says (label.Served id) ∷ drops (pt.view.queue m msg.to))
+here_handles pt m id msg x (what.Read base len) = Some (says (label.Served id) ∷ Routes (answer_id id) ∷ [])
+here_handles pt m id msg x (what.Write base bytes) = Some (says (label.Served id) ∷ Routes (answer_id id) ∷ [])
+here_handles pt m id msg x (what.Block bytes) = lands id (pieces.lands msg.to x msg x.status)
+here_handles pt m id msg x what.Written = lands id (pieces.lands msg.to x msg x.status)
+here_handles pt m id msg x what.Gone = lands id (pieces.lands msg.to x msg x.status)
+here_handles pt m id msg x (what.Create image links) = None
+here_handles pt m id msg x (what.Created pid) = None
+here_handles pt m id msg x what.NoRoom = None
+here_handles pt m id msg x (what.Move machine) = None
+here_handles pt m id msg x (what.Moved outcome) = None
+
+-- a message whose receiver has ended
+abbrev pub ended_handles : MsgId → PlainWhat → Option (List Part)
+ended_handles id (what.Read base len) = Some (says (label.Gone id) ∷ Routes (answer_id id) ∷ [])
+ended_handles id (what.Write base bytes) = Some (says (label.Gone id) ∷ Routes (answer_id id) ∷ [])
+ended_handles id (what.User code channel body links) = Some (says (label.Dropped id) ∷ [])
+ended_handles id what.Stop = Some (says (label.Dropped id) ∷ [])
+ended_handles id what.Resume = Some (says (label.Dropped id) ∷ [])
+ended_handles id what.Kill = Some (says (label.Dropped id) ∷ [])
+ended_handles id (what.Block bytes) = Some (says (label.Dropped id) ∷ [])
+ended_handles id what.Written = Some (says (label.Dropped id) ∷ [])
+ended_handles id what.Gone = Some (says (label.Dropped id) ∷ [])
+ended_handles id (what.Create image links) = None
+ended_handles id (what.Created pid) = None
+ended_handles id what.NoRoom = None
+ended_handles id (what.Move machine) = None
+ended_handles id (what.Moved outcome) = None
+
+-- by what the machine knows of the receiver; what migration adds has its rows with migration
+abbrev pub process_handles : Point → ℕ → MsgId → PlainMessage → Known → Option (List Part)
+process_handles pt m id msg Unknown = None
+process_handles pt m id msg Here = bind (kernel.alive (pt.kernel.processes msg.to)) (λ x. here_handles pt m id msg x msg.what)
+process_handles pt m id msg (Frozen to) = None
+process_handles pt m id msg (Incoming from) = None
+process_handles pt m id msg (Forward at moves) = None
+process_handles pt m id msg Ended = ended_handles id msg.what
+
+-- the receiver is a kernel, a server or a process
+abbrev pub handles : Boot → Point → ℕ → MsgId → PlainMessage → Option (List Part)
+handles b pt m id msg =
+    if msg.to.num == 0 then kernel_handles b pt m id msg.what
+    else if pid_eq msg.to switchboard then board_took id (board.takes pt.kernel.switchboard msg msg.what)
+    else if pid_eq msg.to manager then manager_took id (manage.takes pt.kernel.manager pt.kernel.machines (length pt.kernel.images) msg msg.what)
+    else process_handles pt m id msg (pt.view.known m msg.to)
+
+abbrev pub turns : Boot → Point → ℕ → List MsgId → Option (List Part)
+turns b pt m [] = goes_round b pt m (first_runnable pt.kernel (pt.view.queue m) (pt.view.ring m))
+turns b pt m (i ∷ is) = bind (pt.kernel.bag i) (handles b pt m i)
+
+-- the numbers from n on, so many
+abbrev pub numbers_from : ℕ → ℕ → List ℕ
+numbers_from n zero = []
+numbers_from n (suc k) = n ∷ numbers_from (n + 1) k
+
+abbrev pub repeats : ℕ → ℕ → List ℕ → List Part
+repeats a b ns = map (λ n. Transmits a b (load.Data n)) ns
+
+-- what is out and not acknowledged, on the pairs from a machine to the first n
+abbrev pub outstanding : View → ℕ → ℕ → ℕ
+outstanding v m zero = 0
+outstanding v m (suc b) = outstanding v m b + (if m == b then 0 else (v.pair m b).gone - (v.pair m b).acked)
+
+abbrev pub resends : View → ℕ → ℕ → List Part
+resends v m zero = []
+resends v m (suc b) = resends v m b ++ (if m == b then [] else repeats m b (numbers_from (v.pair m b).acked ((v.pair m b).gone - (v.pair m b).acked)))
+
+-- the numbers that a delivery takes: the one that has come, and those behind it that came early
+abbrev pub has : ℕ → List ℕ → Bool
+has n [] = false
+has n (k ∷ ks) = (n == k) || has n ks
+
+abbrev pub kept_from : List ℕ → ℕ → ℕ → List ℕ
+kept_from kept n zero = []
+kept_from kept n (suc k) = if has n kept then n ∷ kept_from kept (n + 1) k else []
+
+abbrev pub takes : ℕ → ℕ → List ℕ → List Part
+takes a b ns = map (λ n. Says (line.Taken a b n)) ns
+
+abbrev pub takes_on : ℕ → ℕ → ℕ → List ℕ → List Part
+takes_on a b n others = takes a b (n ∷ others) ++ Transmits b a (load.Ack (n + 1 + length others)) ∷ []
+
+-- data number n comes: the acknowledgement says how many have been taken then
+abbrev pub data_comes : ℕ → ℕ → Pair → ℕ → List Part
+data_comes a b p n =
+    if nat_lt n p.taken then Says (line.Old a b n) ∷ Transmits b a (load.Ack p.taken) ∷ []
+    else if nat_lt p.taken n then Says (line.Early a b n) ∷ Transmits b a (load.Ack p.taken) ∷ []
+    else takes_on a b n (kept_from p.kept (n + 1) window)
+
+abbrev pub less : ℕ → ℕ → ℕ
+less m n = if nat_le m n then m else n
+
+abbrev pub more : ℕ → ℕ → ℕ
+more m n = if nat_le m n then n else m
+
+-- an acknowledgement lets messages go that waited, up to the window
+abbrev pub let_go : Pair → ℕ → List ℕ
+let_go p acked = numbers_from p.gone (less (length p.ids - p.gone) (acked + window - p.gone))
+
+abbrev pub comes : ℕ → ℕ → Pair → Pair → Load → List Part
+comes a b there back (load.Data n) = data_comes a b there n
+comes a b there back (load.Ack n) = Says (line.Acked a b n) ∷ repeats b a (let_go back (more n back.acked))
+
+abbrev pub arrives : ℕ → ℕ → Pair → Pair → Option Sent → List Part
+arrives a b there back None = Says line.Nothing ∷ []
+arrives a b there back (Some s) = comes a b there back s.load
+
+-- what follows the head of each directive
+abbrev pub outcome : Boot → Point → Step → Option (List Part)
+outcome b pt (step.Turn m) = turns b pt m (pt.view.inbox m)
+outcome b pt (step.Tick m) = Some (Says (line.Resent m (outstanding pt.view m pt.kernel.machines)) ∷ resends pt.view m pt.kernel.machines)
+outcome b pt (step.Deliver a c k) = Some (arrives a c (pt.view.pair a c) (pt.view.pair c a) (slice_get (pt.view.pair a c).wire k))
+outcome b pt (step.Migrate p m) = None
+
+-- the group of a directive, and where it leads: its head, then what follows
+abbrev pub headed : Line → Spelled → Spelled
+headed l w = record { lines = l ∷ w.lines; point = w.point }
+
+abbrev pub group_of : Boot → Point → Step → Option Spelled
+group_of b pt e =
+    bind (outcome b pt e) (λ parts. bind (after_line pt (line.Head e)) (λ begun. bind (spelled begun parts) (λ w. Some (headed (line.Head e) w))))

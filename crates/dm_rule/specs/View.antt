@@ -1,0 +1,357 @@
+-- The view: what the printed lines say of machines, pairs, inboxes, rings and queues, folded line by line.
+use Rattle.std.specs.Prelude.{ℕ, ◌+◌, Bool, true, false, not, ◌==◌, ◌&&◌, ◌||◌, nat_le, if◌then◌else◌, List, [], ◌∷◌, ◌++◌, filter, slice_get, slice_set}
+use Rattle.std.specs.declared.option.Option.{Option}
+use Rattle.std.specs.declared.option.Option.TheVariants.{None, Some}
+use Rattle.dm_link.specs.declared.Pid.{Pid}
+use Rattle.dm_link.specs.Names.{pid_eq}
+use Rattle.dm_message.specs.declared.MsgId.{MsgId}
+use Rattle.dm_message.specs.declared.kind.MessageKind.{MessageKind}
+use Rattle.dm_message.specs.declared.kind.MessageKind.TheVariants as kind
+use Rattle.dm_onekernel.specs.declared.boot.BootProcess.{BootProcess}
+use Rattle.dm_onekernel.specs.declared.boot.Boot.{Boot}
+use Rattle.dm_onekernel.specs.Boot.{switchboard, manager}
+use Rattle.dm_onekernel.specs.declared.label.Label.{Label}
+use Rattle.dm_onekernel.specs.declared.label.Label.TheVariants as label
+use Rattle.dm_schedule.specs.declared.Step.{Step}
+use Rattle.dm_schedule.specs.declared.Step.TheVariants as step
+use Rattle.dm_rule.specs.declared.line.Line.{Line}
+use Rattle.dm_rule.specs.declared.line.Line.TheVariants as line
+use Rattle.dm_rule.specs.declared.line.Load.{Load}
+use Rattle.dm_rule.specs.declared.line.Load.TheVariants as load
+use Rattle.dm_rule.specs.declared.line.Stage.{Stage}
+use Rattle.dm_rule.specs.declared.line.Stage.TheVariants as stage
+use Rattle.dm_rule.specs.Sets.{at_machine, at_pair, at_id, at_pid, at_record, without, moved_back, without_id, without_front}
+
+-- what a machine knows of a process
+pub data Known : Type 0 where
+  Unknown : Known
+  Here : Known
+  Frozen : (to : ℕ) → Known
+  Incoming : (from : ℕ) → Known
+  Forward : (at : ℕ) → (moves : ℕ) → Known
+  Ended : Known
+
+-- a packet of a wire
+pub record Sent : Type 0 where
+  pub load : Load
+  pub delivered : Bool
+
+-- a pair of machines: all messages that were routed, in order; how many of them were taken, have gone out, and are
+-- acknowledged; the numbers that came early and are kept; all packets that were put on its wire
+pub record Pair : Type 0 where
+  pub ids : List MsgId
+  pub taken : ℕ
+  pub gone : ℕ
+  pub acked : ℕ
+  pub kept : List ℕ
+  pub wire : List Sent
+
+-- what a kernel's own message is about: a machine, a process, or a process and the place where it is
+pub data About : Type 0 where
+  NothingElse : About
+  Target : (machine : ℕ) → About
+  Of : (process : Pid) → About
+  Place : (process : Pid) → (at : ℕ) → (moves : ℕ) → About
+
+-- what a message's first put says of it
+pub record Told : Type 0 where
+  pub kind : MessageKind
+  pub receiver : Pid
+  pub about : About
+
+pub record View : Type 0 where
+  -- the machine of the last head
+  pub acting : ℕ
+  pub groups : ℕ
+  pub pair : ℕ → ℕ → Pair
+  -- for each machine
+  pub inbox : ℕ → List MsgId
+  pub ring : ℕ → List Pid
+  pub count : ℕ → ℕ
+  -- for each machine and process
+  pub known : ℕ → Pid → Known
+  pub queue : ℕ → Pid → List MsgId
+  pub held : ℕ → Pid → List MsgId
+  -- how often a process has moved
+  pub moves : Pid → ℕ
+  pub told : MsgId → Option Told
+  -- what the outcome line of this group was about
+  pub topic : About
+
+-- the message at the front of the acting machine's inbox goes
+abbrev pub handled : View → MsgId → View
+handled v id = record v { inbox = at_machine v.inbox v.acting (without_front id (v.inbox v.acting)) }
+
+abbrev pub without_first : List MsgId → List MsgId
+without_first [] = []
+without_first (i ∷ is) = is
+
+abbrev pub handled_first : View → View
+handled_first v = record v { inbox = at_machine v.inbox v.acting (without_first (v.inbox v.acting)) }
+
+abbrev pub knowing : View → Pid → Known → View
+knowing v p k = record v { known = at_record v.known v.acting p k }
+
+abbrev pub with_ring : View → List Pid → View
+with_ring v ring = record v { ring = at_machine v.ring v.acting ring }
+
+abbrev pub about : View → About → View
+about v a = record v { topic = a }
+
+abbrev pub receiver_of : Option Told → Option Pid
+receiver_of None = None
+receiver_of (Some t) = Some t.receiver
+
+-- a process that a message names, in the acting machine's queues or held lists
+abbrev pub queued_for : View → MsgId → Option Pid → View
+queued_for v id None = v
+queued_for v id (Some p) = record v { queue = at_record v.queue v.acting p (v.queue v.acting p ++ id ∷ []) }
+
+abbrev pub held_for : View → MsgId → Option Pid → View
+held_for v id None = v
+held_for v id (Some p) = record v { held = at_record v.held v.acting p (v.held v.acting p ++ id ∷ []) }
+
+abbrev pub dropped_for : View → MsgId → Option Pid → View
+dropped_for v id None = v
+dropped_for v id (Some p) = record v { queue = at_record v.queue v.acting p (without_front id (v.queue v.acting p)) }
+
+-- a process is served, and goes to the ring's back
+abbrev pub serving : View → Pid → View
+serving v p = with_ring v (moved_back p (v.ring v.acting))
+
+abbrev pub ended : View → Pid → View
+ended v p = with_ring (knowing v p Ended) (without p (v.ring v.acting))
+
+abbrev pub kills : MessageKind → View → Option Pid → View
+kills kind.Kill v (Some p) = ended v p
+kills k v p = v
+
+abbrev pub served_told : View → Option Told → View
+served_told v None = v
+served_told v (Some t) = kills t.kind v (Some t.receiver)
+
+-- a row a label
+abbrev pub after_label : View → Label → View
+after_label v (label.Ran p k) = serving v p
+after_label v (label.Call p n c) = v
+after_label v (label.Send p id) = v
+after_label v (label.Wait p) = v
+after_label v (label.Out p w) = v
+after_label v (label.End p y) = ended v p
+after_label v (label.Receive p id) = record (serving v p) { queue = at_record v.queue v.acting p (without_id id (v.queue v.acting p)) }
+after_label v (label.Refuse p id c) = serving v p
+after_label v (label.Dropped id) = dropped_for (handled v id) id (receiver_of (v.told id))
+after_label v (label.Served id) = served_told (handled v id) (v.told id)
+after_label v (label.Gone id) = handled v id
+after_label v (label.Took id) = handled v id
+after_label v (label.Created id p) = with_ring (knowing (handled v id) p Here) (v.ring v.acting ++ p ∷ [])
+after_label v (label.NoSpace id s b) = handled v id
+
+abbrev pub with_pair : View → ℕ → ℕ → Pair → View
+with_pair v a b p = record v { pair = at_pair v.pair a b p }
+
+-- a route: on the pair of a machine with itself the message is taken at once, and enters the inbox
+abbrev pub routed_on : ℕ → ℕ → Pair → MsgId → Pair
+routed_on a b p id =
+    record p { ids = p.ids ++ id ∷ []; taken = if a == b then p.taken + 1 else p.taken; gone = if a == b then p.gone + 1 else p.gone; acked = if a == b then p.acked + 1 else p.acked }
+
+abbrev pub comes_home : View → ℕ → ℕ → MsgId → View
+comes_home v a b id = record v { inbox = if a == b then at_machine v.inbox b (v.inbox b ++ id ∷ []) else v.inbox }
+
+-- a message's first put says what it is
+abbrev pub first_told : Option Told → Told → Told
+first_told None t = t
+first_told (Some s) t = s
+
+-- a kernel's own message is counted when it is first routed
+abbrev pub is_own : MsgId → Option Told → Bool
+is_own id None = (id.from.num == 0) && not id.answer
+is_own id (Some t) = false
+
+abbrev pub after_put : View → ℕ → ℕ → MsgId → MessageKind → Pid → View
+after_put v a b id k q =
+    record (comes_home (with_pair v a b (routed_on a b (v.pair a b) id)) a b id) {
+      count = if is_own id (v.told id) then at_machine v.count id.from.home (v.count id.from.home + 1) else v.count;
+      told = at_id v.told id (Some (first_told (v.told id) (record { kind = k; receiver = q; about = v.topic })));
+    }
+
+-- a packet: data that goes out for the first time is the next of its pair
+abbrev pub gone_after : Load → ℕ → ℕ
+gone_after (load.Data n) gone = if n == gone then gone + 1 else gone
+gone_after (load.Ack n) gone = gone
+
+abbrev pub after_packet : View → ℕ → ℕ → Load → View
+after_packet v a b l =
+    with_pair v a b (record (v.pair a b) { gone = gone_after l (v.pair a b).gone; wire = (v.pair a b).wire ++ record { load = l; delivered = false } ∷ [] })
+
+-- the oldest message that was not taken yet
+abbrev pub oldest : Pair → Option MsgId
+oldest p = slice_get p.ids p.taken
+
+abbrev pub taken_id : View → ℕ → Option MsgId → View
+taken_id v b None = v
+taken_id v b (Some id) = record v { inbox = at_machine v.inbox b (v.inbox b ++ id ∷ []) }
+
+abbrev pub after_taken : View → ℕ → ℕ → ℕ → View
+after_taken v a b n =
+    let p = v.pair a b in
+    taken_id (with_pair v a b (record p { taken = p.taken + 1; kept = filter (λ k. not (k == n)) p.kept })) b (oldest p)
+
+abbrev pub after_early : View → ℕ → ℕ → ℕ → View
+after_early v a b n =
+    let p = v.pair a b in
+    with_pair v a b (record p { kept = n ∷ filter (λ k. not (k == n)) p.kept })
+
+-- an acknowledgement from A is of the stream that leads to A
+abbrev pub at_least : ℕ → ℕ → ℕ
+at_least m n = if nat_le n m then m else n
+
+abbrev pub after_acked : View → ℕ → ℕ → ℕ → View
+after_acked v a b n = with_pair v b a (record (v.pair b a) { acked = at_least (v.pair b a).acked n })
+
+-- the packet of a delivery is marked
+abbrev pub marked_at : List Sent → ℕ → Option Sent → List Sent
+marked_at wire k None = wire
+marked_at wire k (Some s) = slice_set wire k (record s { delivered = true })
+
+abbrev pub marked : Pair → ℕ → Pair
+marked p k = record p { wire = marked_at p.wire k (slice_get p.wire k) }
+
+-- the machine that a directive acts on
+abbrev pub actor : Step → ℕ
+actor (step.Turn m) = m
+actor (step.Tick m) = m
+actor (step.Deliver a b k) = b
+actor (step.Migrate p m) = 0
+
+abbrev pub begins : View → ℕ → About → View
+begins v m a = record v { acting = m; groups = v.groups + 1; topic = a }
+
+abbrev pub after_head : View → Step → View
+after_head v (step.Turn m) = begins v m NothingElse
+after_head v (step.Tick m) = begins v m NothingElse
+after_head v (step.Deliver a b k) = with_pair (begins v b NothingElse) a b (marked (v.pair a b) k)
+after_head v (step.Migrate p m) = begins v 0 (Target m)
+
+-- what the message at the acting machine's front is about
+abbrev pub front_told : View → List MsgId → Option Told
+front_told v [] = None
+front_told v (i ∷ is) = v.told i
+
+abbrev pub target_in : About → ℕ
+target_in NothingElse = 0
+target_in (Target m) = m
+target_in (Of p) = 0
+target_in (Place p at moves) = 0
+
+abbrev pub target_of : Option Told → ℕ
+target_of None = 0
+target_of (Some t) = target_in t.about
+
+abbrev pub front_of : List MsgId → ℕ
+front_of [] = 0
+front_of (i ∷ is) = i.from.home
+
+-- where the acting machine sends what comes for a process on to
+abbrev pub forward_about : Pid → Known → About
+forward_about p Unknown = NothingElse
+forward_about p Here = NothingElse
+forward_about p (Frozen to) = NothingElse
+forward_about p (Incoming from) = NothingElse
+forward_about p (Forward at moves) = Place p at moves
+forward_about p Ended = NothingElse
+
+abbrev pub forwarded_for : View → Option Pid → View
+forwarded_for v None = v
+forwarded_for v (Some p) = about v (forward_about p (v.known v.acting p))
+
+-- the held messages come to the front of the inbox
+abbrev pub released : View → Pid → View
+released v p =
+    record v { inbox = at_machine v.inbox v.acting (v.held v.acting p ++ v.inbox v.acting); held = at_record v.held v.acting p [] }
+
+-- a process is here, at the ring's back
+abbrev pub rejoins : View → Pid → View
+rejoins v p = released (with_ring (knowing v p Here) (v.ring v.acting ++ p ∷ [])) p
+
+abbrev pub gone_to : Known → ℕ → Known
+gone_to (Frozen to) moves = Forward to moves
+gone_to Unknown moves = Unknown
+gone_to Here moves = Here
+gone_to (Incoming from) moves = Incoming from
+gone_to (Forward at old) moves = Forward at old
+gone_to Ended moves = Ended
+
+abbrev pub about_of : Option Told → About
+about_of None = NothingElse
+about_of (Some t) = t.about
+
+-- steps of migrations: 1, 3, 4, 5 and 8 handle the message at the front
+abbrev pub after_stage : View → Pid → Stage → View
+after_stage v p stage.Frozen =
+    about (with_ring (knowing (handled_first v) p (Frozen (target_of (front_told v (v.inbox v.acting))))) (without p (v.ring v.acting))) (Of p)
+after_stage v p stage.Asked = v
+after_stage v p stage.Accepted = about (knowing (handled_first v) p (Incoming (front_of (v.inbox v.acting)))) (Of p)
+after_stage v p stage.StateTaken = about (handled_first v) (Of p)
+after_stage v p stage.MemoryTaken = about (handled_first v) (Of p)
+after_stage v p stage.Left = about (knowing v p (gone_to (v.known v.acting p) (v.moves p + 1))) (Of p)
+after_stage v p stage.Restarted = record (rejoins (handled_first v) p) { moves = at_pid v.moves p (v.moves p + 1) }
+
+-- a row a line
+abbrev pub view_after : View → Line → View
+view_after v (line.Head s) = after_head v s
+view_after v (line.Idle m) = v
+view_after v (line.Label l) = after_label v l
+view_after v (line.Put a b id k q) = after_put v a b id k q
+view_after v (line.Packet a b k l) = after_packet v a b l
+view_after v (line.Taken a b n) = after_taken v a b n
+view_after v (line.Old a b n) = v
+view_after v (line.Early a b n) = after_early v a b n
+view_after v (line.Acked a b n) = after_acked v a b n
+view_after v line.Nothing = v
+view_after v (line.Resent m n) = v
+view_after v (line.Queued id) = queued_for (handled v id) id (receiver_of (v.told id))
+view_after v (line.Held id) = held_for (handled v id) id (receiver_of (v.told id))
+view_after v (line.Forwarded id m) = forwarded_for (handled v id) (receiver_of (v.told id))
+view_after v (line.Updated id n) = handled v id
+view_after v (line.Migration s p) = after_stage v p s
+view_after v (line.SentOn p n) =
+    about (record (handled_first v) { queue = at_record v.queue v.acting p []; held = at_record v.held v.acting p [] }) (Of p)
+view_after v (line.Lacks p s b) = about (handled_first v) (Of p)
+view_after v (line.Stays p) = rejoins (handled_first v) p
+view_after v (line.Here id) = handled v id
+view_after v (line.NoMove id) = handled v id
+view_after v (line.Proto id) = about (handled v id) (about_of (v.told id))
+view_after v (line.NoChild p) = v
+view_after v (line.Pinned p) = v
+view_after v (line.End e) = v
+
+-- the processes of the boot file are where they start, and the servers on machine 0
+abbrev pub known_at : List BootProcess → ℕ → Pid → Known
+known_at [] m q = if (m == 0) && (pid_eq q switchboard || pid_eq q manager) then Here else Unknown
+known_at (p ∷ ps) m q = if pid_eq p.pid q && (p.pid.home == m) then Here else known_at ps m q
+
+abbrev pub ring_at : List BootProcess → ℕ → List Pid
+ring_at [] m = []
+ring_at (p ∷ ps) m = if p.pid.home == m then p.pid ∷ ring_at ps m else ring_at ps m
+
+abbrev pub no_pair : Pair
+no_pair = record { ids = []; taken = 0; gone = 0; acked = 0; kept = []; wire = [] }
+
+-- the view before the first line
+abbrev pub first_view : Boot → View
+first_view b =
+    record {
+      acting = 0;
+      groups = 0;
+      pair = λ m n. no_pair;
+      inbox = λ m. [];
+      ring = ring_at b.processes;
+      count = λ m. 0;
+      known = known_at b.processes;
+      queue = λ m p. [];
+      held = λ m p. [];
+      moves = λ p. 0;
+      told = λ i. None;
+      topic = NothingElse;
+    }
