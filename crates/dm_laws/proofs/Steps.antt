@@ -25,7 +25,7 @@ use Rattle.dm_onekernel.specs.Step as step
 use Rattle.dm_laws.specs.Laws.{reception, entry, in_bag}
 use Rattle.dm_laws.proofs.Equal.{id_eq-is, id_eq-same}
 use Rattle.dm_laws.proofs.Counted.{Sent, Counts, Completes, call-counts, completes-is, is_piece, pending_of}
-use Rattle.dm_laws.proofs.Movers.{unawaited, stayed, sent_at, sent_off}
+use Rattle.dm_laws.proofs.Movers.{unawaited, stayed, came, sent_at, sent_off}
 use Rattle.dm_laws.proofs.Grown.{Grown, LifeGrows, LifeGrows-same, with_process-lives}
 use Rattle.dm_laws.proofs.Sound.{Sound, Sound-same, plus, goes, ending, received, sends}
 
@@ -42,6 +42,7 @@ when-is false x t e = cc
 pub record After (r e : MsgId → ℕ) (s : OneKernel) (l : Label) (t : OneKernel) : Type 0 where
   pub sound : Sound (λ i. r i + reception i l) (λ i. e i + entry i s t) t
   pub grown : Grown s t
+  pub only : (i : MsgId) (x y : PlainMessage) → s.bag i ≡ Some x → t.bag i ≡ Some y → x ≡ y
 
 abbrev pub Sub : OneKernel → OneKernel → Type 0
 Sub t s = (i : MsgId) (x : PlainMessage) → t.bag i ≡ Some x → s.bag i ≡ Some x
@@ -60,6 +61,7 @@ quiet r e s t l none sub grown h = record {
   sound = Sound-same r e (λ i. r i + reception i l) (λ i. e i + entry i s t) t (λ i. let k = none i in omega (arith, k))
       (λ i. let k : entry i s t ≡ 0 = entry_of (s.bag i) (t.bag i) (sub i) in omega (arith, k)) h;
   grown = grown;
+  only = λ i x y was there. let f : Some x ≡ Some y = sym was ∙ sub i y there in cc;
 }
 
 entry_put : (s u : OneKernel) (m : PlainMessage) (i : MsgId) → s.bag m.id ≡ None → Sub u s → entry i s (with_sent u (Some m)) ≡ plus m.id i
@@ -81,6 +83,10 @@ puts r e s u m l none fresh sub grown h = record {
   sound = Sound-same r (λ i. e i + plus m.id i) (λ i. r i + reception i l) (λ i. e i + entry i s (with_sent u (Some m))) (with_sent u (Some m)) (λ i. let k = none i in omega (arith, k))
       (λ i. ap (λ n. e i + n) (entry_put s u m i fresh sub)) h;
   grown = grown;
+  only = λ i x y was there. elim (came u m y i there) [
+    | inl is ↦ let f : None ≡ Some x = sym fresh ∙ ap s.bag is.1 ∙ was in cc
+    | inr before ↦ let f : Some x ≡ Some y = sym was ∙ sub i y before in cc
+  ];
 }
 
 was_none_of : (r e : MsgId → ℕ) (s : OneKernel) (i : MsgId) (o : Option PlainMessage) → s.bag i ≡ o → e i + plus i i ≤ 1 → Sound r e s → o ≡ None
@@ -336,6 +342,7 @@ after_receives r e s t p id (receiving.Receives y) w is h =
       sound = Sound-same (λ i. r i + (if id_eq i id then 1 else 0)) e (λ i. r i + reception i (label.Receive p id)) (λ i. e i + entry i s v) v (λ i. refl)
           (λ i. let z : entry i s v ≡ 0 = entry_of (s.bag i) (v.bag i) (stayed s id i) in omega (arith, z)) on;
       grown = Grown-process s v p w.x y w.alive (let f = w.is.0 in omega (arith, f)) (λ q. refl) (λ n. refl) refl refl;
+      only = λ i a b was there. let f : Some a ≡ Some b = sym was ∙ stayed s id i b there in cc;
     })
 after_receives r e s t p id (receiving.Refuses reply y) w is h = cc
 

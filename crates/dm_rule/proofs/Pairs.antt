@@ -1,5 +1,5 @@
 -- The pairs of machines stand, wherever the rule leads.
-use Rattle.std.proofs.Common.{◌≡◌, ℕ, ◌+◌, ◌<◌, ◌≤◌, ◌==◌, ◌&&◌, Bool, true, false, List, [], ◌∷◌, refl, ap, ◌∙◌, sym, subst, arith, length}
+use Rattle.std.proofs.Common.{◌≡◌, ℕ, ◌≤◌, ◌==◌, ◌&&◌, Bool, true, false, List, [], ◌∷◌, refl, ap, ◌∙◌, sym, subst, arith}
 use Rattle.std.specs.Prelude.{◌≢◌, slice_get}
 use Rattle.std.specs.declared.option.Option.TheVariants.{Some}
 use Rattle.std.proofs.lemmas.Bool.{false≢true}
@@ -9,12 +9,11 @@ use Rattle.dm_onekernel.specs.Options.{bind}
 use Rattle.dm_schedule.specs.declared.Step.{Step}
 use Rattle.dm_schedule.specs.declared.Step.TheVariants as step
 use Rattle.dm_rule.specs.declared.line.Line.TheVariants as line
-use Rattle.dm_rule.specs.declared.line.Load.TheVariants as load
 use Rattle.dm_rule.specs.Sets.{at_pair}
-use Rattle.dm_rule.specs.View.{View, Pair, Sent, first_view, marked}
+use Rattle.dm_rule.specs.View.{View, Pair, first_view, marked}
 use Rattle.dm_rule.specs.Point.{Point, after_line, first_point}
 use Rattle.dm_rule.specs.Parts.{Part, Says, Spelled, spelled}
-use Rattle.dm_rule.specs.Rule.{has, outstanding, resends, arrives, outcome, headed, group_of}
+use Rattle.dm_rule.specs.Rule.{outstanding, resends, arrives, outcome, headed, group_of}
 use Rattle.dm_rule.specs.Pairs.{PairStands, HomeStands}
 use Rattle.dm_rule.specs.Laws.{IsStep, Leads, PairsStandAlways}
 use Rattle.dm_rule.proofs.PairsStand.{LoadStands, WireStands-at, set_same, set_other}

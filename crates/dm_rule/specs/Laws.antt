@@ -11,6 +11,7 @@ use Rattle.dm_rule.specs.Parts.{Spelled}
 use Rattle.dm_rule.specs.Rule.{group_of}
 use Rattle.dm_rule.specs.Spots.{StandsAsBag, standing}
 use Rattle.dm_rule.specs.Pairs.{PairStands, HomeStands}
+use Rattle.dm_rule.specs.Homes.{Homes}
 
 -- a directive for so many machines
 abbrev pub IsStep : ℕ → Step → Type 0
@@ -32,3 +33,8 @@ StandsOnceAlways = (b : Boot) (es : List Step) (pt : Point) (id : MsgId) → IsV
 -- wherever the rule leads, each pair of machines stands, and so does each machine's pair with itself
 abbrev pub PairsStandAlways : Type 0
 PairsStandAlways = (b : Boot) (es : List Step) (pt : Point) (m n : ℕ) → Leads b (first_point b) es pt → m ≢ n → PairStands (pt.view.pair m n) (pt.view.pair n m) × HomeStands (pt.view.pair m m)
+
+-- wherever the rule leads without a migration, each address names the home of its process, and each message stands where its
+-- receiver is at home
+abbrev pub LeadHomeAlways : Type 0
+LeadHomeAlways = (b : Boot) (es : List Step) (pt : Point) → IsValid b → Leads b (first_point b) es pt → Homes pt

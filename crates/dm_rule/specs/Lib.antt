@@ -6,5 +6,6 @@ pub mod Spots
 pub mod Parts
 pub mod Rule
 pub mod Pairs
+pub mod Homes
 pub mod Good
 pub mod Laws

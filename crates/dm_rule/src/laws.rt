@@ -1,5 +1,5 @@
 //! What holds wherever the rule leads, whoever ran by it.
-ghost use Rattle.dm_rule.specs.Laws.{StandsOnceAlways, PairsStandAlways};
+ghost use Rattle.dm_rule.specs.Laws.{StandsOnceAlways, PairsStandAlways, LeadHomeAlways};
 
 /// Wherever the rule leads from a boot file, each message that the kernel without machines holds stands exactly once
 /// among the queues, held lists, inboxes and streams of the printed lines, and no other stands there.
@@ -11,4 +11,10 @@ pub fn stands_once_always()
 /// gone out, or more out than the window; each packet of a wire carries what has gone out or counts what was taken.
 pub fn pairs_stand_always()
     ensures { PairsStandAlways }
+{}
+
+/// Wherever the rule leads from a boot file, and nothing moves yet, each link, each message and each name of the servers
+/// names its process's home, and each queued, routed or received message stands where its receiver is at home.
+pub fn lead_home_always()
+    ensures { LeadHomeAlways }
 {}
