@@ -4,19 +4,20 @@
 use std::alloc::{AllocError, AllocFailed};
 use thiserror::Error;
 
-/// No memory was left.
+/// No memory was left. Its field is private: it is made from an allocation's error and from nothing else,
+/// so no other refusal can be told as want of memory.
 #[derive(Clone, Copy, Debug, PartialEq, Eq, Drop, Error)]
 #[error("out of memory")]
-pub struct NoMemory;
+pub struct NoMemory(());
 
 impl From<AllocError> for NoMemory {
     fn from(_: AllocError) -> NoMemory {
-        NoMemory
+        NoMemory(())
     }
 }
 
 impl<T: Drop> From<AllocFailed<T>> for NoMemory {
     fn from(_: AllocFailed<T>) -> NoMemory {
-        NoMemory
+        NoMemory(())
     }
 }
