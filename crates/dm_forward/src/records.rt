@@ -9,7 +9,7 @@ ghost use Rattle.dm_forward.specs.Records.{at, frozen_of, here_of, incoming_of, 
 use crate::record::{Record, Whereabouts};
 use dm_link::Pid;
 use dm_memory::NoMemory;
-use std::alloc::{AllocFailed, Global};
+use std::alloc::Global;
 use std::collections::BTreeMap;
 
 /// What a machine knows of processes. A record once made never goes, and only making one takes memory.
@@ -74,7 +74,10 @@ impl<H, L, A, E> Records<H, L, A, E> {
     {
         match self.map.insert(pid, entry) {
             Ok(_) => Ok(()),
-            Err(AllocFailed { value: (_, entry) }) => Err((entry, NoMemory)),
+            Err(failed) => {
+                let ((_, entry), no) = NoMemory::with_value(failed);
+                Err((entry, no))
+            }
         }
     }
 

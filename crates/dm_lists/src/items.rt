@@ -1,7 +1,8 @@
 //! A list that is filled once and then read.
 ghost use Rattle.std.specs.Prelude.{List, [], ◌∷◌, ◌++◌, OnErr, OnOk, length, ◌≡◌, ◌<◌};
 
-use std::alloc::{AllocError, Global};
+use dm_memory::NoMemory;
+use std::alloc::Global;
 use std::marker::Model;
 
 /// A list of values, in order.
@@ -47,7 +48,7 @@ impl<T> Items<T> {
     }
 
     /// Adds a value at the end.
-    pub fn push(&mut self, item: T) -> Result<(), AllocError>
+    pub fn push(&mut self, item: T) -> Result<(), NoMemory>
     where
         T: Drop,
         ensures ok { OnOk result (self.new ≡ self.old ++ item ∷ []) }

@@ -3,7 +3,8 @@ ghost use Rattle.std.specs.Prelude.{List, [], ◌∷◌, ◌++◌, IfErr, MatchO
 ghost use Rattle.std.specs.Fn.{CalledAt};
 ghost use Rattle.std.specs.List.Retain.{IsFiltered};
 
-use std::alloc::{AllocError, AllocFailed, Global};
+use dm_memory::NoMemory;
+use std::alloc::Global;
 use std::collections::VecDeque;
 use std::marker::Model;
 
@@ -35,7 +36,7 @@ impl<T> Queue<T> {
     }
 
     /// Adds a value at the back, or leaves the queue as it was.
-    pub fn push(&mut self, item: T) -> Result<(), AllocError>
+    pub fn push(&mut self, item: T) -> Result<(), NoMemory>
     where
         T: Drop,
         ensures ok { OnOk result (self.new ≡ self.old ++ item ∷ []) }
@@ -46,14 +47,14 @@ impl<T> Queue<T> {
     }
 
     /// Adds a value at the back, or hands it back where there is no memory.
-    pub fn push_or_return(&mut self, item: T) -> Result<(), T>
+    pub fn push_or_return(&mut self, item: T) -> Result<(), (T, NoMemory)>
         ensures ok { OnOk result (self.new ≡ self.old ++ item ∷ []) }
         ensures err { OnErr result (self.new ≡ self.old) }
-        ensures returned { IfErr result (λ back. back ≡ item) }
+        ensures returned { IfErr result (λ back. back.0 ≡ item) }
     {
         match self.items.push_back(item) {
             Ok(()) => Ok(()),
-            Err(AllocFailed { value, .. }) => Err(value),
+            Err(failed) => Err(NoMemory::with_value(failed)),
         }
     }
 

@@ -1,6 +1,8 @@
 //! Want of memory: one type, which the crates above answer and hand on.
 #![tactic(auto)]
 
+ghost use Rattle.std.specs.Prelude.{◌≡◌};
+
 use std::alloc::{AllocError, AllocFailed};
 use thiserror::Error;
 
@@ -9,6 +11,16 @@ use thiserror::Error;
 #[derive(Clone, Copy, Debug, PartialEq, Eq, Drop, Error)]
 #[error("out of memory")]
 pub struct NoMemory(());
+
+impl NoMemory {
+    /// The value that found no memory, and that there was none.
+    pub fn with_value<T>(failed: AllocFailed<T>) -> (T, NoMemory)
+        ensures { result.0 ≡ failed.value }
+    {
+        let AllocFailed { value } = failed;
+        (value, NoMemory(()))
+    }
+}
 
 impl From<AllocError> for NoMemory {
     fn from(_: AllocError) -> NoMemory {

@@ -135,7 +135,7 @@ impl Process {
     {
         match self.queue.push_or_return(message) {
             Ok(()) => Ok(()),
-            Err(message) => Err((message, NoMemory)),
+            Err(returned) => Err(returned),
         }
     }
 

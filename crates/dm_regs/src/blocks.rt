@@ -6,7 +6,7 @@ ghost use Rattle.dm_regs.specs.WholeBlocks.{AreWhole};
 use crate::flat_bytes::write_at;
 use crate::storage::Cells;
 use dm_memory::NoMemory;
-use std::alloc::{AllocError, Global};
+use std::alloc::Global;
 use std::marker::Model;
 
 /// How many bytes a block has.
@@ -101,7 +101,7 @@ fn put_block_at(blocks: &mut [[u8; 256]], k: usize, block: &[u8; 256])
 }
 
 /// So many blocks of zeros.
-fn zero_blocks(alloc: Global, n: usize) -> Result<Vec<[u8; 256]>, AllocError>
+fn zero_blocks(alloc: Global, n: usize) -> Result<Vec<[u8; 256]>, NoMemory>
     ensures { IfOk result (λ v. v.items ≡ replicate n (replicate 256 0)) }
 {
     let mut blocks = Vec::with_capacity(alloc, n)?;
