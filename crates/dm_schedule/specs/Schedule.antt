@@ -76,4 +76,4 @@ directives_of text machines = lines_from machines 1 (lines text)
 -- a text is refused so; want of memory says nothing of it
 abbrev pub RefusedSo : List ℕ → ℕ → SchedNo → Type 0
 RefusedSo text machines (no.Refused line fault) = directives_of text machines ≡ Refused line fault
-RefusedSo text machines no.NoMemory = ⊤
+RefusedSo text machines (no.NoMemory _) = ⊤

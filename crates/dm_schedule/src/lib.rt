@@ -10,12 +10,13 @@ mod operands;
 mod tests;
 
 ghost use Rattle.std.specs.Prelude.{◌++◌, IfErr, IfOk, OnOk, option_to_list, ◌≡◌};
-ghost use Rattle.dm_schedule.specs.Schedule.{Accepted, RefusedSo, directives_of, number_of_fault};
 ghost use Rattle.dm_schedule.specs.declared.SchedNo.TheVariants as no;
+ghost use Rattle.dm_schedule.specs.Schedule.{Accepted, RefusedSo, directives_of, number_of_fault};
 
 use crate::directives::line_directive;
 use crate::lines::first_line;
 use dm_link::Pid;
+use dm_memory::NoMemory;
 use std::alloc::Global;
 use thiserror::Error;
 
@@ -79,7 +80,15 @@ pub enum SchedNo {
     #[error("line {line}: {fault}")]
     Refused { line: u64, fault: LineFault },
     #[error("no memory")]
-    NoMemory,
+    NoMemory(NoMemory),
+}
+
+impl From<NoMemory> for SchedNo {
+    ghost from_gives = { λ none e. e ≡ no.NoMemory none };
+
+    fn from(none: NoMemory) -> SchedNo {
+        SchedNo::NoMemory(none)
+    }
 }
 
 /// Reads the directives of a schedule for so many machines, 1 to 16 in use: one a line, in order.
@@ -109,15 +118,12 @@ pub fn read_schedule(alloc: Global, bytes: &[u8], machines: u8) -> Result<Vec<Di
 }
 
 /// Adds a directive at the end, if there is one.
-fn add(directives: &mut Vec<Directive>, found: Option<Directive>) -> Result<(), SchedNo>
-    ensures ok { OnOk result (directives.new.items ≡ directives.old.items ++ option_to_list found) }
-    ensures err { IfErr result (λ e. e ≡ no.NoMemory) }
+fn add(directives: &mut Vec<Directive>, found: Option<Directive>) -> Result<(), NoMemory>
+    ensures { OnOk result (directives.new.items ≡ directives.old.items ++ option_to_list found) }
 {
     let Some(directive) = found else {
         return Ok(());
     };
-    match directives.push(directive) {
-        Ok(()) => Ok(()),
-        Err(_) => Err(SchedNo::NoMemory),
-    }
+    directives.push(directive)?;
+    Ok(())
 }

@@ -9,7 +9,7 @@ fn refusal(alloc: Global, text: &[u8]) -> (u64, u8) {
     match read_schedule(alloc, text, 2) {
         Ok(_) => (0, 0),
         Err(SchedNo::Refused { line, fault }) => (line, fault.number()),
-        Err(SchedNo::NoMemory) => (0, 255),
+        Err(SchedNo::NoMemory(_)) => (0, 255),
     }
 }
 

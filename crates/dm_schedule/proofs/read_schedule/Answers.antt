@@ -17,7 +17,7 @@ pub loop-rest-preserved : goal.loop-rest-preserved
 loop-rest-preserved c = record {
   few = omega arith;
   all =
-      ap (λ ds. before ds (lines_from c.args.machines (c.loop-rest.number + 1) (lines c.first_line.result.1.now))) c.in_ok-add-in-Ok.ensures.ok
+      ap (λ ds. before ds (lines_from c.args.machines (c.loop-rest.number + 1) (lines c.first_line.result.1.now))) c.in_ok-add-in-Ok.ensures
       ∙ sym (goes_on c.args.machines c.loop-rest.number c.loop-rest.directives.items c.first_line.result.0.now (lines c.first_line.result.1.now) c.in-Ok.found (sym c.in-Ok.ensures))
       ∙ ap (λ ls. before c.loop-rest.directives.items (lines_from c.args.machines c.loop-rest.number ls)) (sym c.first_line.ensures.lines)
       ∙ c.loop-rest.invariant.all;
