@@ -25,7 +25,7 @@ meant labels text h =
 -- a refusal of what is the same
 pub refused_alike : {A B : Type 0} (f : A → List ℕ) (g : B → List ℕ) (no : AsmNo) (m n : Result (List ℕ) (ℕ × Why)) → m ≡ n → Answers f (Err no) m → Answers g (Err no) n
 refused_alike f g (Fault line why) m n e h = sym e ∙ h
-refused_alike f g NoMemory m n e h = tt
+refused_alike f g (NoMemory _) m n e h = tt
 
 -- one listed byte behind an image
 behind-cons : (image : List ℕ) (n : ℕ) (r : Result (List ℕ) Why) → behind (image ++ n ∷ []) r ≡ behind image (r >>= λ others. Ok (n ∷ others))

@@ -45,9 +45,9 @@ assembled text = with_lines (places_of text) 1 [] (lines text)
 abbrev pub Answers : {A : Type 0} → (A → List ℕ) → Result A AsmNo → Result (List ℕ) (ℕ × Why) → Type 0
 Answers seen (Ok x) meant = meant ≡ Ok (seen x)
 Answers seen (Err (Fault line why)) meant = meant ≡ Err (line, why)
-Answers seen (Err NoMemory) meant = Unit {0}
+Answers seen (Err (NoMemory _)) meant = Unit {0}
 
 -- why a line stops all
 abbrev pub at_line : ℕ → Stop → AsmNo
 at_line line (stops.Fault why) = Fault line why
-at_line line stops.NoMemory = NoMemory
+at_line line (stops.NoMemory none) = NoMemory none

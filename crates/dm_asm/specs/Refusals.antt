@@ -1,5 +1,6 @@
 -- The numbers of the reasons, and results that are refused with one.
 use Rattle.std.specs.Prelude.{ℕ, ◌≡◌, List, ◌++◌, Result, Ok, Err}
+use Rattle.dm_memory.specs.declared.NoMemory.{NoMemory}
 use Rattle.dm_asm.specs.declared.refusals.Why.{Why}
 use Rattle.dm_asm.specs.declared.refusals.Why.TheVariants.{UnknownWord, BadRegister, BadNumber, OutOfRange, UnknownLabel, LabelTwice, OperandCount, TooLong}
 use Rattle.dm_asm.specs.declared.refusals.Stop.{Stop}
@@ -27,10 +28,14 @@ abbrev pub behind : List ℕ → Result (List ℕ) Why → Result (List ℕ) Why
 behind bytes (Ok more) = Ok (bytes ++ more)
 behind bytes (Err why) = Err why
 
+-- a stop is for want of memory
+abbrev pub IsWant : Stop → Type 0
+IsWant stop = (no : NoMemory) × (stop ≡ stops.NoMemory no)
+
 -- a stop is for this reason, or for want of memory
 abbrev pub Stops : {A : Type 0} → Stop → Result A Why → Type 0
 Stops (stops.Fault why) wanted = wanted ≡ Err why
-Stops stops.NoMemory wanted = Unit {0}
+Stops (stops.NoMemory _) wanted = Unit {0}
 
 -- a value, seen as what is wanted, or a stop
 abbrev pub Gives : {A B : Type 0} → (A → B) → Result A Stop → Result B Why → Type 0

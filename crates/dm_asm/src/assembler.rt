@@ -48,7 +48,7 @@ fn stopped(line: usize, stop: Stop) -> AsmNo
 {
     match stop {
         Stop::Fault(why) => AsmNo::Fault { line, why },
-        Stop::NoMemory => AsmNo::NoMemory,
+        Stop::NoMemory(no) => AsmNo::NoMemory(no),
     }
 }
 
@@ -77,8 +77,9 @@ pub fn assemble(alloc: Global, text: &str) -> Result<Image, AsmNo>
     ensures exact { Answers (λ image. image) result (assembled text.now) }
 {
     let text = text.as_bytes();
-    let Ok(labels) = Labels::of(alloc, text) else {
-        return Err(AsmNo::NoMemory);
+    let labels = match Labels::of(alloc, text) {
+        Ok(labels) => labels,
+        Err(no) => return Err(AsmNo::NoMemory(no)),
     };
     match all_lines(alloc, &labels, text) {
         Ok(bytes) => Ok(Image::new(bytes)),

@@ -28,6 +28,14 @@ impl Image {
         Image { bytes }
     }
 
+    /// The vector of the bytes.
+    pub fn into_bytes(self) -> Vec<u8>
+        ensures { result.items ≡ self }
+    {
+        let Image { bytes } = self;
+        bytes
+    }
+
     /// The bytes, at most 65,536.
     pub fn as_bytes(&self) -> &[u8]
         ensures bytes { result.now ≡ self.now }

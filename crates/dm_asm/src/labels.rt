@@ -9,7 +9,8 @@ ghost use Rattle.dm_asm.specs.Places.{behind_label, first_of, has_label, label_i
 use crate::forms::Form;
 use crate::lines::{count_words, first_line, next_word, uncommented};
 use crate::numbers::{is_label, number};
-use std::alloc::{AllocError, Global};
+use dm_memory::NoMemory;
+use std::alloc::Global;
 use std::collections::BTreeMap;
 
 /// Where a label is defined: its line, from 1, and its byte address.
@@ -44,7 +45,7 @@ impl<'t> Labels<'t> {
     }
 
     /// Defines a label, unless it is defined.
-    fn define(&mut self, name: &'t [u8], place: Place) -> Result<(), AllocError>
+    fn define(&mut self, name: &'t [u8], place: Place) -> Result<(), NoMemory>
         ensures ok { OnOk result ((q : List ℕ) → place_in self.new q ≡ first_of (place_in self.old q) (if bytes_eq q name.now then Some place else None)) }
     {
         if self.map.contains_key(name) {
@@ -118,7 +119,7 @@ fn statement_counted(statement: &[u8]) -> usize
 impl<'t> Labels<'t> {
     /// Defines the label of a line, if it has one and that isn't defined.
     #[tactic(auto, unfolding(crate::specs::Places::has_label))]
-    fn add_line(&mut self, line: &'t [u8], place: Place) -> Result<(), AllocError>
+    fn add_line(&mut self, line: &'t [u8], place: Place) -> Result<(), NoMemory>
         ensures ok { OnOk result ((q : List ℕ) → place_in self.new q ≡ first_of (place_in self.old q) (if has_label line.now q then Some place else None)) }
     {
         match split_label(uncommented(line)) {
@@ -128,7 +129,7 @@ impl<'t> Labels<'t> {
     }
 
     /// The labels of a text.
-    pub fn of(alloc: Global, text: &'t [u8]) -> Result<Labels<'t>, AllocError>
+    pub fn of(alloc: Global, text: &'t [u8]) -> Result<Labels<'t>, NoMemory>
         ensures ok { IfOk result (λ labels. (q : List ℕ) → place_in labels q ≡ place_from 1 0 (lines text.now) q) }
     {
         let mut labels = Labels::new(alloc);

@@ -1,8 +1,9 @@
 //! Why a text is refused.
 ghost use Rattle.std.specs.Prelude.{◌≡◌};
-ghost use Rattle.dm_asm.specs.Refusals.{why_code};
+ghost use Rattle.dm_asm.specs.Refusals.{IsWant, why_code};
 ghost use Rattle.dm_asm.specs.declared.refusals.Stop.TheVariants as stops;
 
+use dm_memory::NoMemory;
 use std::alloc::{AllocError, AllocFailed};
 
 /// Why a line is refused.
@@ -50,7 +51,7 @@ pub enum AsmNo {
     /// A line is refused; lines count from 1.
     Fault { line: usize, why: Why },
     /// No memory was left.
-    NoMemory,
+    NoMemory(NoMemory),
 }
 
 /// Why a line has no bytes.
@@ -59,7 +60,7 @@ pub enum Stop {
     /// It is refused.
     Fault(Why),
     /// No memory was left.
-    NoMemory,
+    NoMemory(NoMemory),
 }
 
 impl From<Why> for Stop {
@@ -71,17 +72,17 @@ impl From<Why> for Stop {
 }
 
 impl From<AllocError> for Stop {
-    ghost from_gives = { λ _ stop. stop ≡ stops.NoMemory };
+    ghost from_gives = { λ _ stop. IsWant stop };
 
-    fn from(_: AllocError) -> Stop {
-        Stop::NoMemory
+    fn from(failed: AllocError) -> Stop {
+        Stop::NoMemory(NoMemory::from(failed))
     }
 }
 
 impl<T: Drop> From<AllocFailed<T>> for Stop {
-    ghost from_gives = { λ _ stop. stop ≡ stops.NoMemory };
+    ghost from_gives = { λ _ stop. IsWant stop };
 
-    fn from(_: AllocFailed<T>) -> Stop {
-        Stop::NoMemory
+    fn from(failed: AllocFailed<T>) -> Stop {
+        Stop::NoMemory(NoMemory::from(failed))
     }
 }

@@ -7,7 +7,7 @@ fn refusal(alloc: Global, text: &str) -> (usize, u8) {
     match assemble(alloc, text) {
         Ok(_) => (0, 0),
         Err(AsmNo::Fault { line, why }) => (line, why.code()),
-        Err(AsmNo::NoMemory) => (0, 255),
+        Err(AsmNo::NoMemory(_)) => (0, 255),
     }
 }
 

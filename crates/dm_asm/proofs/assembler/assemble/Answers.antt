@@ -16,5 +16,5 @@ returns-in-Ok-all_lines c = record {
 pub returns : goal.returns
 returns c = record {
   exact =
-      refused_alike {A = Vec ℕ Global} {B = List ℕ} (λ v. v.items) (λ image. image) c.in-Err.no _ _ (meant c.in-Ok.labels c.as_bytes-text.result.now c.in-Ok.ensures.ok ∙ ap assembled c.as_bytes-text.ensures.value) c.in-Err.ensures.exact;
+      refused_alike {A = Vec ℕ Global} {B = List ℕ} (λ v. v.items) (λ image. image) c.in-Err-all_lines.no _ _ (meant c.in-Ok.labels c.as_bytes-text.result.now c.in-Ok.ensures.ok ∙ ap assembled c.as_bytes-text.ensures.value) c.in-Err-all_lines.ensures.exact;
 }
