@@ -82,7 +82,7 @@ at-err rule (Some place) rest x e h = cc
 -- an answer that says what another said
 pub pass-err : {A B : Type 0} (w : Result A (BootRule × ℕ)) (v : Result B (BootRule × ℕ)) (e : BootNo) → ((x : BootRule × ℕ) → w ≡ Err x → v ≡ Err x) → Answers w (Err e) → Answers v (Err e)
 pass-err w v (Refused rule place) turn h = turn (rule, place) h
-pass-err w v NoMemory turn h = tt
+pass-err w v (NoMemory _) turn h = tt
 
 -- the rules before those that the code looks at by itself
 abbrev pub before_images : List BootRule

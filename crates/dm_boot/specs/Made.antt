@@ -10,4 +10,4 @@ use Rattle.dm_boot.specs.Rules.{assembles}
 abbrev pub IsMade : Data → Assembled → Type 0
 IsMade t (Image image) = (assembles t ≡ true) × (image ≡ image_of t)
 IsMade t Fault = assembles t ≡ false
-IsMade t NoMemory = Unit {0}
+IsMade t (NoMemory _) = Unit {0}

@@ -13,6 +13,7 @@ use crate::rules::{BootNo, BootRule};
 use crate::tables::text_at;
 use dm_asm::AsmNo;
 use dm_lists::Items;
+use dm_memory::NoMemory;
 use dm_onekernel::boot::BootImage;
 use std::alloc::Global;
 use toml::Value;
@@ -23,7 +24,7 @@ enum Assembled {
     Image(BootImage),
     /// The assembler refuses its text.
     Fault,
-    NoMemory,
+    NoMemory(NoMemory),
 }
 
 /// The images of these tables, unless the assembler refuses a text.
@@ -41,10 +42,10 @@ pub fn images_of(alloc: Global, tables: &[Value]) -> Result<Items<BootImage>, Bo
                     place: i as u64,
                 });
             }
-            Assembled::NoMemory => return Err(BootNo::NoMemory),
+            Assembled::NoMemory(none) => return Err(BootNo::NoMemory(none)),
         };
-        if images.push(image).is_err() {
-            return Err(BootNo::NoMemory);
+        if let Err(none) = images.push(image) {
+            return Err(BootNo::NoMemory(none));
         }
     }
     Ok(images)
@@ -57,15 +58,12 @@ fn image_of(alloc: Global, table: &Value) -> Assembled
 {
     let blocks = image_blocks(table).unwrap_or(0) as u16;
     match dm_asm::assemble(alloc, text_at(table, "text")) {
-        Ok(image) => match image.as_bytes().to_vec(alloc) {
-            Ok(bytes) => Assembled::Image(BootImage {
-                bytes: Items::from_vec(bytes),
-                blocks,
-            }),
-            Err(_) => Assembled::NoMemory,
-        },
+        Ok(image) => Assembled::Image(BootImage {
+            bytes: Items::from_vec(image.into_bytes()),
+            blocks,
+        }),
         Err(AsmNo::Fault { .. }) => Assembled::Fault,
-        Err(AsmNo::NoMemory) => Assembled::NoMemory,
+        Err(AsmNo::NoMemory(none)) => Assembled::NoMemory(none),
     }
 }
 

@@ -3,7 +3,7 @@
 
 ghost use Rattle.std.specs.Prelude.{IfOk};
 ghost use Rattle.dm_onekernel.specs.Boot.{IsValid};
-ghost use Rattle.dm_boot.specs.Boot.{Answers, boot_of};
+ghost use Rattle.dm_boot.specs.Boot.{Answers, IsUnread, boot_of};
 
 mod checks;
 mod images;
@@ -19,11 +19,13 @@ mod system;
 mod tables;
 mod targets;
 
+use dm_memory::NoMemory;
 use dm_onekernel::boot::Boot;
 pub use rules::{BootNo, BootRule};
-use std::alloc::Global;
+use std::alloc::{AllocError, Global};
 use system::system_of;
 use toml::Value;
+use toml::de::Error;
 
 /// Reads the system that a boot file describes, or the first rule that it breaks.
 #[tactic(auto, using(crate::proofs::Validity::valid_lemmas))]
@@ -41,15 +43,21 @@ fn read(alloc: Global, bytes: &[u8]) -> Result<Boot, BootNo>
 {
     match toml::table_from_slice(alloc, bytes) {
         Ok(table) => system_of(alloc, &Value::Table(table)),
-        Err(e) => {
-            if e.is_memory() {
-                Err(BootNo::NoMemory)
-            } else {
-                Err(BootNo::Refused {
-                    rule: BootRule::Document,
-                    place: 0,
-                })
-            }
+        Err(why) => Err(unread(&why)),
+    }
+}
+
+/// Why there is no document. The reader of documents tells want of memory by a word of its own, and hands no
+/// allocation's error on: only that word is want of memory.
+fn unread(why: &Error) -> BootNo
+    ensures { IsUnread why.now result }
+{
+    if why.is_memory() {
+        BootNo::NoMemory(NoMemory::from(AllocError))
+    } else {
+        BootNo::Refused {
+            rule: BootRule::Document,
+            place: 0,
         }
     }
 }

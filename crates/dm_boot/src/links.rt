@@ -9,8 +9,9 @@ use crate::tables::{items_at, place_of, text_at, truth_at};
 use crate::targets::{MEMORY, base_in, channel_in, code_in, is_control, len_in};
 use dm_link::{Addr, Area, Kind, Link, Pid};
 use dm_lists::Items;
+use dm_memory::NoMemory;
 use dm_onekernel::boot::BootProcess;
-use std::alloc::{AllocError, Global};
+use std::alloc::Global;
 use toml::Value;
 
 /// The switchboard.
@@ -26,7 +27,7 @@ pub fn links_of(
     top: &Value,
     starts: &[BootProcess],
     process: &Value,
-) -> Result<Items<Link>, AllocError>
+) -> Result<Items<Link>, NoMemory>
     requires { count (process_tables (view top.now)) ≤ 4294967294 }
     ensures { IfOk result (λ links. links ≡ links_of (view top.now) starts.now (view process.now)) }
 {

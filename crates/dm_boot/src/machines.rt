@@ -6,13 +6,14 @@ ghost use Rattle.dm_boot.specs.Build.{machine_of};
 
 use crate::tables::number_at;
 use dm_lists::Items;
+use dm_memory::NoMemory;
 use dm_onekernel::boot::BootMachine;
-use std::alloc::{AllocError, Global};
+use std::alloc::Global;
 use toml::Value;
 
 /// The machines of these tables.
 #[tactic(auto, using(crate::proofs::Elements::map_lemmas))]
-pub fn machines_of(alloc: Global, tables: &[Value]) -> Result<Items<BootMachine>, AllocError>
+pub fn machines_of(alloc: Global, tables: &[Value]) -> Result<Items<BootMachine>, NoMemory>
     ensures { IfOk result (λ ms. ms ≡ map_items machine_of (items_view tables.now)) }
 {
     let mut machines = Items::new(alloc);

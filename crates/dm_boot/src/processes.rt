@@ -7,8 +7,9 @@ ghost use Rattle.dm_boot.specs.Build.{linked_all, process_tables};
 use crate::links::links_of;
 use crate::tables::items_at;
 use dm_lists::Items;
+use dm_memory::NoMemory;
 use dm_onekernel::boot::BootProcess;
-use std::alloc::{AllocError, Global};
+use std::alloc::Global;
 use toml::Value;
 
 /// These processes, each with the links of its table.
@@ -17,7 +18,7 @@ pub fn processes_of(
     alloc: Global,
     top: &Value,
     starts: &[BootProcess],
-) -> Result<Items<BootProcess>, AllocError>
+) -> Result<Items<BootProcess>, NoMemory>
     requires few { count (process_tables (view top.now)) ≤ 4080 }
     ensures { IfOk result (λ ps. ps ≡ linked_all (view top.now) starts.now starts.now (process_tables (view top.now))) }
 {

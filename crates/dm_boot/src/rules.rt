@@ -2,6 +2,7 @@
 ghost use Rattle.std.specs.Prelude.{◌≡◌};
 ghost use Rattle.dm_boot.specs.Rules.{rule_number};
 
+use dm_memory::NoMemory;
 use thiserror::Error;
 
 /// The rule that a boot file breaks, in the order of their numbers.
@@ -88,5 +89,5 @@ pub enum BootNo {
     #[error("{rule:?} at {place}")]
     Refused { rule: BootRule, place: u64 },
     #[error("no memory")]
-    NoMemory,
+    NoMemory(NoMemory),
 }

@@ -44,8 +44,8 @@ pub fn starts_of(
                 place: i as u64,
             });
         }
-        if starts.push(start).is_err() {
-            return Err(BootNo::NoMemory);
+        if let Err(none) = starts.push(start) {
+            return Err(BootNo::NoMemory(none));
         }
     }
     Ok(starts)

@@ -27,8 +27,9 @@ pub fn system_of(alloc: Global, top: &Value) -> Result<Boot, BootNo>
         Ok(images) => images,
         Err(e) => return Err(e),
     };
-    let Ok(machines) = machines_of(alloc, items_at(top, "machine")) else {
-        return Err(BootNo::NoMemory);
+    let machines = match machines_of(alloc, items_at(top, "machine")) {
+        Ok(machines) => machines,
+        Err(none) => return Err(BootNo::NoMemory(none)),
     };
     let starts = match read_starts(alloc, top, machines.as_slice(), images.as_slice()) {
         Ok(starts) => starts,
@@ -143,6 +144,6 @@ fn read_processes(
     }
     match processes_of(alloc, top, starts) {
         Ok(processes) => Ok(processes),
-        Err(_) => Err(BootNo::NoMemory),
+        Err(none) => Err(BootNo::NoMemory(none)),
     }
 }
