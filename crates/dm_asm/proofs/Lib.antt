@@ -2,3 +2,5 @@ pub mod Cuts
 pub mod Defined
 pub mod Digits
 pub mod Meant
+mod Sizes
+mod Stands

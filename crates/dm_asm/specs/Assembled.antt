@@ -1,5 +1,5 @@
 -- The image of a text.
-use Rattle.std.specs.Prelude.{ℕ, ◌≡◌, nat_le, ◌+◌, if◌then◌else◌, Option, Result, Ok, Err, List, [], ◌∷◌, length}
+use Rattle.std.specs.Prelude.{ℕ, ◌≡◌, nat_le, ◌+◌, ◌-◌, if◌then◌else◌, Option, Result, Ok, Err, List, [], ◌∷◌, length, take}
 use Rattle.dm_asm.specs.declared.labels.Place.{Place}
 use Rattle.dm_asm.specs.declared.refusals.Why.{Why}
 use Rattle.dm_asm.specs.declared.refusals.Why.TheVariants.{TooLong}
@@ -51,3 +51,10 @@ Answers seen (Err (NoMemory _)) meant = Unit {0}
 abbrev pub at_line : ℕ → Stop → AsmNo
 at_line line (stops.Fault why) = Fault line why
 at_line line (stops.NoMemory none) = NoMemory none
+
+-- a place of a text with this image: its address is how many bytes the lines before it make, and with these the image begins
+pub record StandsBehind (text image : List ℕ) (place : Place) : Type 0 where
+  pub before : List ℕ
+  pub of_lines : with_lines (places_of text) 1 [] (take (place.line - 1) (lines text)) ≡ Ok before
+  pub value : place.address ≡ length before
+  pub begins : take place.address image ≡ before

@@ -5,6 +5,7 @@ mod assembler;
 mod forms;
 mod image;
 mod labels;
+pub mod laws;
 mod lines;
 mod numbers;
 mod operands;

@@ -1,6 +1,7 @@
 //! Texts worked out by hand.
 use crate::{AsmNo, assemble};
-use std::alloc::Global;
+use std::alloc::{AllocError, Global};
+use std::test::Fail;
 
 /// The line and the number of a refusal, or (0, 0) where there is an image.
 fn refusal(alloc: Global, text: &str) -> (usize, u8) {
@@ -48,6 +49,39 @@ fn each_form(rt: HostRuntime) {
     assert!(rt; gives(rt.alloc(), "sys 7;8", &[20, 0, 0, 7]));
     assert!(rt; gives(rt.alloc(), "li r1 007", &[1, 1, 0, 7]));
     assert!(rt; gives(rt.alloc(), "bltu r1 r2 l\nl:", &[19, 1, 2, 0]));
+}
+
+/// The first image of the smallest run: its words, and behind them the body at label t.
+#[test]
+fn the_first_text_of_the_smallest_run(rt: HostRuntime) {
+    let text = "li r2 t\nli r3 2\nsys 6\nsys 1\nt: .byte 104 105";
+    let bytes = [1, 2, 0, 16, 1, 3, 0, 2, 20, 0, 0, 6, 20, 0, 0, 1, 104, 105];
+    assert!(rt; gives(rt.alloc(), text, &bytes));
+}
+
+/// A text with so many lines of one byte, and then a line.
+fn far_down(alloc: Global, lines: u32, line: &str) -> Result<String, AllocError> {
+    let mut text = String::new(alloc);
+    for _ in 0..lines {
+        text.push_str(".byte 7\n")?;
+    }
+    text.push_str(line)?;
+    Ok(text)
+}
+
+#[test]
+fn lines_far_down(rt: HostRuntime) -> Result<(), Fail> {
+    for (lines, last, line, why) in [
+        (4, "hop", 5, 1),
+        (1_000, "mov r1 x", 1_001, 2),
+        (1_200, "jmp nowhere", 1_201, 5),
+        (1_500, "l: jmp l", 0, 0),
+        (2_000, "l:\nl:", 2_002, 6),
+    ] {
+        let text = far_down(rt.alloc(), lines, last)?;
+        assert_eq!(rt; refusal(rt.alloc(), &text), (line, why));
+    }
+    Ok(())
 }
 
 #[test]

@@ -1,0 +1,97 @@
+-- A line makes as many bytes as it counts.
+use Rattle.std.proofs.Common.{ℕ, suc, Bool, true, false, nat_le, ◌≡◌, refl, ap, List, [], ◌∷◌, length, replicate, arith}
+use Rattle.std.specs.Prelude.{Option, Some, None, Result, Ok, Err, if◌then◌else◌}
+use Rattle.std.proofs.lemmas.Bool.Decides.{nat_tests}
+use Rattle.std.proofs.lemmas.List.{length-replicate}
+use Rattle.dm_regs.specs.declared.opcodes.Opcode.{Opcode}
+use Rattle.dm_asm.specs.declared.forms.Form.{Form}
+use Rattle.dm_asm.specs.declared.forms.Form.TheVariants.{Instruction, Word, Byte, Zero}
+use Rattle.dm_asm.specs.declared.forms.Shape.{Shape}
+use Rattle.dm_asm.specs.declared.forms.Shape.TheVariants.{RegisterValue, TwoRegisters, ThreeRegisters, Access, Jump, Branch, Call}
+use Rattle.dm_asm.specs.declared.labels.Place.{Place}
+use Rattle.dm_asm.specs.declared.refusals.Why.{Why}
+use Rattle.dm_asm.specs.declared.refusals.Why.TheVariants.{OperandCount, OutOfRange}
+use Rattle.dm_asm.specs.Forms.{form_of, shape_of}
+use Rattle.dm_asm.specs.Lines.{words, without_comment}
+use Rattle.dm_asm.specs.Numbers.{number_of}
+use Rattle.dm_asm.specs.Operands.{fields, number, register, target, value, wanted_number}
+use Rattle.dm_asm.specs.Places.{behind_label, form_size, label_of, line_size, statement_size, zero_size}
+use Rattle.dm_asm.specs.Refusals.{◌>>=◌}
+use Rattle.dm_asm.specs.Statements.{form_bytes, instruction_bytes, is_twice, line_bytes, listed_bytes, named_bytes, statement_bytes, takes}
+
+-- so many bytes, if any
+abbrev pub HasLength : ℕ → Result (List ℕ) Why → Type 0
+HasLength n (Ok bytes) = length bytes ≡ n
+HasLength n (Err why) = Unit {0}
+
+-- bytes that are made of a value
+of-value : {A : Type 0} (n : ℕ) (r : Result A Why) (f : A → Result (List ℕ) Why) → ((x : A) → HasLength n (f x)) → HasLength n (r >>= f)
+of-value n (Ok x) f h = h x
+of-value n (Err why) f h = tt
+
+-- bytes that are made of bytes
+of-bytes : (m n : ℕ) (r : Result (List ℕ) Why) (f : List ℕ → Result (List ℕ) Why) → HasLength m r → ((bs : List ℕ) → length bs ≡ m → HasLength n (f bs)) → HasLength n (r >>= f)
+of-bytes m n (Ok bs) f e h = h bs e
+of-bytes m n (Err why) f e h = tt
+
+-- bytes where a test holds
+where_true : (n : ℕ) (b : Bool) (why : Why) (r : Result (List ℕ) Why) → (b ≡ true → HasLength n r) → HasLength n (if b then r else Err why)
+where_true n true why r h = h refl
+where_true n false why r h = tt
+
+where_false : (n : ℕ) (b : Bool) (why : Why) (r : Result (List ℕ) Why) → HasLength n r → HasLength n (if b then Err why else r)
+where_false n true why r h = tt
+where_false n false why r h = h
+
+three-fields : (places : List ℕ → Option Place) (at : ℕ) (shape : Shape) (ws : List (List ℕ)) → HasLength 3 (fields places at shape ws)
+unfolding fields
+three-fields places at RegisterValue ws = of-value 3 (register ws) _ (λ a. of-value 3 (value places 65535 a.1) _ (λ v. refl))
+three-fields places at TwoRegisters ws = of-value 3 (register ws) _ (λ a. of-value 3 (register a.1) _ (λ b. refl))
+three-fields places at ThreeRegisters ws = of-value 3 (register ws) _ (λ a. of-value 3 (register a.1) _ (λ b. of-value 3 (register b.1) _ (λ c. refl)))
+three-fields places at Access ws = of-value 3 (register ws) _ (λ a. of-value 3 (register a.1) _ (λ b. of-value 3 (number 255 b.1) _ (λ c. refl)))
+three-fields places at Jump ws = of-value 3 (value places 65535 ws) _ (λ v. refl)
+three-fields places at Branch ws = of-value 3 (register ws) _ (λ a. of-value 3 (register a.1) _ (λ b. of-value 3 (target places at b.1) _ (λ d. refl)))
+three-fields places at Call ws = of-value 3 (number 255 ws) _ (λ n. refl)
+
+four-bytes : (places : List ℕ → Option Place) (at : ℕ) (op : Opcode) (ws : List (List ℕ)) → HasLength 4 (instruction_bytes places at op ws)
+four-bytes places at op ws = of-bytes 3 4 (fields places at (shape_of op) ws) _ (three-fields places at (shape_of op) ws) (λ bs e. ap suc e)
+
+as-listed : (ws : List (List ℕ)) → HasLength (length ws) (listed_bytes ws)
+unfolding listed_bytes
+as-listed [] = refl
+as-listed (w ∷ ws) = of-value (length (w ∷ ws)) (wanted_number 255 (number_of w)) _ (λ first. of-bytes (length ws) (length (w ∷ ws)) (listed_bytes ws) _ (as-listed ws) (λ others e. ap suc e))
+
+-- zeros, by the test of their number
+zeros-by : (b : Bool) (n : ℕ) → HasLength (if b then n else 0) (((if b then Ok n else Err OutOfRange) >>= λ v. Ok (v, [])) >>= λ (m : ℕ × List (List ℕ)). Ok (replicate m.0 0))
+zeros-by true n = length-replicate n 0
+zeros-by false n = tt
+
+zeros-of : (o : Option ℕ) → HasLength (zero_size o) ((wanted_number 65536 o >>= λ v. Ok (v, [])) >>= λ (m : ℕ × List (List ℕ)). Ok (replicate m.0 0))
+zeros-of None = tt
+zeros-of (Some n) = zeros-by (nat_le n 65536) n
+
+form-length : (places : List ℕ → Option Place) (at : ℕ) (form : Form) (ws : List (List ℕ)) → takes form (length ws) ≡ true → HasLength (form_size (Some form) ws) (form_bytes places at form ws)
+unfolding number
+form-length places at (Instruction op) ws h = four-bytes places at op ws
+form-length places at Word ws h = of-value 4 (value places 4294967295 ws) _ (λ w. refl)
+form-length places at Byte ws h = as-listed ws
+form-length places at Zero [] h = tt
+form-length places at Zero (w ∷ []) h = zeros-of (number_of w)
+form-length places at Zero (w ∷ v ∷ ws) h = absurd (grind (arith, nat_tests))
+
+named-length : (places : List ℕ → Option Place) (at : ℕ) (twice : Bool) (o : Option Form) (ws : List (List ℕ)) → HasLength (form_size o ws) (named_bytes places at twice o ws)
+named-length places at twice None ws = tt
+named-length places at twice (Some form) ws =
+    where_false (form_size (Some form) ws) twice _ _ (where_true (form_size (Some form) ws) (takes form (length ws)) OperandCount _ (form-length places at form ws))
+
+statement-length : (places : List ℕ → Option Place) (at : ℕ) (twice : Bool) (ws : List (List ℕ)) → HasLength (statement_size ws) (statement_bytes places at twice ws)
+unfolding statement_bytes
+statement-length places at twice [] = where_false 0 twice _ _ refl
+statement-length places at twice (w ∷ ws) = named-length places at twice (form_of w) ws
+
+-- a line makes as many bytes as it counts
+pub line-length : (places : List ℕ → Option Place) (number at : ℕ) (line : List ℕ) → HasLength (line_size line) (line_bytes places number at line)
+unfolding line_bytes line_size
+line-length places number at line =
+    let ws = words (without_comment line) in
+    statement-length places at (is_twice places number (label_of ws)) (behind_label ws)
