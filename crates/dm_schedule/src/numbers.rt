@@ -1,5 +1,5 @@
 //! Numbers and names of processes as they are written.
-ghost use Rattle.std.specs.Prelude.{◌≡◌, ◌≤◌, length, option_map};
+ghost use Rattle.std.specs.Prelude.{◌≡◌, ◌≤◌, ◌&&◌, length, nat_le, option_map};
 ghost use Rattle.std.specs.List.{position};
 ghost use Rattle.dm_link.specs.Names.{pid_of};
 ghost use Rattle.dm_schedule.specs.Numbers.{going_on, is_point, number_of, process_of};
@@ -22,15 +22,22 @@ fn digits_value(digits: &[u8]) -> Option<u64>
     Some(value)
 }
 
+/// Whether a number can have so many digits.
+fn can_have(digits: usize) -> bool
+    ensures { result ≡ (nat_le 1 digits && nat_le digits 10) }
+{
+    1 <= digits && digits <= MOST_DIGITS
+}
+
 /// The number that a word is: one to ten digits.
 #[tactic(auto, unfolding(crate::specs::Numbers::number_of))]
 pub fn number(word: &[u8]) -> Option<u64>
     ensures { result ≡ number_of word.now }
 {
-    if word.is_empty() || word.len() > MOST_DIGITS {
-        None
-    } else {
+    if can_have(word.len()) {
         digits_value(word)
+    } else {
+        None
     }
 }
 

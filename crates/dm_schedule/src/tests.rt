@@ -1,7 +1,7 @@
 //! Schedules worked out by hand, for two machines.
 use crate::{Directive, SchedNo, Step, read_schedule};
 use dm_link::Pid;
-use std::alloc::Global;
+use std::alloc::{AllocError, Global};
 use std::test::Fail;
 
 /// The bad line and the number of its fault, (0, 0) where there is none.
@@ -83,6 +83,40 @@ fn numbers_and_limits(rt: HostRuntime) {
     for (text, line, fault) in table {
         assert_eq!(rt; refusal(rt.alloc(), text), (line, fault));
     }
+}
+
+/// A schedule with so many good lines, and then a last line.
+fn far_down(alloc: Global, lines: u32, last: &[u8]) -> Result<Vec<u8>, AllocError> {
+    let mut text = Vec::new(alloc);
+    for _ in 0..lines {
+        text.extend_from_slice(b"turn 1\n")?;
+    }
+    text.extend_from_slice(last)?;
+    Ok(text)
+}
+
+#[test]
+fn cut_last_lines(rt: HostRuntime) -> Result<(), Fail> {
+    let table: [(u32, &[u8], u64, u8); 7] = [
+        (0, b"migrate 0.", 1, 2),
+        (1, b"tur", 2, 1),
+        (4, b"turn", 5, 2),
+        (4, b"turn 1", 0, 0),
+        (5, b"deliver 0 1", 6, 2),
+        (1_000, b"migrate 0. 1", 1_001, 3),
+        (2_000, b"s", 2_001, 1),
+    ];
+    for (lines, last, line, fault) in table {
+        let text = far_down(rt.alloc(), lines, last)?;
+        assert_eq!(rt;
+            refusal(rt.alloc(), text.as_slice()),
+            (line, fault),
+            "{lines}"
+        );
+    }
+    let text = far_down(rt.alloc(), 1_000, b"turn 0")?;
+    assert_eq!(rt; read_schedule(rt.alloc(), text.as_slice(), 2)?.len(), 1_001);
+    Ok(())
 }
 
 #[test]
