@@ -3,6 +3,8 @@
 
 pub mod items;
 pub mod queue;
+#[cfg(test)]
+mod tests;
 
 pub use items::Items;
 pub use queue::Queue;

@@ -133,10 +133,7 @@ impl Process {
         ensures err { OnErr result (self.new ≡ self.old) }
         ensures returned { IfErr result (λ e. e.0 ≡ message) }
     {
-        match self.queue.push_or_return(message) {
-            Ok(()) => Ok(()),
-            Err(returned) => Err(returned),
-        }
+        self.queue.push_or_return(message)
     }
 
     /// The place of the first message of its queue that is on a channel of the mask.

@@ -46,6 +46,9 @@ fn wakes_at_the_first_message_on_the_mask(rt: HostRuntime) -> Result<(), Fail> {
         (3, true, Some(1)),
         (3, true, Some(1)),
         (31, true, Some(1)),
+        (4, true, Some(1)),
+        (5, true, Some(1)),
+        (6, true, Some(1)),
     ];
     for (channel, runnable, place) in table {
         if process.enqueue(message(0, channel)).is_err() {
@@ -54,6 +57,13 @@ fn wakes_at_the_first_message_on_the_mask(rt: HostRuntime) -> Result<(), Fail> {
         assert_eq!(rt; process.runnable(), runnable, "channel {channel}");
         assert_eq!(rt; process.first_match(8), place, "channel {channel}");
     }
-    assert_eq!(rt; process.first_match(2_147_483_648), Some(3));
+    for (mask, place) in [
+        (2_147_483_648, Some(3)),
+        (16, Some(4)),
+        (64, Some(6)),
+        (2, None),
+    ] {
+        assert_eq!(rt; process.first_match(mask), place, "mask {mask}");
+    }
     Ok(())
 }

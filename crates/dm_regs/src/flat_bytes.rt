@@ -6,7 +6,7 @@ use dm_memory::NoMemory;
 use std::alloc::Global;
 use std::marker::Model;
 
-/// A memory of 1 to 256 times 256 bytes, in one piece.
+/// A memory of at most 65,536 bytes, in one piece.
 #[derive(Drop)]
 pub struct Flat {
     bytes: Vec<u8>,
@@ -23,7 +23,7 @@ impl Model for Flat {
 }
 
 impl Flat {
-    /// An image, and zeros up to so many times 256 bytes.
+    /// An image, and zeros up to so many times 256 bytes: 0 to 256 times.
     pub fn from_image(alloc: Global, image: &[u8], blocks: u16) -> Result<Flat, NoMemory>
         requires most { blocks ≤ 256 }
         requires fits { length image.now ≤ 256 * blocks }
