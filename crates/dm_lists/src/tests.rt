@@ -8,7 +8,9 @@ fn one_after_the_other(rt: HostRuntime) -> Result<(), Fail> {
     let mut queue = Queue::new(rt.alloc());
     for n in 0..2_000u32 {
         items.push(n)?;
-        queue.push(n)?;
+        if queue.push_or_return(n).is_err() {
+            return Err(Fail::new("no memory"));
+        }
     }
     for (n, item) in items.as_slice().iter().enumerate() {
         assert_eq!(rt; *item as usize, n);
