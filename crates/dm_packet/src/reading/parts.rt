@@ -38,7 +38,7 @@ pub fn outcome_at(bytes: &[u8]) -> Result<(Outcome, &[u8]), Bad>
     let (byte, rest) = byte_at(bytes)?;
     match byte {
         0 => Ok((Outcome::Done, rest)),
-        1 => Ok((Outcome::NoRoom, rest)),
+        1 => Ok((Outcome::Stayed, rest)),
         3 => Ok((Outcome::Ended, rest)),
         _ => Err(Bad::Limit),
     }
