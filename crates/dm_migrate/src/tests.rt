@@ -181,7 +181,7 @@ fn room_decides(rt: HostRuntime) -> Result<(), Fail> {
                 );
                 assert_eq!(rt; room.free(), (slots, blocks));
             },
-            Asked::NoMemory => return Err(Fail::new("no memory")),
+            Asked::NoMemory(_) => return Err(Fail::new("no memory")),
         }
     }
     Ok(())

@@ -3,7 +3,7 @@ ghost use Rattle.std.specs.Prelude.{IfErr, IsSome, OnErr, OnOk, drop, option_map
 ghost use Rattle.dm_stream.specs.Returned.{message_in};
 
 use dm_memory::NoMemory;
-use std::alloc::{AllocError, AllocFailed, Global};
+use std::alloc::Global;
 use std::collections::VecDeque;
 use std::marker::Model;
 use thiserror::Error;
@@ -17,7 +17,7 @@ pub enum GiveNo<M> {
     /// All numbers of the stream are used.
     #[error("all numbers of the stream are used")]
     Worn(M),
-    /// No memory was left.
+    /// No memory was left, as std's error said.
     #[error("out of memory")]
     NoMemory(M, NoMemory),
 }
@@ -91,7 +91,10 @@ impl<M> Sender<M> {
         }
         match self.unacked.push_back(message) {
             Ok(()) => Ok(()),
-            Err(AllocFailed { value }) => Err(GiveNo::NoMemory(value, NoMemory::from(AllocError))),
+            Err(failed) => {
+                let (message, none) = NoMemory::with_value(failed);
+                Err(GiveNo::NoMemory(message, none))
+            },
         }
     }
 
