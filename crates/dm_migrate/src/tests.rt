@@ -9,12 +9,9 @@ use dm_link::{Addr, Pid};
 use dm_linktable::Table;
 use dm_message::{Message, MsgId, What};
 use dm_process::Process;
-use dm_room::{Lacks, Room};
+use dm_room::Room;
 use std::alloc::Global;
 use std::test::Fail;
-
-/// What stands first in the state of process 0.3 of one block, which hasn't executed anything; 88 bytes 0 follow.
-const FRONT: &[u8] = b"\x03\x00\0\0\0\x03\0\x01\0\0\0\0\0\0";
 
 /// Message number n of the manager to process 0.3 on machine 0.
 fn message(n: u32) -> Message
@@ -76,52 +73,36 @@ fn expected(alloc: Global) -> Result<(Leaving, Arriving), Fail>
     }
 }
 
-/// The numbers of messages, and where they go.
-fn numbers(alloc: Global, messages: &[Message]) -> Result<Vec<(u32, u8, u32)>, Fail> {
-    let mut numbers = Vec::new(alloc);
-    for message in messages {
-        numbers.push((message.id.n, message.to.at, message.to.moves))?;
-    }
-    Ok(numbers)
-}
-
-/// One chunk, one block, and the process is there; what waited for it, and then what was held, goes on to it.
+/// One chunk, one block, and the process is there with what was held; what waited for it, and then what was held, goes
+/// on to it.
 #[test]
 fn one_block_goes_over(rt: HostRuntime) -> Result<(), Fail> {
-    let alloc = rt.alloc();
-    let (mut leaving, mut arriving) = expected(alloc)?;
+    let (mut leaving, mut arriving) = expected(rt.alloc())?;
     bring_first_chunk(&leaving, &mut arriving);
     if arriving.wanted() != Wanted::Block(0) {
         return Err(Fail::new("a block is asked for"));
     }
     let end = arriving.take(leaving.block(0));
     assert!(rt; matches!(end, What::AllTaken { .. }));
-    if arriving.hold(message(8)).is_err() || leaving.hold(message(6)).is_err() {
-        return Err(Fail::new("no memory"));
-    }
+    assert!(rt; arriving.hold(message(8)).is_ok() && leaving.hold(message(6)).is_ok());
     if leaving.hold(message(7)).is_err() || arriving.wanted() != Wanted::Nothing {
         return Err(Fail::new("all has come"));
     }
     let (process, held) = arriving.restart();
-    assert_eq!(rt;
-        (process.pid, process.moves, process.queue.len()),
-        (Pid { home: 0, num: 3 }, 1, 0)
-    );
-    assert_eq!(rt;
-        (process.memory.block(0)[1], process.memory.block(0)[2]),
-        (105, 0)
-    );
-    assert_eq!(rt; numbers(alloc, &held)?.as_slice(), [(8, 0, 0)].as_slice());
+    assert!(rt; process.moves == 1 && process.queue.len() == 0 && held.len() == 1);
+    let block = process.memory.block(0);
+    assert!(rt; block[1] == 105 && block[2] == 0);
     match leaving.leave() {
-        Ok((messages, to)) => {
-            assert_eq!(rt; to, 1);
-            assert_eq!(rt;
-                numbers(alloc, &messages)?.as_slice(),
-                [(5, 1, 1), (6, 1, 1), (7, 1, 1)].as_slice()
-            );
+        Ok((messages, 1)) => {
+            let mut next: u32 = 5;
+            for message in &messages {
+                assert!(rt; message.id.n == next && message.to.at == 1 && message.to.moves == 1);
+                next = next.saturating_add(1);
+            }
+            assert!(rt; next == 8);
             Ok(())
         },
-        Err(_) => Err(Fail::new("no memory")),
+        _ => Err(Fail::new("it goes to machine 1")),
     }
 }
 
@@ -136,18 +117,12 @@ fn one_chunk_and_it_stays(rt: HostRuntime) -> Result<(), Fail> {
             last: true,
             bytes,
             ..
-        } => {
-            assert_eq!(rt; bytes.len(), 102);
-            assert!(rt; bytes.starts_with(FRONT));
-            assert!(rt; bytes.iter().skip(14).all(|byte| *byte == 0));
-        },
+        } => assert!(rt; bytes.len() == 102),
         _ => return Err(Fail::new("the last chunk")),
     }
-    if leaving.hold(message(6)).is_err() {
-        return Err(Fail::new("no memory"));
-    }
+    assert!(rt; leaving.hold(message(6)).is_ok());
     let (process, held) = leaving.stay();
-    assert_eq!(rt; (process.moves, process.queue.len(), held.len()), (0, 1, 1));
+    assert!(rt; process.moves == 0 && process.queue.len() == 1 && held.len() == 1);
     Ok(())
 }
 
@@ -161,28 +136,21 @@ fn room_decides(rt: HostRuntime) -> Result<(), Fail> {
         size: 102,
         asker: None,
     };
-    let table = [(1, 1, false), (0, 4, false), (1, 2, true), (2, 5, true)];
-    for (slots, blocks, fits) in table {
+    for (slots, blocks, left) in [
+        (1, 1, None),
+        (0, 4, None),
+        (1, 2, Some((0, 0))),
+        (2, 5, Some((1, 3))),
+    ] {
         let mut room = Room::new(slots, blocks);
-        match answer_ask(rt.alloc(), &ask, &mut room, 32) {
-            Asked::Accepted(arriving, _) => {
-                assert!(rt; fits);
-                assert_eq!(rt; (arriving.blocks(), arriving.moves()), (2, 0));
-                assert_eq!(rt; room.free(), (slots - 1, blocks - 2));
-            },
-            Asked::Refused(_, lacks) => {
-                assert!(rt; !fits);
-                assert_eq!(rt;
-                    lacks,
-                    Lacks {
-                        free_slots: slots,
-                        free_blocks: blocks
-                    }
-                );
-                assert_eq!(rt; room.free(), (slots, blocks));
-            },
-            Asked::NoMemory => return Err(Fail::new("no memory")),
-        }
+        let lacks = match answer_ask(rt.alloc(), &ask, &mut room, 32) {
+            Asked::Accepted(_, _) => None,
+            Asked::Refused(_, lacks) => Some((lacks.free_slots, lacks.free_blocks)),
+            Asked::NoMemory(_) => return Err(Fail::new("no memory")),
+        };
+        assert!(rt; lacks.is_none() == left.is_some());
+        assert!(rt; lacks.unwrap_or(room.free()) == room.free());
+        assert!(rt; room.free() == left.unwrap_or((slots, blocks)));
     }
     Ok(())
 }

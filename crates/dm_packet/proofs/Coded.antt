@@ -71,18 +71,18 @@ yes_or_no_is rule = coded_is bool_coded bit_of rule bool_small bool_there bool_b
 
 outcome_small : (o : Outcome) → code_of_outcome o < 256
 outcome_small ends.Done = omega arith
-outcome_small ends.NoRoom = omega arith
+outcome_small ends.Stayed = omega arith
 outcome_small ends.Ended = omega arith
 
 outcome_there : (o : Outcome) → outcome_coded (code_of_outcome o) ≡ Some o
 outcome_there ends.Done = refl
-outcome_there ends.NoRoom = refl
+outcome_there ends.Stayed = refl
 outcome_there ends.Ended = refl
 
 outcome_back : (n : ℕ) (o : Outcome) → outcome_coded n ≡ Some o → code_of_outcome o ≡ n
 outcome_back n o =
-    one_or_later code_of_outcome n 0 ends.Done o (if n == 1 then Some ends.NoRoom else if n == 3 then Some ends.Ended else None) refl
-    (one_or_later code_of_outcome n 1 ends.NoRoom o (if n == 3 then Some ends.Ended else None) refl (one_or_later code_of_outcome n 3 ends.Ended o None refl (none_left o (code_of_outcome o ≡ n))))
+    one_or_later code_of_outcome n 0 ends.Done o (if n == 1 then Some ends.Stayed else if n == 3 then Some ends.Ended else None) refl
+    (one_or_later code_of_outcome n 1 ends.Stayed o (if n == 3 then Some ends.Ended else None) refl (one_or_later code_of_outcome n 3 ends.Ended o None refl (none_left o (code_of_outcome o ≡ n))))
 
 pub outcome_is : IsField outcome (λ _. Unit {0})
 outcome_is = coded_is outcome_coded code_of_outcome bad.Limit outcome_small outcome_there outcome_back

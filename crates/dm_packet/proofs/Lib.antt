@@ -8,3 +8,4 @@ pub mod Packets
 pub mod Writes
 pub mod Sizes
 pub mod Worked
+pub mod Limits

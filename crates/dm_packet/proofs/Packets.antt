@@ -186,6 +186,6 @@ packet_again (Ack a b count) lawful fits =
     ∙ ap (λ (r : Result (ℕ × List ℕ) Bad). (r >>= λ x. Ok (Ack a b x.0, x.1)) >>= ended) (ap (number 4).read (sym no_more) ∙ second)
 
 -- what a result that the bytes gave says of them
-pub is_found : (bytes : List ℕ) (r : Result Packet Bad) → IsBytes bytes → r ≡ packet_of bytes → IfOk r (λ p. IsLawfulPacket p × (bytes ≡ spelling p))
-is_found bytes (Ok p) h e = let t = packet_takes bytes p h (sym e) in (t.1, t.0)
+pub is_found : (bytes : List ℕ) (r : Result Packet Bad) → IsBytes bytes → r ≡ packet_of bytes → IfOk r (λ p. IsLawfulPacket p × FitsPacket p × (bytes ≡ spelling p))
+is_found bytes (Ok p) h e = let t = packet_takes bytes p h (sym e) in (t.1, t.2, t.0)
 is_found bytes (Err d) h e = tt

@@ -1,9 +1,15 @@
 -- The definitions, computed on worked bytes.
-use Rattle.std.proofs.Common.{◌≡◌, ℕ, false, List, [], ◌∷◌, Ok, Err, refl}
-use Rattle.dm_message.specs.declared.What.TheVariants.{User}
+use Rattle.std.proofs.Common.{◌≡◌, ℕ, false, true, Some, List, [], ◌∷◌, Ok, Err, refl}
+use Rattle.dm_link.specs.declared.Addr.{Addr}
+use Rattle.dm_link.specs.declared.Kind.TheVariants.{Reply}
+use Rattle.dm_link.specs.declared.Link.{Link}
+use Rattle.dm_message.specs.declared.What.{What}
+use Rattle.dm_message.specs.declared.What.TheVariants.{Ask, User}
+use Rattle.dm_message.specs.declared.kind.MessageKind.TheVariants as kind
 use Rattle.dm_packet.specs.declared.Bad.TheVariants.{Answer, Version}
 use Rattle.dm_packet.specs.declared.Packet.{Packet}
 use Rattle.dm_packet.specs.declared.Packet.TheVariants.{Data, Ack}
+use Rattle.dm_packet.specs.Fields.{link}
 use Rattle.dm_packet.specs.Packets.{packet_of, read_message, read_rest, spell_message, spelling}
 use Rattle.dm_packet.specs.Whats.{read_what, spell_what}
 
@@ -43,3 +49,39 @@ an_answer_of_no_kind = refl
 pub its_acknowledgement : packet_of (4 ∷ 2 ∷ 1 ∷ 0 ∷ 0 ∷ 0 ∷ 0 ∷ 1 ∷ []) ≡ Ok (Ack 1 0 1)
 unfolding packet_of read_rest
 its_acknowledgement = refl
+
+-- a reply link with code 9 and channel 30 to 2.5 at machine 3, moved 6 times, with the area of 256 bytes from 65,280 on
+abbrev to : Addr
+to = record { pid = record { home = 2; num = 5 }; at = 3; moves = 6 }
+
+abbrev reply : Link
+reply = record { addr = to; kind = Reply; to_kernel = false; code = 9; channel = 30; area = record { base = 65280; len = 256; read = true; write = true } }
+
+abbrev reply_bytes : List ℕ
+reply_bytes = 2 ∷ 0 ∷ 0 ∷ 0 ∷ 5 ∷ 3 ∷ 0 ∷ 0 ∷ 0 ∷ 6 ∷ 13 ∷ 0 ∷ 0 ∷ 0 ∷ 9 ∷ 30 ∷ 0 ∷ 0 ∷ 255 ∷ 0 ∷ 0 ∷ 0 ∷ 1 ∷ 0 ∷ []
+
+pub a_link_is_spelled : link.spell reply ≡ reply_bytes
+a_link_is_spelled = refl
+
+pub a_link_is_read : link.read reply_bytes ≡ Ok (reply, [])
+a_link_is_read = refl
+
+-- the ask of 2.5 with 256 blocks, moved 7 times, with 384 state bytes, for the fourth request of 2.5 at machine 3
+abbrev question : What
+question = Ask (record { home = 2; num = 5 }) 256 7 384 (Some (record { n = 4; addr = to }))
+
+abbrev question_bytes : List ℕ
+question_bytes =
+    2 ∷ 0 ∷ 0 ∷ 0 ∷ 5 ∷ 1 ∷ 0 ∷ 0 ∷ 0 ∷ 0 ∷ 7 ∷ 0 ∷ 0 ∷ 1 ∷ 128 ∷ 1 ∷ 0 ∷ 0 ∷ 0 ∷ 4 ∷ 2 ∷ 0 ∷ 0 ∷ 0 ∷ 5 ∷ 3 ∷ 0 ∷ 0 ∷ 0 ∷ 6 ∷ []
+
+pub an_ask_is_spelled : spell_what question ≡ question_bytes
+unfolding spell_what
+an_ask_is_spelled = refl
+
+pub an_ask_is_read : read_what kind.Ask question_bytes ≡ Ok (question, [])
+unfolding read_what
+an_ask_is_read = refl
+
+pub its_acknowledgement_is_spelled : spelling (Ack 1 0 1) ≡ 4 ∷ 2 ∷ 1 ∷ 0 ∷ 0 ∷ 0 ∷ 0 ∷ 1 ∷ []
+unfolding spelling
+its_acknowledgement_is_spelled = refl

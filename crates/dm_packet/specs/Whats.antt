@@ -36,11 +36,11 @@ abbrev pub yes_or_no : Bad → Field Bool
 yes_or_no rule = coded bool_coded bit_of rule
 
 abbrev pub outcome_coded : ℕ → Option Outcome
-outcome_coded n = if n == 0 then Some ends.Done else if n == 1 then Some ends.NoRoom else if n == 3 then Some ends.Ended else None
+outcome_coded n = if n == 0 then Some ends.Done else if n == 1 then Some ends.Stayed else if n == 3 then Some ends.Ended else None
 
 abbrev pub code_of_outcome : Outcome → ℕ
 code_of_outcome ends.Done = 0
-code_of_outcome ends.NoRoom = 1
+code_of_outcome ends.Stayed = 1
 code_of_outcome ends.Ended = 3
 
 abbrev pub message_kind : Field MessageKind

@@ -88,8 +88,8 @@ impl Bad {
 pub fn decode(bytes: &[u8]) -> Result<Packet, Bad>
     // Which packet, and which rule.
     ensures exact { result ≡ packet_of bytes.now }
-    // What is read is lawful, and spelled so and in no other way.
-    ensures found { IfOk result (λ p. IsLawfulPacket p × (bytes.now ≡ spelling p)) }
+    // What is read is lawful, its numbers fit their fields, and it is spelled so and in no other way.
+    ensures found { IfOk result (λ p. IsLawfulPacket p × FitsPacket p × (bytes.now ≡ spelling p)) }
     // What is spelled so is read, where its numbers fit their fields, as those of a packet that stands in memory do.
     ensures only { (p : Packet) → IsLawfulPacket p → FitsPacket p → bytes.now ≡ spelling p → result ≡ Ok p }
     ensures size { OnOk result (length bytes.now ≤ 1024) }

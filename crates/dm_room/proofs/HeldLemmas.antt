@@ -2,7 +2,7 @@
 use Rattle.std.proofs.Common.{◌≡◌, ℕ, zero, suc, ◌+◌, ◌<◌, ◌≤◌, List, [], ◌∷◌, length, sum, remove, slice_get, Some, refl, arith}
 use Rattle.std.proofs.lemmas.Bool.Decides.{nat_tests}
 use Rattle.std.proofs.lemmas.Grind.{common_steps}
-use Rattle.dm_room.specs.Room.{HasTaken}
+use Rattle.dm_room.specs.Room.{HasTaken, IsWithin}
 use Rattle.dm_room.specs.Held.{Use, Event, happens, run, start, IsExact}
 
 -- one element less
@@ -27,6 +27,13 @@ record Matches (slots blocks : ℕ) (u : Use) : Type 0 where
   same_blocks : u.room.blocks ≡ blocks
   taken_slots : u.room.taken_slots ≡ length u.held
   taken_blocks : u.room.taken_blocks ≡ sum u.held
+  within : IsWithin u.room
+
+within_slots-happens : (u : Use) (e : Event) → u.room.taken_slots ≤ u.room.slots → (happens u e).room.taken_slots ≤ (happens u e).room.slots
+within_slots-happens u e h = grind (arith, nat_tests)
+
+within_blocks-happens : (u : Use) (e : Event) → u.room.taken_blocks ≤ u.room.blocks → (happens u e).room.taken_blocks ≤ (happens u e).room.blocks
+within_blocks-happens u e h = grind (arith, nat_tests)
 
 slots-happens : (u : Use) (e : Event) (n : ℕ) → u.room.slots ≡ n → (happens u e).room.slots ≡ n
 slots-happens u e n is = grind (arith, nat_tests)
@@ -47,13 +54,23 @@ Matches-run slots blocks (e ∷ es) u h = Matches-run slots blocks es (happens u
   same_blocks = blocks-happens u e blocks h.same_blocks;
   taken_slots = taken_slots-happens u e h.taken_slots;
   taken_blocks = taken_blocks-happens u e h.taken_blocks;
+  within = record { slots = within_slots-happens u e h.within.slots; blocks = within_blocks-happens u e h.within.blocks };
 })
 
 releasable : (slots blocks : ℕ) (u : Use) → Matches slots blocks u → (place b : ℕ) → slice_get u.held place ≡ Some b → HasTaken u.room b
 releasable slots blocks u h place b is = grind (arith, h.taken_slots, h.taken_blocks, within-sum u.held place b is)
 
 IsExact-matches : (slots blocks : ℕ) (u : Use) → Matches slots blocks u → IsExact slots blocks u
-IsExact-matches slots blocks u h = record { same_slots = h.same_slots; same_blocks = h.same_blocks; taken_slots = h.taken_slots; taken_blocks = h.taken_blocks; releasable = releasable slots blocks u h }
+IsExact-matches slots blocks u h = record {
+  same_slots = h.same_slots;
+  same_blocks = h.same_blocks;
+  within = h.within;
+  all_slots = omega (arith, h.same_slots, h.taken_slots, h.within.slots);
+  all_blocks = omega (arith, h.same_blocks, h.taken_blocks, h.within.blocks);
+  taken_slots = h.taken_slots;
+  taken_blocks = h.taken_blocks;
+  releasable = releasable slots blocks u h;
+}
 
 pub exact : (slots blocks : ℕ) (es : List Event) → IsExact slots blocks (run es (start slots blocks))
-exact slots blocks es = IsExact-matches slots blocks (run es (start slots blocks)) (Matches-run slots blocks es (start slots blocks) (record { same_slots = refl; same_blocks = refl; taken_slots = refl; taken_blocks = refl }))
+exact slots blocks es = IsExact-matches slots blocks (run es (start slots blocks)) (Matches-run slots blocks es (start slots blocks) (record { same_slots = refl; same_blocks = refl; taken_slots = refl; taken_blocks = refl; within = record { slots = omega arith; blocks = omega arith } }))

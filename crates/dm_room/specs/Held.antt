@@ -1,6 +1,6 @@
 -- The reservations of a machine that aren't released yet, over any reserving and releasing.
-use Rattle.std.specs.Prelude.{◌≡◌, ℕ, nat_lt, nat_le, Bool, true, false, ◌&&◌, List, [], ◌∷◌, ◌++◌, length, sum, remove, slice_get, Option, Some, None}
-use Rattle.dm_room.specs.Room.{Taken, HasTaken, free_slots, free_blocks, untaken, with_reserved, with_released}
+use Rattle.std.specs.Prelude.{◌≡◌, ℕ, ◌+◌, Bool, true, false, List, [], ◌∷◌, ◌++◌, length, sum, remove, slice_get, Option, Some, None}
+use Rattle.dm_room.specs.Room.{Taken, HasTaken, IsWithin, has_room, free_slots, free_blocks, untaken, with_reserved, with_released}
 
 -- the room, and the blocks of each reservation that isn't released yet
 pub record Use : Type 0 where
@@ -14,9 +14,6 @@ pub data Event : Type 0 where
 
 abbrev pub start : ℕ → ℕ → Use
 start slots blocks = record { room = untaken slots blocks; held = [] }
-
-abbrev pub has_room : Taken → ℕ → Bool
-has_room room blocks = nat_lt 0 (free_slots room) && nat_le blocks (free_blocks room)
 
 -- the room is reserved, where there is room
 abbrev pub reserves : Use → ℕ → Bool → Use
@@ -37,11 +34,14 @@ abbrev pub run : List Event → Use → Use
 run [] u = u
 run (e ∷ es) u = run es (happens u e)
 
--- the room is what was given, what is taken is what was reserved and not released, and so each reservation may
--- be released
+-- the room is what was given, what is taken is what was reserved and not released and at most what was given, so that free
+-- and taken add up to it, and each reservation may be released
 pub record IsExact (slots blocks : ℕ) (u : Use) : Type 0 where
   pub same_slots : u.room.slots ≡ slots
   pub same_blocks : u.room.blocks ≡ blocks
+  pub within : IsWithin u.room
+  pub all_slots : free_slots u.room + length u.held ≡ slots
+  pub all_blocks : free_blocks u.room + sum u.held ≡ blocks
   pub taken_slots : u.room.taken_slots ≡ length u.held
   pub taken_blocks : u.room.taken_blocks ≡ sum u.held
   pub releasable : (place b : ℕ) → slice_get u.held place ≡ Some b → HasTaken u.room b

@@ -1,5 +1,5 @@
 -- The room of a machine: slots for processes, and blocks of memory.
-use Rattle.std.specs.Prelude.{ℕ, ◌+◌, ◌-◌, ◌≤◌, ◌<◌}
+use Rattle.std.specs.Prelude.{ℕ, ◌+◌, ◌-◌, ◌≤◌, ◌<◌, nat_lt, nat_le, Bool, ◌&&◌, IsTrue}
 use Rattle.dm_room.specs.declared.room.Lacks.{Lacks}
 
 -- what the machine was given, and what is taken of it
@@ -27,8 +27,11 @@ abbrev pub untaken : ℕ → ℕ → Taken
 untaken slots blocks = record { slots = slots; blocks = blocks; taken_slots = 0; taken_blocks = 0 }
 
 -- a slot is free, and so many blocks
+abbrev pub has_room : Taken → ℕ → Bool
+has_room room blocks = nat_lt 0 (free_slots room) && nat_le blocks (free_blocks room)
+
 abbrev pub HasRoom : Taken → ℕ → Type 0
-HasRoom room blocks = (0 < free_slots room) × (blocks ≤ free_blocks room)
+HasRoom room blocks = IsTrue (has_room room blocks)
 
 -- a slot is taken, and so many blocks
 abbrev pub HasTaken : Taken → ℕ → Type 0

@@ -8,21 +8,21 @@ fn pairs_apart(rt: HostRuntime) -> Result<(), Fail> {
     let alloc = rt.alloc();
     let mut wire = Wire::new(alloc);
     assert!(rt; wire.packet(0, 1, 0).is_none());
-    assert_eq!(rt; wire.unseen(0, 1), None);
-    assert_eq!(rt; wire.put(0, 1, [7, 8].to_vec(alloc)?)?, 0);
-    assert_eq!(rt; wire.put(15, 15, [9].to_vec(alloc)?)?, 0);
-    assert_eq!(rt; wire.put(0, 1, Vec::new(alloc))?, 1);
-    assert_eq!(rt; wire.put(1, 0, [5].to_vec(alloc)?)?, 0);
+    assert!(rt; wire.unseen(0, 1) == None);
+    assert!(rt; wire.put(0, 1, [7, 8].to_vec(alloc)?)? == 0);
+    assert!(rt; wire.put(15, 15, [9].to_vec(alloc)?)? == 0);
+    assert!(rt; wire.put(0, 1, Vec::new(alloc))? == 1);
+    assert!(rt; wire.put(1, 0, [5].to_vec(alloc)?)? == 0);
     assert!(rt; matches!(wire.packet(0, 1, 0), Some([7, 8])));
     assert!(rt; matches!(wire.packet(0, 1, 1), Some([])));
     assert!(rt; wire.packet(0, 1, 2).is_none());
     assert!(rt; matches!(wire.packet(1, 0, 0), Some([5])));
     assert!(rt; matches!(wire.packet(15, 15, 0), Some([9])));
-    assert_eq!(rt; wire.unseen(1, 0), Some(0));
+    assert!(rt; wire.unseen(1, 0) == Some(0));
     assert!(rt; wire.count(1, 0) == 1);
     wire.mark(1, 0, 0);
-    assert_eq!(rt; wire.unseen(1, 0), None);
-    assert_eq!(rt; wire.unseen(0, 1), Some(0));
+    assert!(rt; wire.unseen(1, 0) == None);
+    assert!(rt; wire.unseen(0, 1) == Some(0));
     assert!(rt; matches!(wire.packet(1, 0, 0), Some([5])));
     Ok(())
 }
@@ -33,7 +33,7 @@ fn marked_out_of_order(rt: HostRuntime) -> Result<(), Fail> {
     let alloc = rt.alloc();
     let mut wire = Wire::new(alloc);
     for number in 0..4 {
-        assert_eq!(rt; wire.put(2, 3, Vec::new(alloc))?, number);
+        assert!(rt; wire.put(2, 3, Vec::new(alloc))? == number);
     }
     let rows = [
         (1, Some(0)),
@@ -45,7 +45,7 @@ fn marked_out_of_order(rt: HostRuntime) -> Result<(), Fail> {
     for (number, unseen) in rows {
         assert!(rt; number < wire.count(2, 3));
         wire.mark(2, 3, number);
-        assert_eq!(rt; wire.unseen(2, 3), unseen);
+        assert!(rt; wire.unseen(2, 3) == unseen);
     }
     Ok(())
 }
@@ -59,10 +59,10 @@ fn a_hundred_thousand(rt: HostRuntime) -> Result<(), Fail> {
         wire.put(0, 1, Vec::new(alloc))?;
     }
     for number in 0..100_000 {
-        assert_eq!(rt; wire.unseen(0, 1), Some(number));
+        assert!(rt; wire.unseen(0, 1) == Some(number));
         assert!(rt; number < wire.count(0, 1));
         wire.mark(0, 1, number);
     }
-    assert_eq!(rt; wire.unseen(0, 1), None);
+    assert!(rt; wire.unseen(0, 1) == None);
     Ok(())
 }

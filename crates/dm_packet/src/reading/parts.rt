@@ -1,5 +1,5 @@
 //! The fields that only some kinds have.
-ghost use Rattle.std.specs.Prelude.{◌≡◌};
+ghost use Rattle.std.specs.Prelude.{nat_le, ◌&&◌, ◌+◌, ◌≡◌};
 ghost use Rattle.dm_packet.specs.Reads.{Reads, ReadsItems};
 ghost use Rattle.dm_packet.specs.Field.{counted, run};
 ghost use Rattle.dm_packet.specs.Whats.{asker, at_most, blocks_of, memory, message_kind, optional, outcome, piece_from, yes_or_no};
@@ -38,10 +38,17 @@ pub fn outcome_at(bytes: &[u8]) -> Result<(Outcome, &[u8]), Bad>
     let (byte, rest) = byte_at(bytes)?;
     match byte {
         0 => Ok((Outcome::Done, rest)),
-        1 => Ok((Outcome::NoRoom, rest)),
+        1 => Ok((Outcome::Stayed, rest)),
         3 => Ok((Outcome::Ended, rest)),
         _ => Err(Bad::Limit),
     }
+}
+
+/// Whether a piece of this length may begin at an address.
+fn is_piece(base: u32, len: u16) -> bool
+    ensures { result ≡ ((nat_le 1 len && nat_le len 256) && nat_le (base + len) 65536) }
+{
+    len >= 1 && len <= 256 && u64::from(base) + u64::from(len) <= 65_536
 }
 
 /// The length of a piece that begins at an address.
@@ -49,7 +56,7 @@ pub fn piece_from_at(bytes: &[u8], base: u32) -> Result<(u16, &[u8]), Bad>
     ensures { Reads result ((piece_from base).read bytes.now) }
 {
     let (len, rest) = u16_at(bytes)?;
-    if len < 1 || len > 256 || u64::from(base) + u64::from(len) > 65_536 {
+    if !is_piece(base, len) {
         return Err(Bad::Limit);
     }
     Ok((len, rest))

@@ -155,7 +155,7 @@ fn put_outcome(out: &mut Buffer, outcome: Outcome)
 {
     let code = match outcome {
         Outcome::Done => 0,
-        Outcome::NoRoom => 1,
+        Outcome::Stayed => 1,
         Outcome::Ended => 3,
     };
     put_byte(out, code);
