@@ -3,7 +3,7 @@ ghost use Rattle.std.specs.Prelude.{◌≡◌, ◌+◌, ℕ, List, IfOk, None, O
 ghost use Rattle.std.specs.Option.{option_copied};
 ghost use Rattle.std.specs.Str.{bytes_eq};
 ghost use Rattle.dm_asm.specs.Labels.{place_in};
-ghost use Rattle.dm_asm.specs.Lines.{lines, words};
+ghost use Rattle.dm_asm.specs.Lines.{lines, without_comment, words};
 ghost use Rattle.dm_asm.specs.Places.{behind_label, first_of, has_label, label_in, label_of, line_size, place_from, statement_size, zeros_size};
 
 use crate::forms::Form;
@@ -85,6 +85,14 @@ pub fn split_label(line: &[u8]) -> (Option<&[u8]>, &[u8])
     }
 }
 
+/// The label that a line defines, whatever stands behind it.
+fn defined_by(line: &[u8]) -> Option<&[u8]>
+    ensures { option_copied result ≡ label_of (words (without_comment line.now)) }
+{
+    let (label, _) = split_label(uncommented(line));
+    label
+}
+
 /// How many zeros the operands of `.zero` ask for, if they are good.
 fn zeros_counted(operands: &[u8]) -> usize
     ensures { result ≡ zeros_size (words operands.now) }
@@ -122,9 +130,9 @@ impl<'t> Labels<'t> {
     fn add_line(&mut self, line: &'t [u8], place: Place) -> Result<(), NoMemory>
         ensures ok { OnOk result ((q : List ℕ) → place_in self.new q ≡ first_of (place_in self.old q) (if has_label line.now q then Some place else None)) }
     {
-        match split_label(uncommented(line)) {
-            (Some(name), _) => self.define(name, place),
-            (None, _) => Ok(()),
+        match defined_by(line) {
+            Some(name) => self.define(name, place),
+            None => Ok(()),
         }
     }
 

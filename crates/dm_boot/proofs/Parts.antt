@@ -4,9 +4,10 @@ use Rattle.std.proofs.lemmas.Bool.Decides.{nat_tests}
 use Rattle.toml.specs.Data.{Data, Items, no_items, item}
 use Rattle.dm_onekernel.specs.declared.boot.Boot.{Boot}
 use Rattle.dm_boot.specs.declared.rules.BootRule.{BootRule}
-use Rattle.dm_boot.specs.declared.rules.BootRule.TheVariants.{TopKeys, Settings, MachineCount, MachineKeys, MachineRoom, ImageCount, ImageKeys, ImageName, ImageBlocks, ImageText, ImageBytes, ProcessKeys, ProcessName, ProcessMachine, ProcessImage, ProcessRoom}
+use Rattle.dm_boot.specs.declared.rules.BootRule.TheVariants.{TopKeys, Settings, MachineCount, MachineKeys, MachineRoom, ImageCount, ImageText, ImageBytes, ProcessKeys, ProcessName, ProcessMachine, ProcessImage, ProcessRoom}
 use Rattle.dm_boot.specs.declared.rules.BootNo.{BootNo}
 use Rattle.dm_boot.specs.declared.rules.BootNo.TheVariants.{Refused, NoMemory}
+use Rattle.dm_boot.specs.Before.{before_images}
 use Rattle.dm_boot.specs.Tables.{count, first_failing, map_items}
 use Rattle.dm_boot.specs.Build.{image_of, images_of, image_tables, process_tables, system_of}
 use Rattle.dm_boot.specs.Rules.{keeps, subjects, broken_at, broken_or, first_broken, first_unassembled, first_long, image_fits, has_place, has_good_image_count, image_rules, process_rules, link_rules, rules}
@@ -85,9 +86,6 @@ pass-err w v (Refused rule place) turn h = turn (rule, place) h
 pass-err w v (NoMemory _) turn h = tt
 
 -- the rules before those that the code looks at by itself
-abbrev pub before_images : List BootRule
-before_images = TopKeys ∷ Settings ∷ MachineCount ∷ MachineKeys ∷ MachineRoom ∷ ImageCount ∷ ImageKeys ∷ ImageName ∷ ImageBlocks ∷ []
-
 abbrev pub before_room : List BootRule
 before_room = ProcessKeys ∷ ProcessName ∷ ProcessMachine ∷ ProcessImage ∷ []
 

@@ -1,3 +1,4 @@
+pub mod Before
 pub mod Tables
 pub mod Text
 pub mod Build

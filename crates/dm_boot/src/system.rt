@@ -1,6 +1,7 @@
 //! The system of a document's top table.
 ghost use Rattle.std.specs.Prelude.{◌≡◌, ◌≤◌, OnOk};
 ghost use Rattle.toml.specs.View.{view};
+ghost use Rattle.dm_boot.specs.Before.{before_images};
 ghost use Rattle.dm_boot.specs.Tables.{count};
 ghost use Rattle.dm_boot.specs.Build.{image_tables, images_of, machines_of, process_tables, processes_of, starts_of, system_with};
 ghost use Rattle.dm_boot.specs.Rules.{first_broken, image_rules, link_rules, process_rules};
@@ -61,13 +62,11 @@ fn system_with(
     }
 }
 
-/// The images, where no rule before those of the processes is broken.
-#[tactic(auto, unfolding(crate::specs::Rules::is_of_tables))]
-fn read_images(alloc: Global, top: &Value) -> Result<Items<BootImage>, BootNo>
-    ensures images { Answers (unless (first_broken image_rules (view top.now)) (images_of (view top.now))) result }
-    ensures few { OnOk result (count (image_tables (view top.now)) ≤ 256) }
+/// The rules before those of the images' texts and bytes, in the order in which they are tested.
+fn before_images() -> [BootRule; 9]
+    ensures { result ≡ before_images }
 {
-    let before = [
+    [
         BootRule::TopKeys,
         BootRule::Settings,
         BootRule::MachineCount,
@@ -77,7 +76,16 @@ fn read_images(alloc: Global, top: &Value) -> Result<Items<BootImage>, BootNo>
         BootRule::ImageKeys,
         BootRule::ImageName,
         BootRule::ImageBlocks,
-    ];
+    ]
+}
+
+/// The images, where no rule before those of the processes is broken.
+#[tactic(auto, unfolding(crate::specs::Rules::is_of_tables))]
+fn read_images(alloc: Global, top: &Value) -> Result<Items<BootImage>, BootNo>
+    ensures images { Answers (unless (first_broken image_rules (view top.now)) (images_of (view top.now))) result }
+    ensures few { OnOk result (count (image_tables (view top.now)) ≤ 256) }
+{
+    let before = before_images();
     if let Some((rule, place)) = first_broken(top, &before) {
         return Err(BootNo::Refused { rule, place });
     }
