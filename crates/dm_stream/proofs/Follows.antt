@@ -1,11 +1,11 @@
 -- What follows where the relation stands.
-use Rattle.std.proofs.Common.{◌≡◌, nat_lt, ℕ, ◌∙◌, ◌+◌, ◌-◌, ◌<◌, ◌≤◌, true, false, List, length, take, slice_get, Some, None, is_some, refl, inl, inr, ◌⊎◌, arith}
+use Rattle.std.proofs.Common.{◌≡◌, nat_lt, ℕ, ◌∙◌, ◌-◌, ◌<◌, ◌≤◌, List, length, take, slice_get, None, inl, inr, arith}
 use Rattle.std.proofs.lemmas.Bool.{cases_Bool}
 use Rattle.std.proofs.lemmas.Bool.Decides.{nat_tests}
 use Rattle.std.proofs.lemmas.List.{take_all}
 use Rattle.dm_stream.specs.Sending.{due}
 use Rattle.dm_stream.specs.Receiving.{next}
-use Rattle.dm_stream.specs.Packets.{Data, Ack, load_at, delivered_at, HasData, HasAck}
+use Rattle.dm_stream.specs.Packets.{Data, Ack, delivered_at, HasData}
 use Rattle.dm_stream.specs.Stream.{Stream}
 use Rattle.dm_stream.specs.Order.{IsThere, Stands, MayCome, IsUnderWayOrThere, IsAnswered, IsAnswerHeard, IsAtRest, IsAllDelivered, IsAllThere}
 use Rattle.dm_stream.proofs.Lists.{front-none}

@@ -1,5 +1,5 @@
 -- Packets that are put and marked, place by place.
-use Rattle.std.proofs.Common.{◌≡◌, ◌≢◌, ℕ, zero, suc, ◌<◌, Bool, true, false, List, [], ◌∷◌, ◌++◌, length, slice_get, Some, None, refl, inl, inr, ◌⊎◌, arith}
+use Rattle.std.proofs.Common.{◌≡◌, ℕ, zero, suc, ◌<◌, true, List, [], ◌∷◌, ◌++◌, length, Some, refl, inl, inr, ◌⊎◌, arith}
 use Rattle.dm_stream.specs.Packets.{Load, Packet, just_put, marked, load_at, delivered_at}
 
 module _ {M : Type 0} where

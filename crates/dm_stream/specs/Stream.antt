@@ -1,6 +1,6 @@
 -- A stream between two machines: what the calls of its sender and its receiver make of it, over two wires that may
 -- bring any packet that was ever sent, at any time and any number of times, or never.
-use Rattle.std.specs.Prelude.{ℕ, Bool, true, false, ◌==◌, List, [], ◌∷◌, ◌++◌, slice_get, option_to_list, Option, Some, None}
+use Rattle.std.specs.Prelude.{ℕ, Bool, true, false, ◌==◌, List, [], ◌∷◌, ◌++◌, option_to_list, Option, Some, None}
 use Rattle.dm_stream.specs.Sending.{Sending, fresh_sending, given_count, due, outstanding, with_given, with_sent, with_acked}
 use Rattle.dm_stream.specs.Receiving.{Receiving, fresh_receiving, arrival, after_arrival, next, after_next}
 use Rattle.dm_stream.specs.Packets.{Load, Data, Ack, Packet, just_put, marked, load_at}
