@@ -2,7 +2,7 @@
 //! writes. Both count their faults, so that a status that blames the outside has its cause.
 #![tactic(auto)]
 
-ghost use Rattle.std.specs.Prelude.{◌≡◌, ◌<◌, ◌≤◌, ℕ, List, length, take, IfOk, OnErr};
+ghost use Rattle.std.specs.Prelude.{◌≡◌, ◌<◌, ◌≤◌, ℕ, List, length, take, IfOk, OnOk, OnErr};
 ghost use Rattle.std.specs.declared.option.Option.{Option};
 ghost use Rattle.dm_outside.specs.Outside.{RoseOrFull, ReadsTold, appended};
 
@@ -23,6 +23,9 @@ pub use real_sink::RealSink;
 pub struct Failed;
 
 /// Named files that can be read from any place on.
+///
+/// `asked` says between which two states of a shelf only one name was asked for. A shelf that keeps no record of it
+/// gives what always holds; a function over every shelf knows of it what `read` and the two laws say, and no more.
 pub trait Shelf {
     // The bytes of each file by its name, None for a missing one, where the shelf tells them.
     ghost told: { Self → Option (List ℕ → Option (List ℕ)) };
@@ -30,14 +33,25 @@ pub trait Shelf {
     // How many calls failed so far.
     ghost faults: { Self → ℕ };
 
+    // From the first state to the second no file was asked for but the one of this name.
+    ghost asked: { Self → List ℕ → Self → Type 0 };
+
     /// Reads bytes of a file, from the byte at `from` on, and says how many. None are left
     /// where it says 0 and there was room.
     fn read(&mut self, name: &str, from: u64, into: &mut [u8]) -> Result<usize, Failed>
         ensures same { told self.new ≡ told self.old }
         ensures within { IfOk result (λ n. n ≤ length into.old) }
         ensures bytes { ReadsTold (told self.old) name.now from result into.new }
+        ensures asks { asked self.old name.now self.new }
         ensures failed { OnErr result (RoseOrFull (faults self.old) (faults self.new)) }
+        ensures steady { OnOk result (faults self.new ≡ faults self.old) }
         ensures counts { faults self.old ≤ faults self.new };
+
+    // Where nothing happens nothing is asked for.
+    ghost asks_nothing: { (s : Self) (name : List ℕ) → asked s name s };
+
+    // What is asked for in turn.
+    ghost asks_on: { (a b c : Self) (name : List ℕ) → asked a name b → asked b name c → asked a name c };
 }
 
 /// Where bytes go, one after the other.
@@ -55,6 +69,7 @@ pub trait Sink {
         ensures moves { IfOk result (λ n. 0 < length from.now → 0 < n) }
         ensures same { OnErr result (told self.new ≡ told self.old) }
         ensures failed { OnErr result (RoseOrFull (faults self.old) (faults self.new)) }
+        ensures steady { OnOk result (faults self.new ≡ faults self.old) }
         ensures counts { faults self.old ≤ faults self.new };
 }
 

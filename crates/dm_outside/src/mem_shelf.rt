@@ -1,5 +1,5 @@
 //! A shelf in memory, for tests.
-ghost use Rattle.std.specs.Prelude.{◌≡◌, ◌≤◌, ◌<◌, ◌-◌, length, take, drop, min, IfOk, OnErr, IsTrue, Some, None, is_err, Option};
+ghost use Rattle.std.specs.Prelude.{◌≡◌, ◌≤◌, ◌<◌, ◌-◌, length, take, drop, min, IfOk, OnOk, OnErr, ⊤, IsTrue, Some, None, is_err, Option};
 ghost use Rattle.std.specs.Result.{result_ok};
 ghost use Rattle.std.specs.Option.{option_copied};
 ghost use Rattle.dm_outside.specs.Outside.{RoseOrFull, ReadsTold};
@@ -68,18 +68,27 @@ impl MemShelf {
 }
 
 impl Shelf for MemShelf {
-    ghost use Rattle.std.specs.Prelude.{Some};
+    ghost use Rattle.std.specs.Prelude.{Some, ⊤};
     ghost use Rattle.dm_outside.specs.Memory.{file_named};
 
     ghost told = { λ s. Some (file_named s.files) };
 
     ghost faults = { λ s. s.faults };
 
+    // It keeps no record of names.
+    ghost asked = { λ _ _ _. ⊤ };
+
+    ghost asks_nothing = { λ _ _. tt };
+
+    ghost asks_on = { λ _ _ _ _ _ _. tt };
+
     fn read(&mut self, name: &str, from: u64, into: &mut [u8]) -> Result<usize, Failed>
         ensures same { Some (file_named self.new.files) ≡ Some (file_named self.old.files) }
         ensures within { IfOk result (λ n. n ≤ length into.old) }
         ensures bytes { ReadsTold (Some (file_named self.old.files)) name.now from result into.new }
         ensures failed { OnErr result (RoseOrFull self.old.faults self.new.faults) }
+        ensures asks { ⊤ }
+        ensures steady { OnOk result (self.new.faults ≡ self.old.faults) }
         ensures counts { self.old.faults ≤ self.new.faults }
         ensures count { result_ok result ≡ read_count self.old name.now from (length into.old) }
         ensures after { self.new ≡ after_read self.old (is_err result) }

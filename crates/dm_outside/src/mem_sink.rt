@@ -1,5 +1,5 @@
 //! A sink in memory, for tests.
-ghost use Rattle.std.specs.Prelude.{◌≡◌, ◌≤◌, ◌<◌, ◌++◌, [], length, take, IfOk, OnErr, Some, None};
+ghost use Rattle.std.specs.Prelude.{◌≡◌, ◌≤◌, ◌<◌, ◌++◌, [], length, take, IfOk, OnOk, OnErr, Some, None};
 ghost use Rattle.std.specs.Result.{result_ok};
 ghost use Rattle.dm_outside.specs.Outside.{RoseOrFull};
 ghost use Rattle.dm_outside.specs.Memory.{write_count, after_write};
@@ -47,7 +47,7 @@ impl MemSink {
                 calls: 0,
                 faults: 0,
             }),
-            Err(_) => Err(NoMemory),
+            Err(error) => Err(NoMemory::from(error)),
         }
     }
 
@@ -94,6 +94,7 @@ impl Sink for MemSink {
         ensures moves { IfOk result (λ n. 0 < length from.now → 0 < n) }
         ensures same { OnErr result (Some self.new.bytes ≡ Some self.old.bytes) }
         ensures failed { OnErr result (RoseOrFull self.old.faults self.new.faults) }
+        ensures steady { OnOk result (self.new.faults ≡ self.old.faults) }
         ensures counts { self.old.faults ≤ self.new.faults }
         ensures count { result_ok result ≡ write_count self.old (length from.now) }
         ensures after { self.new ≡ after_write self.old (result_ok result) from.now }

@@ -1,5 +1,8 @@
-//! The shelf of real files. It is the edge of what is proved: what a file holds stands in no contract.
-ghost use Rattle.std.specs.Prelude.{◌≡◌, ◌≤◌, length, IfSome};
+//! The shelf of real files: what an open file tells of its bytes stands in the contract. Which file the system opens under a
+//! name stands in none.
+ghost use Rattle.std.specs.Prelude.{◌≡◌, ◌<◌, ◌≤◌, ◌+◌, length, ⊤, None, IfOk, OnOk, OnErr, IfSome};
+ghost use Rattle.dm_outside.specs.Outside.{RoseOrFull};
+ghost use Rattle.dm_outside.specs.Real.{GoesOn, ReadsReal};
 
 use crate::{Failed, Shelf};
 use std::alloc::Global;
@@ -23,22 +26,30 @@ pub struct RealShelf<R: Files> {
 struct Opened<F> {
     name: String,
     file: F,
-    at: u64,
+    place: u64,
 }
 
-// A clause sees the count of faults alone.
+impl<F> Model for Opened<F> {
+    ghost use Rattle.std.specs.Prelude.{string_bytes};
+    ghost use Rattle.dm_outside.specs.Real.{OpenFile};
+
+    ghost Value = { OpenFile F };
+
+    ghost view = { λ o. record { name = string_bytes o.name; file = o.file; place = o.place } };
+}
+
 impl<R: Files> Model for RealShelf<R> {
-    ghost use Rattle.std.specs.Prelude.{ℕ};
+    ghost use Rattle.dm_outside.specs.Real.{FilesState};
 
-    ghost Value = { ℕ };
+    ghost Value = { FilesState R.File };
 
-    ghost view = { λ s. s.faults };
+    ghost view = { λ s. record { opened = s.opened; faults = s.faults } };
 }
 
 impl<R: Files> RealShelf<R> {
     /// A shelf with no file open and no faults.
     pub fn new(alloc: Global, rt: R) -> Self
-        ensures { result ≡ 0 }
+        ensures { result ≡ record { opened = None; faults = 0 } }
     {
         RealShelf {
             rt,
@@ -50,25 +61,45 @@ impl<R: Files> RealShelf<R> {
 
     /// How many reads failed, up to the greatest u64.
     pub fn faults(&self) -> u64
-        ensures { result ≡ self.now }
+        ensures { result ≡ self.now.faults }
     {
         self.faults
     }
 }
 
 impl<R: Files> Shelf for RealShelf<R> {
-    ghost use Rattle.std.specs.Prelude.{None};
+    ghost use Rattle.std.specs.Prelude.{None, ⊤};
 
     ghost told = { λ _. None };
 
-    ghost faults = { λ count. count };
+    ghost faults = { λ s. s.faults };
 
-    fn read(&mut self, name: &str, from: u64, into: &mut [u8]) -> Result<usize, Failed> {
-        if from == 0 {
-            self.opened = open(self.alloc, &self.rt, name);
-        }
-        match read_on(&mut self.opened, name, from, into) {
-            Some(n) => Ok(n),
+    // It keeps no record of names.
+    ghost asked = { λ _ _ _. ⊤ };
+
+    ghost asks_nothing = { λ _ _. tt };
+
+    ghost asks_on = { λ _ _ _ _ _ _. tt };
+
+    fn read(&mut self, name: &str, from: u64, into: &mut [u8]) -> Result<usize, Failed>
+        ensures within { IfOk result (λ n. n ≤ length into.old) }
+        ensures failed { OnErr result (RoseOrFull self.old.faults self.new.faults) }
+        ensures steady { OnOk result (self.new.faults ≡ self.old.faults) }
+        ensures counts { self.old.faults ≤ self.new.faults }
+        ensures asks { ⊤ }
+        ensures reads { IfOk result (λ n. ReadsReal R.File R.File.remaining self.old.opened self.new.opened name.now from n into.new) }
+        ensures closes { OnErr result (self.new.opened ≡ None) }
+    {
+        let opened = if from == 0 {
+            open(self.alloc, &self.rt, name)
+        } else {
+            self.opened.take()
+        };
+        match read_on(opened, name, from, into) {
+            Some((n, opened)) => {
+                self.opened = Some(opened);
+                Ok(n)
+            }
             None => {
                 self.opened = None;
                 self.faults = self.faults.saturating_add(1);
@@ -79,28 +110,32 @@ impl<R: Files> Shelf for RealShelf<R> {
 }
 
 /// Opens a file at its first byte.
-fn open<R: Files>(alloc: Global, rt: &R, name: &str) -> Option<Opened<R::File>> {
+fn open<R: Files>(alloc: Global, rt: &R, name: &str) -> Option<Opened<R::File>>
+    ensures named { IfSome result (λ o. o.name ≡ name.now) }
+    ensures begins { IfSome result (λ o. o.place ≡ 0) }
+{
     Some(Opened {
         name: String::from_str(alloc, name).ok()?,
         file: fs::open(rt, name).ok()?,
-        at: 0,
+        place: 0,
     })
 }
 
 /// Reads on in the open file, if it is this one and its next byte is the one at `from`.
-fn read_on<F: Read>(
-    opened: &mut Option<Opened<F>>,
+fn read_on<F: Read + Drop>(
+    opened: Option<Opened<F>>,
     name: &str,
     from: u64,
     into: &mut [u8],
-) -> Option<usize>
-    ensures { IfSome result (λ n. n ≤ length into.old) }
+) -> Option<(usize, Opened<F>)>
+    ensures within { IfSome result (λ r. r.0 ≤ length into.old) }
+    ensures goes_on { IfSome result (λ r. GoesOn F F.remaining opened (Some r.1) name.now from r.0 into.new) }
 {
-    let opened = opened.as_mut()?;
-    if opened.name.as_str() != name || opened.at != from {
+    let mut opened = opened?;
+    if opened.name.as_str() != name || opened.place != from {
         return None;
     }
     let n = opened.file.read(into).ok()?;
-    opened.at = from.checked_add(n as u64)?;
-    Some(n)
+    opened.place = from.checked_add(n as u64)?;
+    Some((n, opened))
 }

@@ -1,7 +1,7 @@
 use crate::{Failed, MemShelf, MemSink, RealShelf, RealSink, Shelf, Sink};
 use std::alloc::Global;
 use std::test::Fail;
-use std::{env, fs, process};
+use std::{env, fs, io, process};
 
 /// A shelf with a file of six bytes and an empty one.
 fn two_files(alloc: Global, fails: &[u64]) -> Result<MemShelf, Fail> {
@@ -87,22 +87,27 @@ fn writes_at_most_the_limit(rt: HostRuntime) -> Result<(), Fail> {
 }
 
 #[test]
-fn reads_a_real_file_on(rt: HostRuntime) -> Result<(), Fail> {
+fn reads_real_files_on(rt: HostRuntime) -> Result<(), Fail> {
     let dir = env::temp_dir(&rt)?;
     let dir = dir.as_path();
     let id = process::id(rt.process());
     let path = format!(in rt.alloc(); "{}/real_file_{id}", dir.display())?;
+    let second = format!(in rt.alloc(); "{}/second_file_{id}", dir.display())?;
     let missing = format!(in rt.alloc(); "{}/missing_file_{id}", dir.display())?;
-    let (name, missing) = (path.as_str(), missing.as_str());
+    let (name, second, missing) = (path.as_str(), second.as_str(), missing.as_str());
     fs::write(&rt, name, b"abcdef")?;
+    fs::write(&rt, second, b"ghijk")?;
     let mut shelf = RealShelf::new(rt.alloc(), &rt);
     let table = [
         (name, 0, Ok(4), b"abcd"),
         (name, 4, Ok(2), b"ef.."),
         (name, 6, Ok(0), b"...."),
-        (name, 7, Err(Failed), b"...."),
-        (name, 6, Err(Failed), b"...."),
+        (second, 0, Ok(4), b"ghij"),
+        (second, 4, Ok(1), b"k..."),
+        (name, 5, Err(Failed), b"...."),
+        (second, 5, Err(Failed), b"...."),
         (name, 0, Ok(4), b"abcd"),
+        (name, 6, Err(Failed), b"...."),
         (missing, 4, Err(Failed), b"...."),
         (missing, 0, Err(Failed), b"...."),
     ];
@@ -111,14 +116,15 @@ fn reads_a_real_file_on(rt: HostRuntime) -> Result<(), Fail> {
         assert_eq!(rt; shelf.read(name, from, &mut into), answer, "at {from}");
         assert_eq!(rt; into, *left, "at {from}");
     }
-    assert_eq!(rt; shelf.faults(), 4);
+    assert_eq!(rt; shelf.faults(), 5);
     fs::remove_file(&rt, name)?;
+    fs::remove_file(&rt, second)?;
     Ok(())
 }
 
 #[test]
 fn writes_to_standard_output(rt: HostRuntime) -> Result<(), Fail> {
-    let mut sink = RealSink::new(&rt);
+    let mut sink = RealSink::new(io::writer(&rt));
     assert_eq!(rt; sink.write(b"written\n"), Ok(8));
     assert_eq!(rt; sink.write(b""), Ok(0));
     assert_eq!(rt; sink.faults(), 0);
