@@ -229,4 +229,4 @@ Answers (Err e) n t = Unit {0}
 abbrev pub TurnAnswers : Result (Vec Line Global) Stop → Node → NodeState → Type 0
 TurnAnswers (Ok lines) n s = Meets n lines.items (turn s) × (is_worn s ≡ false)
 TurnAnswers (Err (stop.Worn from to)) n s = (is_worn s ≡ true) × (from ≡ s.machine) × (to ≡ s.machine)
-TurnAnswers (Err stop.NoMemory) n s = Unit {0}
+TurnAnswers (Err (stop.NoMemory _)) n s = Unit {0}

@@ -60,8 +60,8 @@ impl Node {
             return Ok(());
         }
         let begun = started(self.alloc, boot, process)?;
-        if self.records.set(process.pid, Record::Here(begun)).is_err() {
-            return Err(NoMemory);
+        if let Err((_, no)) = self.records.set(process.pid, Record::Here(begun)) {
+            return Err(no);
         }
         self.ring.push(process.pid)?;
         Ok(())

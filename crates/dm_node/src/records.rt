@@ -10,7 +10,7 @@ use dm_link::Pid;
 use dm_memory::NoMemory;
 use dm_onekernel::Why;
 use dm_process::Process;
-use std::alloc::{AllocFailed, Global};
+use std::alloc::Global;
 use std::collections::BTreeMap;
 
 /// A process that is here, or that has ended here.
@@ -61,12 +61,10 @@ impl Records {
     {
         match self.map.insert(pid, entry) {
             Ok(_) => Ok(()),
-            Err(
-                AllocFailed {
-                    value: (_, entry),
-                    ..
-                },
-            ) => Err((entry, NoMemory)),
+            Err(failed) => {
+                let ((_, entry), no) = NoMemory::with_value(failed);
+                Err((entry, no))
+            }
         }
     }
 

@@ -41,7 +41,7 @@ impl Node {
                     Ok(lines)
                 }
             }
-            Err(NoMemory) => Err(Stop::NoMemory),
+            Err(no) => Err(Stop::NoMemory(no)),
         }
     }
 
@@ -67,7 +67,7 @@ impl Node {
             Some(entry) => match entry {
                 Record::Here(process) => match process.enqueue(message) {
                     Ok(()) => self.say(Line::Queued(id)),
-                    Err(_) => Err(NoMemory),
+                    Err((_, no)) => Err(no),
                 },
                 Record::Ended(_) => self.say(Line::Label(Label::Dropped { id })),
             },

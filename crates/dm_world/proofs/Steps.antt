@@ -66,7 +66,7 @@ stepped b k w v s l said a m made groups here e =
 
 -- a step that stops
 pub stops : (b : Boot) (k : ℕ) (w v : World) (e : Stop) → IsAlone b → Lasts b k → IsAfter b k w → TurnAnswers (Err e) v.node (state_of w.node) → StepSays b k (Err e) v
-stops b k w v NoMemory alone lasts a said = tt
+stops b k w v (NoMemory _) alone lasts a said = tt
 stops b k w v (Worn from to) alone lasts a said =
     let machine : w.node.machine ≡ 0 = a.machine ∙ (runs_to b k alone lasts).stands.mirrors.machine in
     (subst (λ (n : NodeState). is_worn n ≡ true) (state_is b k w a) said.0, said.1 ∙ machine, said.2 ∙ machine)

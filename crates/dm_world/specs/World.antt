@@ -62,7 +62,7 @@ pub record IsRunning (w : World) : Type 0 where
 abbrev pub StepSays : Boot → ℕ → Result (Vec Line Global) Stop → World → Type 0
 StepSays b k (Ok lines) w = (is_worn (machine_after b k) ≡ false) × (lines.items ≡ group_of (machine_after b k)) × IsAfter b (k + 1) w
 StepSays b k (Err (Worn from to)) w = (is_worn (machine_after b k) ≡ true) × (from ≡ 0) × (to ≡ 0)
-StepSays b k (Err NoMemory) w = Unit {0}
+StepSays b k (Err (NoMemory _)) w = Unit {0}
 
 -- the line of a process
 abbrev pub record_line : Pid → ℕ → Option Record → List Line

@@ -62,7 +62,7 @@ impl World {
                 self.groups += 1;
                 match group(self.alloc, *step, said) {
                     Ok(lines) => Ok(lines),
-                    Err(NoMemory) => Err(Stop::NoMemory),
+                    Err(no) => Err(Stop::NoMemory(no)),
                 }
             }
             Err(stop) => Err(stop),
