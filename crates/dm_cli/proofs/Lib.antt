@@ -6,3 +6,5 @@ pub mod Turns
 pub mod Progress
 pub mod Endings
 pub mod Worked
+mod Outcomes
+mod Whose

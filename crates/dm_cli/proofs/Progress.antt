@@ -16,6 +16,7 @@ use Rattle.dm_node.specs.Opened.{opened}
 use Rattle.dm_world.specs.Run.{group_of, groups}
 use Rattle.dm_world.specs.World.{Lasts, last_lines, machine_after}
 use Rattle.dm_outside.specs.Outside.{appended}
+use Rattle.dm_memory.specs.declared.NoMemory.{NoMemory as TheNoMemory}
 use Rattle.dm_cli.specs.declared.run.Stop.{Stop}
 use Rattle.dm_cli.specs.declared.run.Stop.TheVariants.{NoMemory, WriteFault, Worn}
 use Rattle.dm_cli.specs.Output.{IsCutShort}
@@ -68,7 +69,7 @@ lacks_first b n old = record { turns = 0; within = omega arith; lasts = lasts_no
 -- the lines of a turn were offered
 pub took : (A : Type 0) (b : Boot) (k : ℕ) (old new : Option (List ℕ)) (lines : List Line) (r : Result A Stop) → is_worn (machine_after b k) ≡ false → lines ≡ group_of (machine_after b k) → Offered old (text lines) new r → Took b k old new r
 took A b k old new lines (Ok x) lasts e o = (lasts, o ∙ ap (λ l. appended old (text l)) e)
-took A b k old new lines (Err NoMemory) lasts e o = o
+took A b k old new lines (Err (NoMemory lack)) lasts e o = o
 took A b k old new lines (Err WriteFault) lasts e o = (lasts, subst (λ l. IsCutShort old (text l) new) e o)
 took A b k old new lines (Err (Worn from to)) lasts e o = absurd o
 
@@ -79,18 +80,18 @@ if_err A (Err y) e P h p = subst P (sym h.1) p
 
 -- a turn that came to no end
 pub stopped_here : (A : Type 0) (b : Boot) (n i : ℕ) (old now new : Option (List ℕ)) (e : Stop) → i < n → Lasts b i → now ≡ appended old (text_after b i) → Took {A = A} b i now new (Err e) → Stopped b n old new e
-stopped_here A b n i old now new NoMemory h l w o = record { turns = i; within = omega arith; lasts = l; written = o ∙ w }
+stopped_here A b n i old now new (NoMemory lack) h l w o = record { turns = i; within = omega arith; lasts = l; written = o ∙ w }
 stopped_here A b n i old now new WriteFault h l w o = record { turns = i; within = h; lasts = lasts_more b i l o.0; cut = subst (λ t. IsCutShort t (text (group_of (machine_after b i))) new) w o.1 }
 stopped_here A b n i old now new (Worn from to) h l w o = record { turns = i; within = h; lasts = l; worn = o.0; written = o.1 ∙ w; from_is = o.2; to_is = o.3 }
 
 -- lines at the end that came to no end
 pub stopped_late : (A : Type 0) (b : Boot) (n : ℕ) (old now new : Option (List ℕ)) (e : Stop) → Lasts b n → now ≡ appended old (text_after b n) → Offered {A = A} now (text (last_lines b n)) new (Err e) → StoppedLate b n old new e
-stopped_late A b n old now new NoMemory l w o = record { turns = n; within = omega arith; lasts = l; written = o ∙ w }
+stopped_late A b n old now new (NoMemory lack) l w o = record { turns = n; within = omega arith; lasts = l; written = o ∙ w }
 stopped_late A b n old now new WriteFault l w o = inr (record { lasts = l; cut = subst (λ t. IsCutShort t (text (last_lines b n)) new) w o })
 stopped_late A b n old now new (Worn from to) l w o = absurd o
 
 pub stopped_before : (b : Boot) (n : ℕ) (old new : Option (List ℕ)) (e : Stop) → Stopped b n old new e → StoppedLate b n old new e
-stopped_before b n old new NoMemory s = s
+stopped_before b n old new (NoMemory lack) s = s
 stopped_before b n old new WriteFault s = inl s
 stopped_before b n old new (Worn from to) s = s
 
@@ -110,8 +111,8 @@ begun_text gs more all g ends c e =
     ∙ append_assoc (text J ++ take c t) (drop c t) R
 
 -- which of the three it was
-pub lacks_of : (b : Boot) (n : ℕ) (old new : Option (List ℕ)) (e : Stop) → StoppedLate b n old new e → e ≡ NoMemory → LacksAfter b n old new
-lacks_of b n old new e s f = subst (λ x. StoppedLate b n old new x) f s
+pub lacks_of : (b : Boot) (n : ℕ) (old new : Option (List ℕ)) (e : Stop) (lack : TheNoMemory) → StoppedLate b n old new e → e ≡ NoMemory lack → LacksAfter b n old new
+lacks_of b n old new e lack s f = subst (λ x. StoppedLate b n old new x) f s
 
 pub fails_of : (b : Boot) (n : ℕ) (old new : Option (List ℕ)) (e : Stop) → StoppedLate b n old new e → e ≡ WriteFault → FailsIn b n old new ⊎ FailsLate b n old new
 fails_of b n old new e s f = subst (λ x. StoppedLate b n old new x) f s

@@ -67,16 +67,16 @@ pub record SaysFiles (files : Option (List ℕ → Option (List ℕ))) (boot sch
 
 -- why the boot file of this name gives no system
 abbrev pub NoBoot : Option (List ℕ → Option (List ℕ)) → List ℕ → ℕ → ℕ → Status → Type 0
-NoBoot files name old new status.ReadFault = RoseOrFull old new
-NoBoot files name old new status.NoMemory = ⊤
+NoBoot files name old new (status.ReadFault input.Boot) = RoseOrFull old new
+NoBoot files name old new (status.NoMemory lack) = ⊤
 NoBoot files name old new (status.BootRefused number place) = RefusesBoot files name number place
 NoBoot files name old new (status.TooLong input.Boot) = IsLonger files name most_boot
 NoBoot files name old new _ = ⊥
 
 -- why the schedule of this name gives no directives
 abbrev pub NoDirectives : Option (List ℕ → Option (List ℕ)) → List ℕ → ℕ → ℕ → ℕ → Status → Type 0
-NoDirectives files name machines old new status.ReadFault = RoseOrFull old new
-NoDirectives files name machines old new status.NoMemory = ⊤
+NoDirectives files name machines old new (status.ReadFault input.Schedule) = RoseOrFull old new
+NoDirectives files name machines old new (status.NoMemory lack) = ⊤
 NoDirectives files name machines old new (status.ScheduleRefused line why) = RefusesSchedule files name machines line why
 NoDirectives files name machines old new (status.TooLong input.Schedule) = IsLonger files name most_schedule
 NoDirectives files name machines old new _ = ⊥
@@ -132,8 +132,9 @@ BadSchedule files boot schedule line why =
 
 -- why files of these names give no run: the first that is at fault
 abbrev pub NoFiles : Option (List ℕ → Option (List ℕ)) → List ℕ → List ℕ → ℕ → ℕ → Status → Type 0
-NoFiles files boot schedule old new status.ReadFault = RoseOrFull old new
-NoFiles files boot schedule old new status.NoMemory = ⊤
+NoFiles files boot schedule old new (status.ReadFault input.Boot) = RoseOrFull old new
+NoFiles files boot schedule old new (status.ReadFault input.Schedule) = AfterBoot files boot (λ machines. RoseOrFull old new)
+NoFiles files boot schedule old new (status.NoMemory lack) = ⊤
 NoFiles files boot schedule old new (status.BootRefused number place) = BadBoot files boot schedule number place
 NoFiles files boot schedule old new (status.ScheduleRefused line why) = BadSchedule files boot schedule line why
 NoFiles files boot schedule old new (status.TooLong input.Boot) = IsLonger files boot most_boot
@@ -166,5 +167,5 @@ pub record Refuses (words : List (List ℕ)) (files : Option (List ℕ → Optio
 -- before the words are read
 abbrev pub NoRun : List (List ℕ) → Option (List ℕ → Option (List ℕ)) → ℕ → ℕ → Status → Type 0
 NoRun words files old new status.Usage = names_of words ≡ None
-NoRun words files old new status.NoMemory = ⊤
+NoRun words files old new (status.NoMemory lack) = ⊤
 NoRun words files old new s = Refuses words files old new s

@@ -10,13 +10,18 @@ use Rattle.dm_trace.specs.Group.{IsGroup}
 use Rattle.dm_trace.specs.EndLines.{end_lines}
 use Rattle.dm_trace.specs.Text.{text}
 use Rattle.dm_world.specs.Run.{has_put}
-use Rattle.dm_outside.specs.Outside.{appended}
+use Rattle.dm_outside.specs.Outside.{RoseOrFull, appended}
 
 -- fewer than all of these bytes were appended, from the first on
 pub record IsCutShort (old : Option (List ℕ)) (bytes : List ℕ) (new : Option (List ℕ)) : Type 0 where
   pub count : ℕ
   pub fewer : count < length bytes
   pub taken : new ≡ appended old (take count bytes)
+
+-- all these bytes were appended, or the sink failed and fewer were
+abbrev pub Written : Option (List ℕ) → List ℕ → Option (List ℕ) → ℕ → ℕ → Type 0
+Written old bytes new faults_before faults_after =
+    (new ≡ appended old bytes) ⊎ (IsCutShort old bytes new × RoseOrFull faults_before faults_after)
 
 -- the text of good lines was appended, one group for each directive, and then the lines that say where all stands
 pub record IsWhole (b : Boot) (steps : List Step) (old new : Option (List ℕ)) : Type 0 where

@@ -25,7 +25,7 @@ pub record Outside : Type 0 where
 -- what was written of the run of this system and so many turns, all of them where none is worn
 abbrev pub RunSays : Boot → ℕ → Option (List ℕ) → Option (List ℕ) → ℕ → ℕ → Status → Type 0
 RunSays b turns before after writes_before writes_after Done = Lasts b turns × IsWhole b (turns_of turns) before after
-RunSays b turns before after writes_before writes_after NoMemory = IsOfFirst b (turns_of turns) before after
+RunSays b turns before after writes_before writes_after (NoMemory lack) = IsOfFirst b (turns_of turns) before after
 RunSays b turns before after writes_before writes_after WriteFault = IsBegun b (turns_of turns) before after × RoseOrFull writes_before writes_after
 RunSays b turns before after writes_before writes_after (Worn from to) =
     (Lasts b turns → ⊥) × (from ≡ 0) × (to ≡ 0) × IsWorn b (turns_of turns) before after from to

@@ -18,14 +18,14 @@ use Rattle.dm_cli.specs.Output.{IsCutShort}
 -- bytes were appended, or nothing was for want of memory, or the sink failed and fewer were
 abbrev pub Offered : {A : Type 0} → Option (List ℕ) → List ℕ → Option (List ℕ) → Result A Stop → Type 0
 Offered old bytes new (Ok _) = new ≡ appended old bytes
-Offered old bytes new (Err NoMemory) = new ≡ old
+Offered old bytes new (Err (NoMemory lack)) = new ≡ old
 Offered old bytes new (Err WriteFault) = IsCutShort old bytes new
 Offered old bytes new (Err (Worn from to)) = ⊥
 
 -- turn k was taken and its lines offered, or it was worn and nothing was appended
 abbrev pub Took : {A : Type 0} → Boot → ℕ → Option (List ℕ) → Option (List ℕ) → Result A Stop → Type 0
 Took b k old new (Ok _) = (is_worn (machine_after b k) ≡ false) × (new ≡ appended old (text (group_of (machine_after b k))))
-Took b k old new (Err NoMemory) = new ≡ old
+Took b k old new (Err (NoMemory lack)) = new ≡ old
 Took b k old new (Err WriteFault) = (is_worn (machine_after b k) ≡ false) × IsCutShort old (text (group_of (machine_after b k))) new
 Took b k old new (Err (Worn from to)) = (is_worn (machine_after b k) ≡ true) × (new ≡ old) × (from ≡ 0) × (to ≡ 0)
 
@@ -59,7 +59,7 @@ pub record WornAfter (b : Boot) (n : ℕ) (old new : Option (List ℕ)) (from to
 
 -- why n turns came to no end
 abbrev pub Stopped : Boot → ℕ → Option (List ℕ) → Option (List ℕ) → Stop → Type 0
-Stopped b n old new NoMemory = LacksAfter b n old new
+Stopped b n old new (NoMemory lack) = LacksAfter b n old new
 Stopped b n old new WriteFault = FailsIn b n old new
 Stopped b n old new (Worn from to) = WornAfter b n old new from to
 
@@ -70,6 +70,6 @@ pub record FailsLate (b : Boot) (n : ℕ) (old new : Option (List ℕ)) : Type 0
 
 -- why n turns and the lines at their end came to no end
 abbrev pub StoppedLate : Boot → ℕ → Option (List ℕ) → Option (List ℕ) → Stop → Type 0
-StoppedLate b n old new NoMemory = LacksAfter b n old new
+StoppedLate b n old new (NoMemory lack) = LacksAfter b n old new
 StoppedLate b n old new WriteFault = FailsIn b n old new ⊎ FailsLate b n old new
 StoppedLate b n old new (Worn from to) = WornAfter b n old new from to

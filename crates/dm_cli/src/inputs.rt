@@ -2,13 +2,14 @@
 ghost use Rattle.std.specs.Prelude.{◌≡◌, ◌≤◌, map, IfOk, IfErr};
 ghost use Rattle.dm_onekernel.specs.Boot.{IsValid};
 ghost use Rattle.dm_onemachine.specs.Boot.{IsAlone};
-ghost use Rattle.dm_cli.specs.Words.{IsTaken};
+ghost use Rattle.dm_cli.specs.Words.{IsTaken, names_of};
+ghost use Rattle.dm_cli.specs.Asked.{AsksFiles, AsksNamed, FailsAlone, FailsBoot, FailsSchedule, FailsSecond};
 ghost use Rattle.dm_cli.specs.Inputs.{Accepts, AcceptsFiles, NoBoot, NoDirectives, NoFiles, NoRun, SaysBoot, SaysDirectives};
 
 use crate::read::{ReadNo, read_file};
 use crate::status::{Input, Status};
 use crate::today::{can_run, first_other};
-use crate::words::{WordsNo, names};
+use crate::words::names;
 use dm_boot::{BootNo, read_boot};
 use dm_onekernel::Boot;
 use dm_outside::Shelf;
@@ -38,11 +39,13 @@ pub fn read_inputs<F: Shelf>(alloc: Global, words: &[&str], shelf: &mut F) -> Re
     ensures none { IfErr result (λ s. NoRun (map (λ w. w.now) words.now) (F.told shelf.old) (F.faults shelf.old) (F.faults shelf.new) s) }
     ensures same { F.told shelf.new ≡ F.told shelf.old }
     ensures reads { F.faults shelf.old ≤ F.faults shelf.new }
+    ensures asks { AsksNamed F.asked (F.told shelf.old) (names_of (map (λ w. w.now) words.now)) shelf.old shelf.new }
+    ensures boot_fault { IfErr result (λ s. s ≡ Status.ReadFault Input.Boot → FailsBoot F.asked F.faults (names_of (map (λ w. w.now) words.now)) shelf.old shelf.new) }
+    ensures schedule_fault { IfErr result (λ s. s ≡ Status.ReadFault Input.Schedule → FailsSchedule F.asked F.faults (F.told shelf.old) (names_of (map (λ w. w.now) words.now)) shelf.old shelf.new) }
 {
     match names(alloc, words) {
         Ok((boot, schedule)) => read_files(alloc, boot, schedule, shelf),
-        Err(WordsNo::Usage) => Err(Status::Usage),
-        Err(WordsNo::NoMemory) => Err(Status::NoMemory),
+        Err(no) => Err(no.status()),
     }
 }
 
@@ -58,6 +61,9 @@ fn read_files<F: Shelf>(
     ensures none { IfErr result (λ s. NoFiles (F.told shelf.old) boot.now schedule.now (F.faults shelf.old) (F.faults shelf.new) s) }
     ensures same { F.told shelf.new ≡ F.told shelf.old }
     ensures reads { F.faults shelf.old ≤ F.faults shelf.new }
+    ensures asks { AsksFiles F.asked (F.told shelf.old) boot.now schedule.now shelf.old shelf.new }
+    ensures boot_fault { IfErr result (λ s. s ≡ Status.ReadFault Input.Boot → FailsAlone F.asked F.faults boot.now shelf.old shelf.new) }
+    ensures schedule_fault { IfErr result (λ s. s ≡ Status.ReadFault Input.Schedule → FailsSecond F.asked F.faults (F.told shelf.old) boot.now schedule.now shelf.old shelf.new) }
 {
     let boot = read_system(alloc, boot, shelf)?;
     let machines = boot.machines.len() as u8;
@@ -84,6 +90,7 @@ fn read_system<F: Shelf>(alloc: Global, name: &str, shelf: &mut F) -> Result<Boo
     ensures none { IfErr result (λ s. NoBoot (F.told shelf.old) name.now (F.faults shelf.old) (F.faults shelf.new) s) }
     ensures same { F.told shelf.new ≡ F.told shelf.old }
     ensures reads { F.faults shelf.old ≤ F.faults shelf.new }
+    ensures asks { F.asked shelf.old name.now shelf.new }
 {
     match read_file(alloc, shelf, name, MOST_BOOT) {
         Ok(bytes) => match read_boot(alloc, bytes.as_slice()) {
@@ -92,10 +99,10 @@ fn read_system<F: Shelf>(alloc: Global, name: &str, shelf: &mut F) -> Result<Boo
                 number: rule.number(),
                 place,
             }),
-            Err(BootNo::NoMemory) => Err(Status::NoMemory),
+            Err(BootNo::NoMemory(no)) => Err(Status::NoMemory(no)),
         },
-        Err(ReadNo::Fault) => Err(Status::ReadFault),
-        Err(ReadNo::NoMemory) => Err(Status::NoMemory),
+        Err(ReadNo::Fault) => Err(Status::ReadFault(Input::Boot)),
+        Err(ReadNo::NoMemory(no)) => Err(Status::NoMemory(no)),
         Err(ReadNo::TooLong) => Err(Status::TooLong(Input::Boot)),
     }
 }
@@ -111,6 +118,7 @@ fn read_directives<F: Shelf>(
     ensures none { IfErr result (λ s. NoDirectives (F.told shelf.old) name.now machines (F.faults shelf.old) (F.faults shelf.new) s) }
     ensures same { F.told shelf.new ≡ F.told shelf.old }
     ensures reads { F.faults shelf.old ≤ F.faults shelf.new }
+    ensures asks { F.asked shelf.old name.now shelf.new }
 {
     match read_file(alloc, shelf, name, MOST_SCHEDULE) {
         Ok(bytes) => match read_schedule(alloc, bytes.as_slice(), machines) {
@@ -119,10 +127,10 @@ fn read_directives<F: Shelf>(
                 line,
                 why: fault.number(),
             }),
-            Err(SchedNo::NoMemory) => Err(Status::NoMemory),
+            Err(SchedNo::NoMemory(no)) => Err(Status::NoMemory(no)),
         },
-        Err(ReadNo::Fault) => Err(Status::ReadFault),
-        Err(ReadNo::NoMemory) => Err(Status::NoMemory),
+        Err(ReadNo::Fault) => Err(Status::ReadFault(Input::Schedule)),
+        Err(ReadNo::NoMemory(no)) => Err(Status::NoMemory(no)),
         Err(ReadNo::TooLong) => Err(Status::TooLong(Input::Schedule)),
     }
 }

@@ -3,6 +3,7 @@ ghost use Rattle.std.specs.Prelude.{◌≡◌, ◌≤◌, ◌<◌, ◌+◌, leng
 ghost use Rattle.dm_outside.specs.Outside.{RoseOrFull};
 ghost use Rattle.dm_cli.specs.Files.{IsFile, IsLonger, SoFar};
 
+use dm_memory::NoMemory;
 use dm_outside::Shelf;
 use std::alloc::Global;
 
@@ -12,7 +13,7 @@ pub enum ReadNo {
     /// The shelf failed.
     Fault,
     /// No memory was left.
-    NoMemory,
+    NoMemory(NoMemory),
     /// The file has more bytes than it may have.
     TooLong,
 }
@@ -30,6 +31,7 @@ pub fn read_file<F: Shelf>(
     ensures long { IfErr result (λ e. e ≡ ReadNo.TooLong → IsLonger (F.told shelf.old) name.now most) }
     ensures fault { IfErr result (λ e. e ≡ ReadNo.Fault → RoseOrFull (F.faults shelf.old) (F.faults shelf.new)) }
     ensures counts { F.faults shelf.old ≤ F.faults shelf.new }
+    ensures asks { F.asked shelf.old name.now shelf.new }
 {
     let mut bytes = Vec::new(alloc);
     'pieces: while bytes.len() <= most as usize {
@@ -50,13 +52,14 @@ fn read_piece<F: Shelf>(shelf: &mut F, name: &str, bytes: &mut Vec<u8>) -> Resul
     ensures never_long { IfErr result (λ e. e ≡ ReadNo.TooLong → ⊥) }
     ensures fault { IfErr result (λ e. e ≡ ReadNo.Fault → RoseOrFull (F.faults shelf.old) (F.faults shelf.new)) }
     ensures counts { F.faults shelf.old ≤ F.faults shelf.new }
+    ensures asks { F.asked shelf.old name.now shelf.new }
 {
     let mut buffer = [0u8; 4096];
     let from = bytes.len() as u64;
     match shelf.read(name, from, &mut buffer) {
         Ok(n) => match bytes.extend_from_slice(&buffer[..n]) {
             Ok(()) => Ok(n),
-            Err(_) => Err(ReadNo::NoMemory),
+            Err(failed) => Err(ReadNo::NoMemory(NoMemory::from(failed))),
         },
         Err(_) => Err(ReadNo::Fault),
     }

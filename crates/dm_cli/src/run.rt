@@ -8,13 +8,17 @@ ghost use Rattle.dm_world.specs.World.{IsAfter, IsRunning, Lasts, last_lines, ma
 ghost use Rattle.dm_outside.specs.Outside.{RoseOrFull, appended};
 ghost use Rattle.dm_cli.specs.Words.{IsTaken, names_of};
 ghost use Rattle.dm_cli.specs.declared.status.Status.{Status as TheStatus};
+ghost use Rattle.dm_cli.specs.Asked.{AsksNamed, FailsBoot, FailsSchedule};
 ghost use Rattle.dm_cli.specs.Inputs.{Accepts, NoRun};
+ghost use Rattle.dm_cli.specs.Status.{IsWant};
+ghost use Rattle.dm_cli.specs.declared.status.Input.TheVariants as input_;
 ghost use Rattle.dm_cli.specs.Progress.{Offered, Stopped, StoppedLate, Took, text_after};
 ghost use Rattle.dm_cli.specs.Program.{RunSays, Says};
 
 use crate::inputs::{Inputs, read_inputs};
 use crate::status::Status;
 use crate::write::write_all;
+use dm_memory::NoMemory;
 use dm_onekernel::Boot;
 use dm_outside::{Shelf, Sink};
 use dm_schedule::Step;
@@ -26,7 +30,7 @@ use std::alloc::Global;
 #[derive(Clone, Copy, Debug, PartialEq, Eq)]
 pub enum Stop {
     /// No memory was left.
-    NoMemory,
+    NoMemory(NoMemory),
     /// The sink failed.
     WriteFault,
     /// A message was to be routed between two machines that count as many as they may.
@@ -50,14 +54,17 @@ pub fn run_program<F: Shelf, K: Sink>(
       writes_before = K.faults out.old;
       writes_after = K.faults out.new;
     }) result }
-    ensures usage { names_of (map (λ w. w.now) words.now) ≡ None → (result ≡ Status.Usage) ⊎ (result ≡ Status.NoMemory) }
+    ensures usage { names_of (map (λ w. w.now) words.now) ≡ None → (result ≡ Status.Usage) ⊎ IsWant result }
     ensures refused { result ≡ Status.Usage → IsTaken (map (λ w. w.now) words.now) → ⊥ }
-    ensures complete { (files : List ℕ → Option (List ℕ)) (b : TheBoot) (turns : ℕ) → F.told shelf.old ≡ Some files → Accepts (map (λ w. w.now) words.now) (Some files) b turns → Lasts b turns → (RoseOrFull (F.faults shelf.old) (F.faults shelf.new) → ⊥) → (RoseOrFull (K.faults out.old) (K.faults out.new) → ⊥) → (result ≡ Status.Done) ⊎ (result ≡ Status.NoMemory) }
-    ensures wears { (files : List ℕ → Option (List ℕ)) (b : TheBoot) (turns : ℕ) → F.told shelf.old ≡ Some files → Accepts (map (λ w. w.now) words.now) (Some files) b turns → (Lasts b turns → ⊥) → (RoseOrFull (F.faults shelf.old) (F.faults shelf.new) → ⊥) → (RoseOrFull (K.faults out.old) (K.faults out.new) → ⊥) → (result ≡ Status.Worn 0 0) ⊎ (result ≡ Status.NoMemory) }
-    ensures refuses { (files : List ℕ → Option (List ℕ)) (s : TheStatus) → F.told shelf.old ≡ Some files → NoRun (map (λ w. w.now) words.now) (Some files) (F.faults shelf.old) (F.faults shelf.new) s → (s ≡ Status.NoMemory → ⊥) → (RoseOrFull (F.faults shelf.old) (F.faults shelf.new) → ⊥) → (result ≡ s) ⊎ (result ≡ Status.NoMemory) }
+    ensures complete { (files : List ℕ → Option (List ℕ)) (b : TheBoot) (turns : ℕ) → F.told shelf.old ≡ Some files → Accepts (map (λ w. w.now) words.now) (Some files) b turns → Lasts b turns → (RoseOrFull (F.faults shelf.old) (F.faults shelf.new) → ⊥) → (RoseOrFull (K.faults out.old) (K.faults out.new) → ⊥) → (result ≡ Status.Done) ⊎ IsWant result }
+    ensures wears { (files : List ℕ → Option (List ℕ)) (b : TheBoot) (turns : ℕ) → F.told shelf.old ≡ Some files → Accepts (map (λ w. w.now) words.now) (Some files) b turns → (Lasts b turns → ⊥) → (RoseOrFull (F.faults shelf.old) (F.faults shelf.new) → ⊥) → (RoseOrFull (K.faults out.old) (K.faults out.new) → ⊥) → (result ≡ Status.Worn 0 0) ⊎ IsWant result }
+    ensures refuses { (files : List ℕ → Option (List ℕ)) (s : TheStatus) → F.told shelf.old ≡ Some files → NoRun (map (λ w. w.now) words.now) (Some files) (F.faults shelf.old) (F.faults shelf.new) s → (IsWant s → ⊥) → (RoseOrFull (F.faults shelf.old) (F.faults shelf.new) → ⊥) → (result ≡ s) ⊎ IsWant result }
     ensures same { F.told shelf.new ≡ F.told shelf.old }
     ensures reads { F.faults shelf.old ≤ F.faults shelf.new }
     ensures writes { K.faults out.old ≤ K.faults out.new }
+    ensures asks { AsksNamed F.asked (F.told shelf.old) (names_of (map (λ w. w.now) words.now)) shelf.old shelf.new }
+    ensures boot_fault { result ≡ Status.ReadFault input_.Boot → FailsBoot F.asked F.faults (names_of (map (λ w. w.now) words.now)) shelf.old shelf.new }
+    ensures schedule_fault { result ≡ Status.ReadFault input_.Schedule → FailsSchedule F.asked F.faults (F.told shelf.old) (names_of (map (λ w. w.now) words.now)) shelf.old shelf.new }
 {
     match read_inputs(alloc, words, shelf) {
         Ok(Inputs { boot, turns }) => run(alloc, &boot, turns, out),
@@ -73,7 +80,7 @@ fn run<K: Sink>(alloc: Global, boot: &Boot, turns: usize, out: &mut K) -> Status
 {
     match run_and_end(alloc, boot, turns, out) {
         Ok(()) => Status::Done,
-        Err(Stop::NoMemory) => Status::NoMemory,
+        Err(Stop::NoMemory(no)) => Status::NoMemory(no),
         Err(Stop::WriteFault) => Status::WriteFault,
         Err(Stop::Worn { from, to }) => Status::Worn { from, to },
     }
@@ -111,7 +118,7 @@ fn run_groups<K: Sink>(
 {
     let mut world = match World::boot(alloc, boot) {
         Ok(world) => world,
-        Err(_) => return Err(Stop::NoMemory),
+        Err(no) => return Err(Stop::NoMemory(no)),
     };
     'groups: for _turn in 0..turns {
         one_group(alloc, &mut world, page, out)?;
@@ -134,7 +141,7 @@ fn one_group<K: Sink>(
 {
     match world.step(&Step::Turn(0)) {
         Ok(lines) => offer(alloc, lines.as_slice(), page, out),
-        Err(WorldStop::NoMemory) => Err(Stop::NoMemory),
+        Err(WorldStop::NoMemory(no)) => Err(Stop::NoMemory(no)),
         Err(WorldStop::Worn { from, to }) => Err(Stop::Worn { from, to }),
     }
 }
@@ -152,7 +159,7 @@ fn say_end<K: Sink>(
 {
     match world.end_lines() {
         Ok(lines) => offer(alloc, lines.as_slice(), page, out),
-        Err(_) => Err(Stop::NoMemory),
+        Err(no) => Err(Stop::NoMemory(no)),
     }
 }
 
@@ -168,8 +175,8 @@ fn offer<K: Sink>(
     ensures writes { K.faults out.old ≤ K.faults out.new }
 {
     page.clear();
-    if write_lines(alloc, lines, page).is_err() {
-        return Err(Stop::NoMemory);
+    if let Err(no) = write_lines(alloc, lines, page) {
+        return Err(Stop::NoMemory(no));
     }
     match write_all(out, page.as_slice()) {
         Ok(()) => Ok(()),

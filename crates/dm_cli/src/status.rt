@@ -1,8 +1,9 @@
 //! How the program ends.
 ghost use Rattle.std.specs.Prelude.{◌≡◌, ◌+◌, ◌≤◌, ◌++◌, length, decimal};
-ghost use Rattle.dm_cli.specs.Status.{code_of, text_of};
+ghost use Rattle.dm_cli.specs.Status.{code_of, line_of, text_of};
 
 use arrayvec::ArrayString;
+use dm_memory::NoMemory;
 use itoa::Buffer;
 
 /// One of the two files that the program reads.
@@ -19,10 +20,10 @@ pub enum Status {
     Done,
     /// The words of the command line aren't those of a run.
     Usage,
-    /// The shelf failed.
-    ReadFault,
+    /// The shelf failed at this file.
+    ReadFault(Input),
     /// No memory was left.
-    NoMemory,
+    NoMemory(NoMemory),
     /// The sink failed.
     WriteFault,
     /// The boot file breaks this rule, at the element of this place.
@@ -43,8 +44,8 @@ impl Status {
         match *self {
             Status::Done => 0,
             Status::Usage => 2,
-            Status::ReadFault => 3,
-            Status::NoMemory => 4,
+            Status::ReadFault(_) => 3,
+            Status::NoMemory(_) => 4,
             Status::WriteFault => 5,
             Status::BootRefused { .. } => 6,
             Status::ScheduleRefused { .. } => 7,
@@ -54,15 +55,27 @@ impl Status {
     }
 }
 
-/// What a status says in one line, nothing where all is done. It takes no memory.
+/// The line of a status with its line feed, nothing where all is done. It takes no memory.
+pub fn status_line(status: &Status) -> ArrayString<96>
+    ensures { result.bytes ≡ line_of status.now }
+{
+    let mut line = status_text(status);
+    if !line.is_empty() {
+        line.push_str("\n");
+    }
+    line
+}
+
+/// What a status says in one line, nothing where all is done.
 pub fn status_text(status: &Status) -> ArrayString<96>
-    ensures { result.bytes ≡ text_of status.now }
+    ensures text { result.bytes ≡ text_of status.now }
+    ensures short { length result.bytes ≤ 95 }
 {
     match *status {
         Status::Done => words(""),
         Status::Usage => words("usage: demosmp run --boot FILE --schedule FILE"),
-        Status::ReadFault => words("read fault"),
-        Status::NoMemory => words("no memory"),
+        Status::ReadFault(_) => words("read fault"),
+        Status::NoMemory(_) => words("no memory"),
         Status::WriteFault => words("write fault"),
         Status::BootRefused { number, place } => boot_refused(number, place),
         Status::ScheduleRefused { line, why } => schedule_refused(line, why),
@@ -74,7 +87,7 @@ pub fn status_text(status: &Status) -> ArrayString<96>
 
 /// A text of these words.
 fn words(s: &str) -> ArrayString<96>
-    requires { length s.now ≤ 96 }
+    requires { length s.now ≤ 95 }
     ensures { result.bytes ≡ s.now }
 {
     let mut text = ArrayString::new();
@@ -84,7 +97,8 @@ fn words(s: &str) -> ArrayString<96>
 
 /// What a refused boot file is told.
 fn boot_refused(number: u8, place: u64) -> ArrayString<96>
-    ensures { result.bytes ≡ text_of (Status.BootRefused number place) }
+    ensures short { length result.bytes ≤ 95 }
+    ensures text { result.bytes ≡ text_of (Status.BootRefused number place) }
 {
     let mut text = words("boot refused: ");
     push_number(&mut text, number as u64);
@@ -95,7 +109,8 @@ fn boot_refused(number: u8, place: u64) -> ArrayString<96>
 
 /// What a refused schedule is told.
 fn schedule_refused(line: u64, why: u8) -> ArrayString<96>
-    ensures { result.bytes ≡ text_of (Status.ScheduleRefused line why) }
+    ensures short { length result.bytes ≤ 95 }
+    ensures text { result.bytes ≡ text_of (Status.ScheduleRefused line why) }
 {
     let mut text = words("schedule refused: line ");
     push_number(&mut text, line);
@@ -106,7 +121,8 @@ fn schedule_refused(line: u64, why: u8) -> ArrayString<96>
 
 /// What is told of two machines that count as many messages as they may.
 fn worn(from: u8, to: u8) -> ArrayString<96>
-    ensures { result.bytes ≡ text_of (Status.Worn from to) }
+    ensures short { length result.bytes ≤ 95 }
+    ensures text { result.bytes ≡ text_of (Status.Worn from to) }
 {
     let mut text = words("worn: ");
     push_number(&mut text, from as u64);

@@ -1,7 +1,9 @@
+use crate::ending::end;
 use crate::run::run_program;
-use crate::status::{Input, Status, status_text};
+use crate::status::Status;
 use dm_outside::{MemShelf, MemSink};
 use std::alloc::Global;
+use std::process::ExitCode;
 use std::test::Fail;
 
 const WORDS: [&str; 6] = ["demosmp", "run", "--boot", "boot", "--schedule", "schedule"];
@@ -129,12 +131,245 @@ server 0.2 0
 end 0
 ";
 
+/// A run of the program: its words, its boot file and schedule, the reads and the writes that are to fail, the most bytes
+/// of a write (0: all), and then its line, its number, what it wrote, and how many reads it made.
+type Case = (
+    &'static [&'static str],
+    &'static [u8],
+    &'static [u8],
+    (&'static [u64], &'static [u64]),
+    usize,
+    &'static str,
+    u8,
+    &'static [u8],
+    u64,
+);
+
+const NONE: (&[u64], &[u64]) = (&[], &[]);
+
+/// Runs that come to an end, with the words in each form, and those that a fault stops.
+const RUNS: [Case; 13] = [
+    (&WORDS, HI, EIGHT_TURNS, NONE, 0, "", 0, FIRST_RUN, 4),
+    (&WORDS, HI, EIGHT_TURNS, NONE, 1, "", 0, FIRST_RUN, 4),
+    (
+        &["demosmp", "run", "--schedule", "schedule", "--boot", "boot"],
+        NOBODY,
+        b"",
+        NONE,
+        0,
+        "",
+        0,
+        NO_RUN,
+        3,
+    ),
+    (
+        &["demosmp", "run", "--boot=boot", "--schedule=schedule"],
+        NOBODY,
+        b"",
+        NONE,
+        0,
+        "",
+        0,
+        NO_RUN,
+        3,
+    ),
+    (
+        &["other", "run", "--boot", "boot", "--schedule=schedule"],
+        NOBODY,
+        b"",
+        NONE,
+        0,
+        "",
+        0,
+        NO_RUN,
+        3,
+    ),
+    (
+        &WORDS,
+        WORN,
+        EIGHT_TURNS,
+        NONE,
+        0,
+        "worn: 0 to 0\n",
+        9,
+        WORN_RUN,
+        4,
+    ),
+    (
+        &WORDS,
+        HI,
+        EIGHT_TURNS,
+        (&[], &[2]),
+        0,
+        "write fault\n",
+        5,
+        FIRST_GROUP,
+        4,
+    ),
+    // a read of the boot file, and one of the schedule; a schedule that isn't read, and files that aren't there
+    (
+        &WORDS,
+        HI,
+        EIGHT_TURNS,
+        (&[1], &[]),
+        0,
+        "read fault\n",
+        3,
+        b"",
+        1,
+    ),
+    (
+        &WORDS,
+        HI,
+        EIGHT_TURNS,
+        (&[2], &[]),
+        0,
+        "read fault\n",
+        3,
+        b"",
+        2,
+    ),
+    (
+        &WORDS,
+        HI,
+        EIGHT_TURNS,
+        (&[3], &[]),
+        0,
+        "read fault\n",
+        3,
+        b"",
+        3,
+    ),
+    (
+        &WORDS,
+        b"",
+        EIGHT_TURNS,
+        (&[2], &[]),
+        0,
+        "boot refused: 4 at 0\n",
+        6,
+        b"",
+        1,
+    ),
+    (
+        &["demosmp", "run", "--boot", "", "--schedule", "schedule"],
+        HI,
+        EIGHT_TURNS,
+        NONE,
+        0,
+        "read fault\n",
+        3,
+        b"",
+        1,
+    ),
+    (
+        &["demosmp", "run", "--boot", "boot", "--schedule", "other"],
+        HI,
+        EIGHT_TURNS,
+        NONE,
+        0,
+        "read fault\n",
+        3,
+        b"",
+        3,
+    ),
+];
+
+/// Files that are refused.
+const REFUSALS: [Case; 5] = [
+    (
+        &WORDS,
+        b"",
+        EIGHT_TURNS,
+        NONE,
+        0,
+        "boot refused: 4 at 0\n",
+        6,
+        b"",
+        1,
+    ),
+    (
+        &WORDS,
+        HI,
+        b"turn 0\nturn 1",
+        NONE,
+        0,
+        "schedule refused: line 2, why 4\n",
+        7,
+        b"",
+        4,
+    ),
+    (
+        &WORDS,
+        TO_SERVER,
+        b"turn 1",
+        NONE,
+        0,
+        "schedule refused: line 1, why 4\n",
+        7,
+        b"",
+        4,
+    ),
+    (
+        &WORDS,
+        TO_SERVER,
+        b"turn 0",
+        NONE,
+        0,
+        "boot refused: 0 at 0\n",
+        6,
+        b"",
+        4,
+    ),
+    (
+        &WORDS,
+        HI,
+        b"# ticks\nturn 0\ntick 0",
+        NONE,
+        0,
+        "schedule refused: line 2, why 0\n",
+        7,
+        b"",
+        4,
+    ),
+];
+
+/// Words that are none of a run: one is missing, said twice, one too many, empty, or another.
+const OTHER_WORDS: [&[&str]; 17] = [
+    &[],
+    &["demosmp"],
+    &["demosmp", "run", "--boot", "b"],
+    &["demosmp", "run", "--schedule", "s"],
+    &["demosmp", "run", "--boot", "--schedule", "s"],
+    &["demosmp", "run", "--schedule", "s", "--boot"],
+    &[
+        "demosmp",
+        "run",
+        "--boot",
+        "b",
+        "--boot",
+        "b",
+        "--schedule",
+        "s",
+    ],
+    &["demosmp", "run", "--boot", "b", "--schedule", "s", "again"],
+    &["demosmp", "run", "--boot", "b", "--schedule", "s", ""],
+    &["demosmp", "--boot", "b", "--schedule", "s", "run"],
+    &["demosmp", "go", "--boot", "b", "--schedule", "s"],
+    &["demosmp", "drill", "--seed", "1"],
+    &["demosmp", "check", "--boot", "b", "--trace", "t"],
+    &["demosmp", "--help"],
+    &["demosmp", "--version"],
+    &["demosmp", "help"],
+    &["demosmp", "run", "--boot", "b", "--schedule", "s", "--help"],
+];
+
 /// How a run of the program ended.
 #[derive(Drop)]
 struct Ended {
     status: Status,
     written: Vec<u8>,
-    calls: u64,
+    reads: u64,
 }
 
 /// Runs the program over two files in memory, of which these reads are to fail, and a sink of which these writes are
@@ -164,8 +399,62 @@ fn run_over(
     Ok(Ended {
         status,
         written: Vec::from_slice(alloc, sink.bytes())?,
-        calls: shelf.calls().saturating_add(sink.calls()),
+        reads: shelf.calls(),
     })
+}
+
+/// What the program says at its end: its line, and its number where that is this one, else 255.
+fn said_at_end(alloc: Global, status: &Status, code: u8) -> Result<(Vec<u8>, u8), Fail> {
+    let mut errors = MemSink::new(alloc, 96, Vec::new(alloc))?;
+    let number = end(status, &mut errors);
+    let is_said = number == ExitCode::from(code);
+    let line = Vec::from_slice(alloc, errors.bytes())?;
+    Ok((line, if is_said { code } else { 255 }))
+}
+
+/// Whether the program runs as a case says.
+fn runs_so(alloc: Global, case: &Case) -> Result<bool, Fail> {
+    let (words, boot, schedule, fails, cut, line, code, written, reads) = *case;
+    let ended = run_over(alloc, words, (boot, schedule), fails, cut)?;
+    let (said, number) = said_at_end(alloc, &ended.status, code)?;
+    Ok(
+        said.as_slice() == line.as_bytes()
+            && number == code
+            && ended.written.as_slice() == written
+            && ended.reads == reads,
+    )
+}
+
+/// How many of these cases the program runs so, from the first on.
+fn runs_as_said(alloc: Global, cases: &[Case]) -> Result<usize, Fail> {
+    for (place, case) in cases.iter().enumerate() {
+        if !runs_so(alloc, case)? {
+            return Ok(place);
+        }
+    }
+    Ok(cases.len())
+}
+
+#[test]
+fn runs_and_stops(rt: HostRuntime) -> Result<(), Fail> {
+    assert_eq!(rt; runs_as_said(rt.alloc(), &RUNS)?, 13);
+    Ok(())
+}
+
+#[test]
+fn refuses_files(rt: HostRuntime) -> Result<(), Fail> {
+    assert_eq!(rt; runs_as_said(rt.alloc(), &REFUSALS)?, 5);
+    Ok(())
+}
+
+#[test]
+fn reads_and_writes_nothing_for_other_words(rt: HostRuntime) -> Result<(), Fail> {
+    for words in OTHER_WORDS.as_slice() {
+        let line = "usage: demosmp run --boot FILE --schedule FILE\n";
+        let case = (*words, HI, EIGHT_TURNS, NONE, 0, line, 2, b"".as_slice(), 0);
+        assert!(rt; runs_so(rt.alloc(), &case)?);
+    }
+    Ok(())
 }
 
 /// Bytes of a comment, as many as this.
@@ -175,166 +464,28 @@ fn comment(alloc: Global, len: usize) -> Result<Vec<u8>, Fail> {
     Ok(bytes)
 }
 
-#[test]
-fn writes_the_whole_run(rt: HostRuntime) -> Result<(), Fail> {
-    let table: [(&[u8], &[u8], usize, &[u8]); 3] = [
-        (HI, EIGHT_TURNS, 0, FIRST_RUN),
-        (HI, EIGHT_TURNS, 1, FIRST_RUN),
-        (NOBODY, b"", 0, NO_RUN),
-    ];
-    for (boot, schedule, cut, written) in table {
-        let end = run_over(rt.alloc(), &WORDS, (boot, schedule), (&[], &[]), cut)?;
-        assert_eq!(rt; end.status, Status::Done);
-        assert_eq!(rt; end.written.as_slice(), written);
-    }
-    Ok(())
-}
-
-#[test]
-fn reads_the_words(rt: HostRuntime) -> Result<(), Fail> {
-    let table: [&[&str]; 4] = [
-        &["demosmp", "run", "--schedule", "schedule", "--boot", "boot"],
-        &["demosmp", "run", "--boot=boot", "--schedule=schedule"],
-        &["demosmp", "run", "--boot", "boot", "--schedule=schedule"],
-        &["other", "run", "--boot", "boot", "--schedule", "schedule"],
-    ];
-    for words in table {
-        let end = run_over(rt.alloc(), words, (NOBODY, b""), (&[], &[]), 0)?;
-        assert_eq!(rt; end.status, Status::Done);
-        assert_eq!(rt; end.written.as_slice(), NO_RUN);
-    }
-    Ok(())
-}
-
-#[test]
-fn reads_and_writes_nothing_for_other_words(rt: HostRuntime) -> Result<(), Fail> {
-    let table: [&[&str]; 16] = [
-        &[],
-        &["demosmp"],
-        &["demosmp", "run", "--boot", "b"],
-        &["demosmp", "run", "--schedule", "s"],
-        &["demosmp", "run", "--boot", "--schedule", "s"],
-        &["demosmp", "run", "--schedule", "s", "--boot"],
-        &[
-            "demosmp",
-            "run",
-            "--boot",
-            "b",
-            "--boot",
-            "b",
-            "--schedule",
-            "s",
-        ],
-        &["demosmp", "run", "--boot", "b", "--schedule", "s", "again"],
-        &["demosmp", "--boot", "b", "--schedule", "s", "run"],
-        &["demosmp", "go", "--boot", "b", "--schedule", "s"],
-        &["demosmp", "drill", "--seed", "1"],
-        &["demosmp", "check", "--boot", "b", "--trace", "t"],
-        &["demosmp", "--help"],
-        &["demosmp", "--version"],
-        &["demosmp", "help"],
-        &["demosmp", "run", "--boot", "b", "--schedule", "s", "--help"],
-    ];
-    for words in table {
-        let end = run_over(rt.alloc(), words, (HI, EIGHT_TURNS), (&[], &[]), 0)?;
-        assert_eq!(rt; end.status, Status::Usage);
-        assert_eq!(rt; end.written.as_slice(), b"".as_slice());
-        assert_eq!(rt; end.calls, 0);
-    }
-    Ok(())
-}
-
-#[test]
-fn says_which_side_failed(rt: HostRuntime) -> Result<(), Fail> {
-    let table: [(&[u64], &[u64], Status, &[u8]); 3] = [
-        (&[1], &[], Status::ReadFault, b""),
-        (&[3], &[], Status::ReadFault, b""),
-        (&[], &[2], Status::WriteFault, FIRST_GROUP),
-    ];
-    for (reads, writes, status, written) in table {
-        let end = run_over(rt.alloc(), &WORDS, (HI, EIGHT_TURNS), (reads, writes), 0)?;
-        assert_eq!(rt; end.status, status);
-        assert_eq!(rt; end.written.as_slice(), written);
-    }
-    Ok(())
-}
-
-#[test]
-fn stops_where_a_machine_may_count_no_more(rt: HostRuntime) -> Result<(), Fail> {
-    let end = run_over(rt.alloc(), &WORDS, (WORN, EIGHT_TURNS), (&[], &[]), 0)?;
-    assert_eq!(rt; end.status, Status::Worn { from: 0, to: 0 });
-    assert_eq!(rt; end.written.as_slice(), WORN_RUN);
-    Ok(())
-}
-
-#[test]
-fn refuses_files(rt: HostRuntime) -> Result<(), Fail> {
-    let table: [(&[u8], &[u8], &str, u8); 5] = [
-        (b"", EIGHT_TURNS, "boot refused: 4 at 0", 6),
-        (HI, b"turn 0\nturn 1", "schedule refused: line 2, why 4", 7),
-        (TO_SERVER, b"turn 1", "schedule refused: line 1, why 4", 7),
-        (TO_SERVER, b"turn 0", "boot refused: 0 at 0", 6),
-        (
-            HI,
-            b"# ticks\nturn 0\ntick 0",
-            "schedule refused: line 2, why 0",
-            7,
-        ),
-    ];
-    for (boot, schedule, text, code) in table {
-        let end = run_over(rt.alloc(), &WORDS, (boot, schedule), (&[], &[]), 0)?;
-        assert_eq!(rt; status_text(&end.status).as_str(), text);
-        assert_eq!(rt; end.status.code(), code);
-        assert_eq!(rt; end.written.as_slice(), b"".as_slice());
-    }
-    Ok(())
-}
+/// Files as long as they may be, and a byte longer: the boot file's length (0: of a good one), the schedule's, and the line.
+const LENGTHS: [(usize, usize, &str); 4] = [
+    (1_048_576, 0, "boot refused: 4 at 0\n"),
+    (1_048_577, 0, "too long: boot\n"),
+    (0, 16_777_216, ""),
+    (0, 16_777_217, "too long: schedule\n"),
+];
 
 #[test]
 fn keeps_to_the_lengths(rt: HostRuntime) -> Result<(), Fail> {
-    let table = [
-        (1_048_576, 0, "boot refused: 4 at 0"),
-        (1_048_577, 0, "too long: boot"),
-        (0, 16_777_216, ""),
-        (0, 16_777_217, "too long: schedule"),
-    ];
-    for (boot_len, schedule_len, text) in table {
-        let long_boot = comment(rt.alloc(), boot_len)?;
+    for case in LENGTHS.as_slice() {
+        let (boot_len, schedule_len, line) = *case;
+        let long = comment(rt.alloc(), boot_len)?;
         let schedule = comment(rt.alloc(), schedule_len)?;
-        let boot = if boot_len > 0 {
-            long_boot.as_slice()
-        } else {
+        let boot = if long.is_empty() {
             NOBODY
+        } else {
+            long.as_slice()
         };
-        let end = run_over(
-            rt.alloc(),
-            &WORDS,
-            (boot, schedule.as_slice()),
-            (&[], &[]),
-            0,
-        )?;
-        assert_eq!(rt; status_text(&end.status).as_str(), text);
-    }
-    Ok(())
-}
-
-#[test]
-fn says_each_status(rt: HostRuntime) -> Result<(), Fail> {
-    let table = [
-        (Status::Done, 0, ""),
-        (
-            Status::Usage,
-            2,
-            "usage: demosmp run --boot FILE --schedule FILE",
-        ),
-        (Status::NoMemory, 4, "no memory"),
-        (Status::WriteFault, 5, "write fault"),
-        (Status::TooLong(Input::Schedule), 8, "too long: schedule"),
-        (Status::Worn { from: 0, to: 15 }, 9, "worn: 0 to 15"),
-    ];
-    for (status, code, text) in table {
-        assert_eq!(rt; status.code(), code);
-        assert_eq!(rt; status_text(&status).as_str(), text);
+        let ended = run_over(rt.alloc(), &WORDS, (boot, schedule.as_slice()), NONE, 0)?;
+        let (said, _) = said_at_end(rt.alloc(), &ended.status, 8)?;
+        assert_eq!(rt; said.as_slice(), line.as_bytes());
     }
     Ok(())
 }
@@ -346,64 +497,62 @@ fn alone(alloc: Global, text: &str, blocks: u8) -> Result<String, Fail> {
     )?)
 }
 
+/// An image's text, its blocks, a schedule, and how what is written begins.
+const PROGRAMS: [(&str, u8, &str, &str); 8] = [
+    (
+        "li r1 0\nli r2 1\nsub r1 r1 r2\nsys 2",
+        1,
+        "turn 0\n",
+        "turn 0\nran 0.3 3\nout 0.3 4294967295\nfinal\n",
+    ),
+    ("l: jmp l", 1, "turn 0\n", "turn 0\nran 0.3 16\nfinal\n"),
+    (
+        "l: beq r0 r0 l",
+        1,
+        "turn 0\n",
+        "turn 0\nran 0.3 16\nfinal\n",
+    ),
+    (
+        "li r1 254\nlw r2 r1 0",
+        1,
+        "turn 0\n",
+        "turn 0\nran 0.3 1\nend 0.3 1\nfinal\n",
+    ),
+    (
+        "li r1 1\nlw r2 r1 0",
+        1,
+        "turn 0\n",
+        "turn 0\nran 0.3 1\nend 0.3 3\nfinal\n",
+    ),
+    (
+        "jmp 256",
+        1,
+        "turn 0\n",
+        "turn 0\nran 0.3 1\nend 0.3 1\nfinal\n",
+    ),
+    (
+        "sys 9",
+        1,
+        "turn 0\n",
+        "turn 0\nran 0.3 0\nend 0.3 4\nfinal\n",
+    ),
+    (
+        "li r2 224\nli r3 64\nsys 6\nli r1 1\nli r2 320\nli r3 64\nsys 7\nli r6 352\nlb r1 r6 0\nsys 2\n.zero 216\n.byte 77",
+        2,
+        "turn 0\nturn 0\nturn 0\nturn 0\nturn 0\n",
+        "turn 0\nran 0.3 2\nsend 0.3 0.3#0\nput 0 0 0.3#0 user 0.3\nturn 0\nqueued 0.3#0\nturn 0\nran 0.3 3\nwait 0.3\nturn 0\nreceive 0.3 0.3#0\nturn 0\nran 0.3 2\nout 0.3 77\nfinal\n",
+    ),
+];
+
 #[test]
 fn executes_instructions(rt: HostRuntime) -> Result<(), Fail> {
-    let table: [(&str, u8, &str, &str); 8] = [
-        (
-            "li r1 0\nli r2 1\nsub r1 r1 r2\nsys 2",
-            1,
-            "turn 0\n",
-            "turn 0\nran 0.3 3\nout 0.3 4294967295\nfinal\n",
-        ),
-        ("l: jmp l", 1, "turn 0\n", "turn 0\nran 0.3 16\nfinal\n"),
-        (
-            "l: beq r0 r0 l",
-            1,
-            "turn 0\n",
-            "turn 0\nran 0.3 16\nfinal\n",
-        ),
-        (
-            "li r1 254\nlw r2 r1 0",
-            1,
-            "turn 0\n",
-            "turn 0\nran 0.3 1\nend 0.3 1\nfinal\n",
-        ),
-        (
-            "li r1 1\nlw r2 r1 0",
-            1,
-            "turn 0\n",
-            "turn 0\nran 0.3 1\nend 0.3 3\nfinal\n",
-        ),
-        (
-            "jmp 256",
-            1,
-            "turn 0\n",
-            "turn 0\nran 0.3 1\nend 0.3 1\nfinal\n",
-        ),
-        (
-            "sys 9",
-            1,
-            "turn 0\n",
-            "turn 0\nran 0.3 0\nend 0.3 4\nfinal\n",
-        ),
-        (
-            "li r2 224\nli r3 64\nsys 6\nli r1 1\nli r2 320\nli r3 64\nsys 7\nli r6 352\nlb r1 r6 0\nsys 2\n.zero 216\n.byte 77",
-            2,
-            "turn 0\nturn 0\nturn 0\nturn 0\nturn 0\n",
-            "turn 0\nran 0.3 2\nsend 0.3 0.3#0\nput 0 0 0.3#0 user 0.3\nturn 0\nqueued 0.3#0\nturn 0\nran 0.3 3\nwait 0.3\nturn 0\nreceive 0.3 0.3#0\nturn 0\nran 0.3 2\nout 0.3 77\nfinal\n",
-        ),
-    ];
-    for (text, blocks, schedule, said) in table {
+    for case in PROGRAMS.as_slice() {
+        let (text, blocks, schedule, said) = *case;
         let boot = alone(rt.alloc(), text, blocks)?;
-        let end = run_over(
-            rt.alloc(),
-            &WORDS,
-            (boot.as_bytes(), schedule.as_bytes()),
-            (&[], &[]),
-            0,
-        )?;
-        assert_eq!(rt; end.status, Status::Done);
-        assert!(rt; end.written.starts_with(said.as_bytes()), "{text}");
+        let files = (boot.as_bytes(), schedule.as_bytes());
+        let ended = run_over(rt.alloc(), &WORDS, files, NONE, 0)?;
+        assert_eq!(rt; ended.status, Status::Done);
+        assert!(rt; ended.written.starts_with(said.as_bytes()), "{text}");
     }
     Ok(())
 }

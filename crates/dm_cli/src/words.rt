@@ -1,10 +1,13 @@
 //! The words of the command line.
 ghost use Rattle.std.specs.Prelude.{◌≡◌, map, option_map, option_and_then, false, Some, None, IfOk, IfErr};
 ghost use Rattle.clap.specs.Words.{app_of, found_of, kind_of, rows_of, rule_of, subcommand_rows_of};
+ghost use Rattle.dm_cli.specs.Status.{status_of_no};
 ghost use Rattle.dm_cli.specs.Words.{IsTaken, demosmp, file_option, files_in, names_of};
 
+use crate::status::Status;
 use clap::error::ErrorKind;
 use clap::{Arg, ArgMatches, Command, Error};
+use dm_memory::NoMemory;
 use std::alloc::{AllocError, Global};
 
 /// Why the words name no files.
@@ -13,7 +16,19 @@ pub enum WordsNo {
     /// The words aren't those of a run.
     Usage,
     /// No memory was left.
-    NoMemory,
+    NoMemory(NoMemory),
+}
+
+impl WordsNo {
+    /// How the program ends then.
+    pub fn status(self) -> Status
+        ensures { result ≡ status_of_no self }
+    {
+        match self {
+            WordsNo::Usage => Status::Usage,
+            WordsNo::NoMemory(no) => Status::NoMemory(no),
+        }
+    }
 }
 
 /// The names of the boot file and of the schedule, where the words are those of a run.
@@ -24,7 +39,7 @@ pub fn names<'a>(alloc: Global, words: &'a [&'a str]) -> Result<(&'a str, &'a st
 {
     let command = match command(alloc) {
         Ok(command) => command,
-        Err(_) => return Err(WordsNo::NoMemory),
+        Err(failed) => return Err(WordsNo::NoMemory(NoMemory::from(failed))),
     };
     match command.try_get_matches_from(words) {
         Ok(matches) => match files(&matches) {
@@ -75,12 +90,13 @@ fn both_files<'a>(matches: &ArgMatches<'a>) -> Option<(&'a str, &'a str)>
     Some((boot, schedule))
 }
 
-/// What an error of the parse comes to.
+/// What an error of the parse comes to. The parse tells want of memory by a kind of its own, and hands no allocation's
+/// error on: only that kind is want of memory.
 fn why(error: &Error) -> WordsNo
     ensures { result ≡ WordsNo.Usage → kind_of error.now ≡ ErrorKind.OutOfMemory → ⊥ }
 {
     match error.kind() {
-        ErrorKind::OutOfMemory => WordsNo::NoMemory,
+        ErrorKind::OutOfMemory => WordsNo::NoMemory(NoMemory::from(AllocError)),
         _ => WordsNo::Usage,
     }
 }

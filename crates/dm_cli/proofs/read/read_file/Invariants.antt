@@ -7,6 +7,7 @@ invariant-pieces g l = record {
   same : g.F.Shelf.told l.shelf ≡ g.F.Shelf.told l.initial.shelf;
   so_far : SoFar (g.F.Shelf.told l.initial.shelf) l.name l.bytes.items;
   counts : g.F.Shelf.faults l.initial.shelf ≤ g.F.Shelf.faults l.shelf;
+  asks : g.F.Shelf.asked l.initial.shelf l.name l.shelf;
 }
 
 abbrev pub decreases-pieces : goal.decreases-pieces

@@ -13,7 +13,7 @@ returns-in-Ok-clause-says g c = (
 pub returns-in-Err-NoMemory-clause-says : goal.returns-in-Err-NoMemory-clause-says
 returns-in-Err-NoMemory-clause-says g c =
     let l : LacksAfter c.args.boot.now c.args.turns (g.K.Sink.told c.args.out.now) (g.K.Sink.told c.run_and_end.new.out) =
-    lacks_of c.args.boot.now c.args.turns (g.K.Sink.told c.args.out.now) (g.K.Sink.told c.run_and_end.new.out) c.in-Err-NoMemory.field-0 c.in-Err-NoMemory.ensures.stopped c.in-Err-NoMemory.field-0-is in
+    lacks_of c.args.boot.now c.args.turns (g.K.Sink.told c.args.out.now) (g.K.Sink.told c.run_and_end.new.out) c.in-Err-NoMemory.field-0 c.in-Err-NoMemory.no c.in-Err-NoMemory.ensures.stopped c.in-Err-NoMemory.field-0-is in
     of_first c.args.boot.now c.args.turns (g.K.Sink.told c.args.out.now) (g.K.Sink.told c.run_and_end.new.out) l (good_run c.args.boot.now l.turns c.requires l.lasts)
 
 pub returns-in-Err-WriteFault-clause-says : goal.returns-in-Err-WriteFault-clause-says
