@@ -4,12 +4,14 @@ use Rattle.std.specs.declared.option.Option.{Option}
 use Rattle.std.specs.declared.option.Option.TheVariants.{None, Some}
 use Rattle.dm_link.specs.declared.Pid.{Pid}
 use Rattle.dm_message.specs.declared.Message.{Message}
+use Rattle.dm_message.specs.declared.MsgId.{MsgId}
 use Rattle.dm_regs.specs.Instructions as row
 use Rattle.dm_regs.specs.Instructions.{Row, instruction}
 use Rattle.dm_process.specs.Mail.{first_on, without_first_on}
 use Rattle.dm_process.specs.declared.process.Process.{Process}
 use Rattle.dm_process.specs.declared.process.Status.{Status}
 use Rattle.dm_process.specs.declared.process.Status.TheVariants as status
+use Rattle.dm_onekernel.specs.declared.label.Label.{Label}
 use Rattle.dm_onekernel.specs.declared.label.Label.TheVariants as label
 use Rattle.dm_onekernel.specs.declared.label.Why.{Why}
 use Rattle.dm_onekernel.specs.declared.label.Why.TheVariants as why
@@ -77,6 +79,11 @@ halts s p k x (Some (halt.Fault f)) = ends (with_here s p x) p k x (why.Fault f)
 -- a ready process executes
 abbrev pub executes : KernelState → Pid → Process → Ran → Option Turned
 executes s p x r = halts s p r.count (with_machine x r.machine) r.halt
+
+-- what is said of a receive that message i came to
+abbrev pub completed_label : Pid → MsgId → Completed → Label
+completed_label p i (completed.Received id) = label.Receive p id
+completed_label p i (completed.Refused c) = label.Refuse p i c
 
 -- a waiting process takes the first queued message on its mask, which leaves the queue, or is refused it
 abbrev pub received : KernelState → Pid → Process → ℕ → Message → Process → Completed → Option Turned

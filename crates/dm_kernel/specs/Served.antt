@@ -9,7 +9,8 @@ use Rattle.dm_process.specs.declared.process.Process.{Process}
 use Rattle.dm_process.specs.declared.process.Status.{Status}
 use Rattle.dm_process.specs.declared.process.Status.TheVariants.{Ready, Waiting, Moving}
 use Rattle.dm_forward.specs.declared.record.Record.TheVariants.{Here, Frozen, Incoming, Forward, Ended}
-use Rattle.dm_kernel.specs.State.{KernelState, Known}
+use Rattle.dm_room.specs.Room.{HasTaken}
+use Rattle.dm_kernel.specs.State.{KernelState, Known, blocks_of}
 use Rattle.dm_kernel.specs.May.{MayAct, FitsHere}
 
 -- it is here, and this holds of it
@@ -26,6 +27,10 @@ abbrev pub CanGo : Process → Status → Type 0
 CanGo x Ready = ⊤
 CanGo x (Waiting mask base cap) = IsSome (first_on mask x.queue)
 CanGo x (Moving dir owner base own left pending) = ⊥
+
+-- it is here, and has its slot and its blocks
+pub record HasPlace (s : KernelState) (x : Process) : Type 0 where
+  pub room : HasTaken s.room (blocks_of x)
 
 -- it is here, and can be served
 pub record Serves (s : KernelState) (p : Pid) (x : Process) : Type 0 where

@@ -2,10 +2,14 @@
 //! messages; how messages come to other machines is not its part.
 #![tactic(auto)]
 
+mod handle;
 pub mod kernel;
+mod leave;
 pub mod part;
 mod ring;
 pub mod run;
+mod serve;
+mod turn;
 
 pub use dm_memory::NoMemory;
 pub use kernel::{Kernel, Servers};
