@@ -95,3 +95,6 @@ there s p x = rw (pid_eq_self p) refl
 -- what follows of the process that is here
 pub of_here : (o : Option Process) (x : Process) (go : Process → Option Turned) → o ≡ Some x → bind o go ≡ go x
 of_here o x go e = ap (λ o. bind o go) e
+
+pub has_some : (o : Option Process) (x : Process) → o ≡ Some x → IsSome o
+has_some o x e = rw e (search rules)

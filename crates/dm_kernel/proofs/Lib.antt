@@ -1,3 +1,4 @@
 pub mod Running
 pub mod Ringing
 pub mod Known
+pub mod Serving

@@ -1,5 +1,5 @@
 -- What is known of the process that an event is about.
-use Rattle.std.specs.Prelude.{◌≡◌, ⊤, ℕ, IsSome}
+use Rattle.std.specs.Prelude.{◌≡◌, ⊤, ℕ, ◌<◌, length, IsSome}
 use Rattle.std.specs.declared.option.Option.{Option}
 use Rattle.std.specs.declared.option.Option.TheVariants.{None, Some}
 use Rattle.dm_link.specs.declared.Pid.{Pid}
@@ -11,7 +11,10 @@ use Rattle.dm_process.specs.declared.process.Status.TheVariants.{Ready, Waiting,
 use Rattle.dm_forward.specs.declared.record.Record.TheVariants.{Here, Frozen, Incoming, Forward, Ended}
 use Rattle.dm_room.specs.Room.{HasTaken}
 use Rattle.dm_kernel.specs.State.{KernelState, Known, blocks_of}
-use Rattle.dm_kernel.specs.May.{MayAct, FitsHere}
+use Rattle.dm_process.specs.Lawful.{IsLawfulProcess}
+use Rattle.dm_datamove.specs.Serving.{IsWithin}
+use Rattle.dm_datamove.specs.Landing.{IsAwaited}
+use Rattle.dm_kernel.specs.May.{MayAct, FitsHere, most}
 
 -- it is here, and this holds of it
 abbrev pub IsHere : (Process → Type 0) → Option Known → Type 0
@@ -52,3 +55,14 @@ pub record Receives (s : KernelState) (p : Pid) (mask : ℕ) (x : Process) : Typ
 pub record Handles (s : KernelState) (m : Message) (x : Process) : Type 0 where
   pub acts : MayAct s m.to.pid x
   pub fits : FitsHere m x m.what
+
+-- it is here, and the piece that is asked for lies in its memory
+pub record OwnsPiece (m : Message) (x : Process) : Type 0 where
+  pub lawful : IsLawfulProcess x
+  pub within : IsWithin (length x.memory) m.what
+
+-- it is here, and waits for this answer
+pub record AwaitsPiece (m : Message) (x : Process) : Type 0 where
+  pub lawful : IsLawfulProcess x
+  pub sent : x.sent < most
+  pub awaited : IsAwaited x.status m

@@ -5,10 +5,13 @@
 mod handle;
 pub mod kernel;
 mod leave;
+mod make;
 pub mod part;
 mod ring;
 pub mod run;
 mod serve;
+mod servers;
+mod service;
 mod turn;
 
 pub use dm_memory::NoMemory;
