@@ -2,3 +2,4 @@ pub mod Running
 pub mod Ringing
 pub mod Known
 pub mod Serving
+pub mod Making
