@@ -3,3 +3,4 @@ pub mod Ringing
 pub mod Known
 pub mod Serving
 pub mod Making
+pub mod Opening

@@ -2,6 +2,7 @@
 //! messages; how messages come to other machines is not its part.
 #![tactic(auto)]
 
+mod begin;
 mod handle;
 pub mod kernel;
 mod leave;
