@@ -4,3 +4,5 @@ pub mod Known
 pub mod Serving
 pub mod Making
 pub mod Opening
+pub mod LawfulRows
+pub mod LawfulTurns

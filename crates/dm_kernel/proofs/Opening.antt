@@ -107,3 +107,15 @@ pub room_at_first : (b : Boot) (m : ℕ) (r : BootMachine) → IsValid b → sli
 room_at_first b m r valid at =
     let k : 0 + m ≡ m = omega arith in
     fits b m r (subst (λ (k : ℕ). machine_is_valid b k r ≡ true) k (machine_fits b 0 b.machines m r valid.machines at)) at
+
+machine_at : (rs : List BootMachine) (i : ℕ) → i < length rs → (r : BootMachine) × (slice_get rs i ≡ Some r)
+machine_at [] i h = absurd (omega arith)
+machine_at (r ∷ rs) zero h = (r, grind (arith, common_steps))
+machine_at (r ∷ rs) (suc i) h =
+    let next : (r : BootMachine) × (slice_get rs i ≡ Some r) = machine_at rs i (grind (arith, common_steps)) in
+    let there : slice_get rs i ≡ Some next.0 = next.1 in
+    (next.0, grind (arith, common_steps))
+
+pub room_from : (b : Boot) (m : ℕ) → IsValid b → m < length b.machines → HasRoomFor b m (empty b m) b.processes
+room_from b m valid h =
+    let r : (r : BootMachine) × (slice_get b.machines m ≡ Some r) = machine_at b.machines m h in room_at_first b m r.0 valid r.1

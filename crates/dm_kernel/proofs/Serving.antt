@@ -164,7 +164,7 @@ first_or : (b : Bool) (mask : ℕ) (x m : Message) (rest : Option Message) → i
 first_or true mask x m rest b e h = let same : x ≡ m = cc in ap (is_on mask) (sym same) ∙ b
 first_or false mask x m rest b e h = h e
 
-first_is_on : (mask : ℕ) (queue : List Message) (m : Message) → first_on mask queue ≡ Some m → is_on mask m ≡ true
+pub first_is_on : (mask : ℕ) (queue : List Message) (m : Message) → first_on mask queue ≡ Some m → is_on mask m ≡ true
 first_is_on mask [] m e = absurd (cc)
 first_is_on mask (x ∷ xs) m e = first_or (is_on mask x) mask x m (first_on mask xs) refl e (first_is_on mask xs m)
 

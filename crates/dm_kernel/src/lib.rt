@@ -5,6 +5,7 @@
 mod begin;
 mod handle;
 pub mod kernel;
+mod law;
 mod leave;
 mod make;
 pub mod part;
@@ -17,4 +18,5 @@ mod turn;
 
 pub use dm_memory::NoMemory;
 pub use kernel::{Kernel, Servers};
+pub use law::turns_are_lawful;
 pub use part::Part;

@@ -1,0 +1,13 @@
+//! What holds of every turn.
+ghost use Rattle.std.specs.Prelude.{◌≡◌, Some, true};
+ghost use Rattle.dm_onekernel.specs.declared.boot.Boot.{Boot};
+ghost use Rattle.dm_onekernel.specs.Boot.{images_are_valid};
+ghost use Rattle.dm_kernel.specs.Lawful.{IsLawfulState, IsLawfulTurned};
+ghost use Rattle.dm_kernel.specs.May.{MayTurn};
+ghost use Rattle.dm_kernel.specs.State.{KernelState, Turned};
+ghost use Rattle.dm_kernel.specs.Turn.{turn};
+
+/// A turn leaves processes, messages and servers lawful, and each message that it routes is lawful.
+pub fn turns_are_lawful()
+    ensures { (b : Boot) (s : KernelState) (t : Turned) → images_are_valid b.images ≡ true → MayTurn b s → IsLawfulState s → turn b s ≡ Some t → IsLawfulTurned t }
+{}
