@@ -32,14 +32,6 @@ is_here P (Some (Incoming arriving)) x e h = absurd h
 is_here P (Some (Forward machine moves)) x e h = absurd h
 is_here P (Some (Ended y)) x e h = absurd h
 
-pub is_known : (P : Process → Type 0) (o : Option Known) → IsHere P o → IsSome o
-is_known P None h = absurd h
-is_known P (Some (Here y)) h = search rules
-is_known P (Some (Frozen leaving)) h = absurd h
-is_known P (Some (Incoming arriving)) h = absurd h
-is_known P (Some (Forward machine moves)) h = absurd h
-is_known P (Some (Ended y)) h = absurd h
-
 is_there : (o : Option Message) → is_some o ≡ true → IsSome o
 is_there None h = absurd (cc)
 is_there (Some m) h = search rules
@@ -69,21 +61,6 @@ can_serve s t p (Some (Frozen leaving)) room may h = absurd (cc)
 can_serve s t p (Some (Incoming arriving)) room may h = absurd (cc)
 can_serve s t p (Some (Forward machine moves)) room may h = absurd (cc)
 can_serve s t p (Some (Ended y)) room may h = absurd (cc)
-
--- ready, or with a message that it waits for
-pub to_execute : (s : KernelState) (p : Pid) (o : Option Known) (x : Process) → o ≡ Some (Here x) → x.status ≡ Ready → IsHere (Serves s p) o → IsHere (Executes s p) o
-to_execute s p o x e ready h =
-    let mine : Serves s p x = is_here (Serves s p) o x (ap here_of e) h in
-    subst (IsHere (Executes s p)) (sym e) (record { acts = mine.acts; ready = ready })
-
-pub to_receive : (s : KernelState) (p : Pid) (o : Option Known) (x : Process) (mask base size : ℕ) → o ≡ Some (Here x) → x.status ≡ Waiting mask base size → IsHere (Serves s p) o
-    → IsHere (Receives s p mask) o
-to_receive s p o x mask base size e waits h =
-    let mine : Serves s p x = is_here (Serves s p) o x (ap here_of e) h in
-    subst (IsHere (Receives s p mask)) (sym e) (record { acts = mine.acts; waits = (base, size, waits); queued = subst (CanGo x) waits mine.goes })
-
-pub cannot_move : (s : KernelState) (p : Pid) (o : Option Known) (x : Process) (t : Status) → o ≡ Some (Here x) → x.status ≡ t → IsHere (Serves s p) o → CanGo x t
-cannot_move s p o x t e moves h = let mine : Serves s p x = is_here (Serves s p) o x (ap here_of e) h in subst (CanGo x) moves mine.goes
 
 -- the process p is set to x
 pub sets : (s : KernelState) (p : Pid) (x : Process) (records : Pid → Option Known) → ((q : Pid) → records q ≡ with_record s.records p (Here x) q) → record s { records = records } ≡ with_here s p x

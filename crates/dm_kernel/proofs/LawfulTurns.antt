@@ -123,7 +123,7 @@ unless_lawfully s p x mask i base code channel m body links None h rest k =
       state =
           with_process s p (record (completing.receives x 0 m.id base code channel body links).process { queue = without_first_on mask x.queue }) h
           (subst (λ (q : List Message). IsLawfulProcess (record (completing.receives x 0 m.id base code channel body links).process { queue = q })) rest
-           (k (completing.receives x i m.id base code channel body links) refl));
+          (k (completing.receives x i m.id base code channel body links) refl));
       parts = said none_said;
     }
 unless_lawfully s p x mask i base code channel m body links (Some c) h rest k =
@@ -142,7 +142,7 @@ receives_lawfully s p x mask base size (Some m) h lawful waits first =
     let there : (i : ℕ) × (slice_get x.queue i ≡ Some m) × (remove x.queue i ≡ without_first_on mask x.queue) = first_place mask x.queue m first in
     subst (λ (t : Status). Lawfully (received_by s p x mask m (completion x 0 t (Some m)))) (sym waits)
     (what_lawfully s p x mask there.0 base size m m.what h there.2
-     (λ d e. completed x there.0 mask base size m d lawful waits there.1 (first_is_on mask x.queue m first) e))
+    (λ d e. completed x there.0 mask base size m d lawful waits there.1 (first_is_on mask x.queue m first) e))
 
 -- a process that is served
 status_lawfully : (quantum : ℕ) (s : KernelState) (p : Pid) (x : Process) (t : Status) → s.here < 16 → IsLawfulState s → IsLawfulProcess x → x.status ≡ t

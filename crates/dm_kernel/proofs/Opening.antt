@@ -30,35 +30,12 @@ is_state k s h =
       servers = h.servers i;
     }
 
-pub is_in : (k : Kernel) (s : KernelState) → state_of k ≡ s → IsIn k s
-is_in k s e =
-    record {
-      here = ap (λ (s : KernelState). s.here) e;
-      records = λ q. ap (λ (s : KernelState). s.records q) e;
-      ring = ap (λ (s : KernelState). s.ring) e;
-      inbox = ap (λ (s : KernelState). s.inbox) e;
-      made = ap (λ (s : KernelState). s.made) e;
-      room = ap (λ (s : KernelState). s.room) e;
-      servers = ap (λ (s : KernelState). s.servers) e;
-    }
-
 -- the processes that are left have their room
 pub record HasRoomFor (b : Boot) (m : ℕ) (s : KernelState) (rest : List BootProcess) : Type 0 where
   pub here : s.here ≡ m
   pub slots : s.room.taken_slots + starting_at m rest ≤ s.room.slots
   pub blocks : s.room.taken_blocks + blocks_at m b.images rest ≤ s.room.blocks
   pub made : s.made + starting_at m rest ≤ 64
-
--- the first of them has room, and then the others do
-pub room_now : (b : Boot) (m : ℕ) (s : KernelState) (p : BootProcess) (ps : List BootProcess) → HasRoomFor b m s (p ∷ ps) → p.pid.home ≡ s.here
-    → HasRoom s.room (blocks_of_image (slice_get b.images p.image))
-room_now b m s p ps h home =
-    let is : (p.pid.home == m) ≡ true = eq-eqb p.pid.home m (home ∙ h.here) in
-    let slots : s.room.taken_slots + ((if p.pid.home == m then 1 else 0) + starting_at m ps) ≤ s.room.slots = h.slots in
-    let blocks : s.room.taken_blocks + ((if p.pid.home == m then blocks_of_image (slice_get b.images p.image) else 0) + blocks_at m b.images ps) ≤ s.room.blocks = h.blocks in
-    let one : s.room.taken_slots + (1 + starting_at m ps) ≤ s.room.slots = rw is at slots in
-    let some : s.room.taken_blocks + (blocks_of_image (slice_get b.images p.image) + blocks_at m b.images ps) ≤ s.room.blocks = rw is at blocks in
-    (omega arith, omega arith)
 
 stands : (b : Boot) (m : ℕ) (s : KernelState) (p : BootProcess) (ps : List BootProcess) (i : BootImage) (test : Bool)
     → s.room.taken_slots + ((if test then 1 else 0) + starting_at m ps) ≤ s.room.slots

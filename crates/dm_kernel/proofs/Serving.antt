@@ -88,12 +88,6 @@ called_as s t p k n w d result e a b =
     ∙ of_here (here_of ((with_here s p w).records p)) w (λ x. called_with (with_here s p w) p k n x result) (there s p w)
     ∙ (λ i. called_with (with_here s p (a i)) p k n (a i) (b i))
 
-pub ends_as : (s t : KernelState) (p : Pid) (k : ℕ) (w : Process) (y : Why) → t ≡ with_here s p w
-    → bind (here_of (t.records p)) (λ x. ends t p k x y) ≡ ends (with_here s p w) p k w y
-ends_as s t p k w y e =
-    ap (λ (t : KernelState). bind (here_of (t.records p)) (λ x. ends t p k x y)) e
-    ∙ of_here (here_of ((with_here s p w).records p)) w (λ x. ends (with_here s p w) p k x y) (there s p w)
-
 -- it has its slot and its blocks still
 pub has_place : (s t : KernelState) (p : Pid) (x y : Process) (records : Pid → Option Known) → t.room ≡ s.room → ((q : Pid) → t.records q ≡ with_record records p (Here y) q)
     → length y.memory ≡ length x.memory → MayAct s p x → IsHere (HasPlace t) (t.records p)

@@ -33,7 +33,11 @@ const FIRST_NUMBER: u32 = 3;
 
 impl Kernel {
     /// Handles a message for the machine's kernel: it makes a process.
-    pub(crate) fn for_kernel(&mut self, boot: &Boot, message: &Message) -> Result<Vec<Part>, NoMemory>
+    pub(crate) fn for_kernel(
+        &mut self,
+        boot: &Boot,
+        message: &Message,
+    ) -> Result<Vec<Part>, NoMemory>
         requires lawful { IsLawfulMessage message.now }
         requires images { images_are_valid boot.now.images ≡ true }
         requires fits { FitsKernel boot.now (state_of self.old) message.now.what }

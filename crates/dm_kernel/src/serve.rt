@@ -123,12 +123,7 @@ impl Kernel {
     }
 
     /// What is said of a receive that a message came to.
-    fn completed(
-        &self,
-        pid: Pid,
-        id: MsgId,
-        completed: Completed,
-    ) -> Result<Vec<Part>, NoMemory>
+    fn completed(&self, pid: Pid, id: MsgId, completed: Completed) -> Result<Vec<Part>, NoMemory>
         ensures { IfOk result (λ parts. parts.items ≡ says (completed_label pid id completed) ∷ []) }
     {
         match completed {

@@ -38,7 +38,11 @@ impl Kernel {
     }
 
     /// Stops a process, or lets it go on.
-    pub(crate) fn set_stopped(&mut self, message: &Message, stopped: bool) -> Result<Vec<Part>, NoMemory>
+    pub(crate) fn set_stopped(
+        &mut self,
+        message: &Message,
+        stopped: bool,
+    ) -> Result<Vec<Part>, NoMemory>
         requires { IsSome (here_of (at self.old.records message.now.to.pid)) }
         ensures { Answers result self.new (bind (here_of (at self.old.records message.now.to.pid)) (λ x. served_as (state_of self.old) message.now (record x { stopped = stopped }))) }
     {

@@ -50,8 +50,8 @@ returns-in-Call c =
     let halted : c.execute-count.result.1 ≡ Some (halt.Call c.in-Call.number) = c.in-Some-halt.is ∙ ap Some c.in-Call.is in
     subst (Answers c.after_call.result c.after_call.new.self)
     (called_as s _ c.args.pid c.execute-count.result.0 c.in-Call.number w _ c.call-called.result
-     (sets s c.args.pid w _ (c.here_mut.follows.holds w (has_some _ x (sym c.in-Some.ensures.value))))
-     c.call-called.ensures.process
-     c.call-called.ensures.called
-     ∙ sym (executes_as s c.args.pid c.args.quantum x (record { count = c.execute-count.result.0; machine = record { regs = c.execute-count.new.regs; bytes = c.execute-count.new.memory }; halt = Some (halt.Call c.in-Call.number) }) (sym c.in-Some.ensures.value) (c.execute-count.ensures ∙ ap (λ h. record { count = c.execute-count.result.0; machine = record { regs = c.execute-count.new.regs; bytes = c.execute-count.new.memory }; halt = h }) halted)))
+    (sets s c.args.pid w _ (c.here_mut.follows.holds w (has_some _ x (sym c.in-Some.ensures.value))))
+    c.call-called.ensures.process
+    c.call-called.ensures.called
+    ∙ sym (executes_as s c.args.pid c.args.quantum x (record { count = c.execute-count.result.0; machine = record { regs = c.execute-count.new.regs; bytes = c.execute-count.new.memory }; halt = Some (halt.Call c.in-Call.number) }) (sym c.in-Some.ensures.value) (c.execute-count.ensures ∙ ap (λ h. record { count = c.execute-count.result.0; machine = record { regs = c.execute-count.new.regs; bytes = c.execute-count.new.memory }; halt = h }) halted)))
     c.after_call.ensures
