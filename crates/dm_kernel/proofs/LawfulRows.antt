@@ -105,7 +105,7 @@ answer_lawfully here moves m w machine h kind what =
     record { from = h.from; answer = sym kind; to = h.sender; sender = record { home = h.to.home; at = omega arith }; what = what }
 
 -- a process that begins
-enough : (f : Format) → 3 ≤ slots_of f
+pub enough : (f : Format) → 3 ≤ slots_of f
 enough One = omega arith
 enough Two = omega arith
 
@@ -123,12 +123,11 @@ slots_lawfully : (slots : ℕ) (links : List Link) → All IsLawfulEnclosed link
 slots_lawfully slots links h =
     All-append SlotIsLawful (map Some links) (replicate (slots - length links) None) (All-map SlotIsLawful Some links h) (none_lawful (slots - length links))
 
-pub child_lawfully : (b : Boot) (p : Pid) (i : BootImage) (links : List Link) → IsMachine p.home → image_is_valid i ≡ true → length links ≤ 3 → All IsLawfulEnclosed links
+pub child_lawfully : (b : Boot) (p : Pid) (i : BootImage) (links : List Link) → IsMachine p.home → image_is_valid i ≡ true → length links ≤ slots_of b.format → All IsLawfulEnclosed links
     → IsLawfulProcess (child_of b p i links)
 child_lawfully b p i links home valid few lawful =
     let size : (length (memory_of i) ≡ 256 * i.blocks) × (1 ≤ i.blocks) × (i.blocks ≤ 256) = memory_length i valid in
-    let room : 3 ≤ slots_of b.format = enough b.format in
-    let all : length (slots_with (slots_of b.format) links) ≡ slots_of b.format = slots_length (slots_of b.format) links (omega arith) in
+    let all : length (slots_with (slots_of b.format) links) ≡ slots_of b.format = slots_length (slots_of b.format) links few in
     record {
       home = home;
       registers = refl;

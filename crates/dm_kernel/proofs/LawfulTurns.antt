@@ -34,7 +34,7 @@ use Rattle.dm_onekernel.specs.declared.label.Label.TheVariants as label
 use Rattle.dm_onekernel.specs.declared.label.Reply.{Reply}
 use Rattle.dm_onekernel.specs.declared.label.Why.{Why}
 use Rattle.dm_onekernel.specs.declared.label.Why.TheVariants as why
-use Rattle.dm_onekernel.specs.Boot.{image_is_valid, images_are_valid, manager, switchboard}
+use Rattle.dm_onekernel.specs.Boot.{image_is_valid, images_are_valid, manager, slots_of, switchboard}
 use Rattle.dm_onekernel.specs.Plain.{plain_process}
 use Rattle.dm_onekernel.specs.Receiving.{receive_refusals}
 use Rattle.dm_onekernel.specs.Refusals.{first_failed}
@@ -66,7 +66,7 @@ use Rattle.dm_kernel.specs.State.{KernelState, Known, Turned, drops, says, with_
 use Rattle.dm_kernel.specs.Turn.{first_runnable, goes_round, turn, turns}
 use Rattle.dm_kernel.proofs.Making.{image_fits}
 use Rattle.dm_kernel.proofs.Serving.{first_is_on, has_run, is_awaited, runs_lawfully}
-use Rattle.dm_kernel.proofs.LawfulRows.{Lawfully, all_dropped, answer_lawfully, child_lawfully, if_lawfully, none_said, routed, routes_lawfully, said, with_one_more, with_process, with_queued, with_stopped, without}
+use Rattle.dm_kernel.proofs.LawfulRows.{Lawfully, all_dropped, answer_lawfully, child_lawfully, enough, if_lawfully, none_said, routed, routes_lawfully, said, with_one_more, with_process, with_queued, with_stopped, without}
 
 -- a process that executes
 ends_lawfully : (s : KernelState) (p : Pid) (k : ℕ) (x : Process) (y : Why) → IsLawfulState s → Lawfully (ends s p k x y)
@@ -226,8 +226,9 @@ known_lawfully s m (Some (Ended y)) machine h message fits e = ended_lawfully s 
 makes_lawfully : (b : Boot) (s : KernelState) (m : Message) (links : List Link) (i : BootImage) (room : Bool) → s.here < 16 → IsLawfulState s → IsLawfulMessage m
     → image_is_valid i ≡ true → length links ≤ 3 → All IsLawfulEnclosed links → Lawfully (makes b s m links i room)
 makes_lawfully b s m links i true machine h message valid few lawful =
+    let room : 3 ≤ slots_of b.format = enough b.format in
     record {
-      state = with_one_more s (next_pid s) (child_of b (next_pid s) i links) i.blocks h (child_lawfully b (next_pid s) i links (omega arith) valid few lawful);
+      state = with_one_more s (next_pid s) (child_of b (next_pid s) i links) i.blocks h (child_lawfully b (next_pid s) i links (omega arith) valid (omega arith) lawful);
       parts = said (routed _ (answer_lawfully s.here 0 m (what.Created (next_pid s)) machine message refl (omega arith)));
     }
 makes_lawfully b s m links i false machine h message valid few lawful =

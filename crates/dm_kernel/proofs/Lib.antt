@@ -6,3 +6,5 @@ pub mod Making
 pub mod Opening
 pub mod LawfulRows
 pub mod LawfulTurns
+pub mod LawfulStart
+pub mod Worked

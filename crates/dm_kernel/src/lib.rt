@@ -18,5 +18,8 @@ mod turn;
 
 pub use dm_memory::NoMemory;
 pub use kernel::{Kernel, Servers};
-pub use law::turns_are_lawful;
+pub use law::{machines_open_lawfully, turns_are_lawful};
 pub use part::Part;
+
+#[cfg(test)]
+mod tests;
