@@ -16,7 +16,7 @@ use dm_process::{Direction, Process};
 use dm_regs::{Cells, Memory};
 pub use landing::land;
 pub use requests::request;
-pub use serving::{gone, serve};
+pub use serving::{answer, gone, serve};
 
 /// What is left of a data move: `left` bytes, 1 to 65,536, from `base` in the owner's memory and from `own` in the
 /// mover's.

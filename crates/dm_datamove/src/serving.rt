@@ -12,7 +12,7 @@ use dm_process::Process;
 use dm_regs::Cells;
 
 /// An answer under the request's name to who asked, from its receiver on machine `here`, so often moved.
-fn answer(request: &Message, here: u8, moves: u32, what: What) -> Message
+pub fn answer(request: &Message, here: u8, moves: u32, what: What) -> Message
     ensures { result ≡ answer here moves request.now what }
 {
     Message {

@@ -84,6 +84,19 @@ impl<T> Queue<T> {
         self.items.retain(keep);
     }
 
+    /// Keeps those that pass the test, in their order, and behind them the value at a place. It takes no memory.
+    pub fn retain_then<F: FnMut(&T) -> bool>(&mut self, keep: F, place: usize)
+    where
+        T: Drop,
+        requires callable { F.IsAlwaysCallable keep }
+        requires within { place < length self.old }
+        ensures { (x : T) → slice_get self.old place ≡ Some x → (kept : List T) × IsFiltered (CalledAt F.FnMut) keep (remove self.old place) kept × (self.new ≡ kept ++ x ∷ []) }
+    {
+        let last = self.items.remove(place).unwrap();
+        self.items.retain(keep);
+        self.items.push_back_reserved(last);
+    }
+
     /// The value at a place.
     pub fn at(&self, place: usize) -> &T
         requires { place < length self.now }

@@ -1,0 +1,139 @@
+-- What the rows of a turn give is lawful.
+use Rattle.std.proofs.Common.{◌≡◌, ◌∙◌, ℕ, zero, suc, ◌+◌, ◌-◌, ◌*◌, ◌<◌, ◌≤◌, Bool, true, false, if◌then◌else◌, List, [], ◌∷◌, ◌++◌, length, map, replicate, remove, slice_get, Some, None, refl, ap, sym, subst, inl, inr, ◌⊎◌, arith}
+use Rattle.std.specs.List.{All}
+use Rattle.std.specs.Option.{IfSome}
+use Rattle.std.proofs.lemmas.Grind.{common_steps}
+use Rattle.std.proofs.lemmas.List.Elements.{All-append, All-cons, All-map, All-nil, All-push}
+use Rattle.std.proofs.lemmas.Bool.Decides.{nat_tests}
+use Rattle.std.specs.declared.option.Option.{Option}
+use Rattle.dm_link.specs.declared.Link.{Link}
+use Rattle.dm_link.specs.declared.Pid.{Pid}
+use Rattle.dm_link.specs.Lawful.{IsMachine, IsLawfulEnclosed}
+use Rattle.dm_link.specs.Names.{pid_eq}
+use Rattle.dm_message.specs.declared.Message.{Message}
+use Rattle.dm_message.specs.declared.What.{What}
+use Rattle.dm_message.specs.Kinds.{kind_of}
+use Rattle.dm_message.specs.Lawful.{IsLawfulMessage, IsLawfulWhat, is_answer}
+use Rattle.dm_process.specs.declared.process.Process.{Process}
+use Rattle.dm_process.specs.Lawful.{IsLawfulProcess, SlotIsLawful}
+use Rattle.dm_forward.specs.declared.record.Record.TheVariants.{Here, Ended}
+use Rattle.dm_datamove.specs.Serving.{answer}
+use Rattle.dm_datamove.proofs.Tested.{none_lawful}
+use Rattle.dm_onekernel.specs.declared.boot.Boot.{Boot}
+use Rattle.dm_onekernel.specs.declared.boot.BootImage.{BootImage}
+use Rattle.dm_onekernel.specs.declared.boot.Format.{Format}
+use Rattle.dm_onekernel.specs.declared.boot.Format.TheVariants.{One, Two}
+use Rattle.dm_onekernel.specs.declared.label.Why.{Why}
+use Rattle.dm_onekernel.specs.Boot.{image_is_valid, slots_of}
+use Rattle.dm_onekernel.specs.Start.{memory_of, slots_with}
+use Rattle.dm_rule.specs.declared.line.Line.{Line}
+use Rattle.dm_kernel.specs.declared.part.Part.{Part}
+use Rattle.dm_kernel.specs.declared.part.Part.TheVariants.{Says, Routes}
+use Rattle.dm_kernel.specs.Begun.{child_of, with_child}
+use Rattle.dm_kernel.specs.Handle.{routes}
+use Rattle.dm_kernel.specs.Lawful.{AreLawful, IsLawfulPart, IsLawfulState, IsLawfulTurned}
+use Rattle.dm_kernel.specs.State.{KernelState, Known, Turned, drops, dropped, with_here, without_process}
+
+-- what there is of a turn is lawful
+abbrev pub Lawfully : Option Turned → Type 0
+Lawfully None = Unit {0}
+Lawfully (Some t) = IsLawfulTurned t
+
+-- of two rows the one that there is
+pub if_lawfully : (b : Bool) (t u : Option Turned) → (b ≡ true → Lawfully t) → (b ≡ false → Lawfully u) → Lawfully (if b then t else u)
+if_lawfully true t u h k = h refl
+if_lawfully false t u h k = k refl
+
+-- lists of parts
+pub none_said : AreLawful []
+none_said = record { each = All-nil IsLawfulPart }
+
+pub said : {l : Line} {parts : List Part} → AreLawful parts → AreLawful (Says l ∷ parts)
+said {l = l} {parts = parts} h = record { each = All-cons IsLawfulPart (Says l) parts tt h.each }
+
+pub routed : (m : Message) → IsLawfulMessage m → AreLawful (Routes m ∷ [])
+routed m h = record { each = All-cons IsLawfulPart (Routes m) [] h (All-nil IsLawfulPart) }
+
+pub routes_lawfully : (o : Option Message) → IfSome o IsLawfulMessage → AreLawful (routes o)
+routes_lawfully None h = none_said
+routes_lawfully (Some m) h = routed m h
+
+pub all_dropped : (ms : List Message) → AreLawful (drops ms)
+all_dropped [] = none_said
+all_dropped (m ∷ ms) = said (all_dropped ms)
+
+-- a process is set, or has ended
+set_or : (same : Bool) (x y : Process) (o : Option Known) → IsLawfulProcess x → (o ≡ Some (Here y) → IsLawfulProcess y) → (if same then Some (Here x) else o) ≡ Some (Here y) → IsLawfulProcess y
+set_or true x y o lawful h e = let same : x ≡ y = cc in subst IsLawfulProcess same lawful
+set_or false x y o lawful h e = h e
+
+pub with_process : (s : KernelState) (p : Pid) (x : Process) → IsLawfulState s → IsLawfulProcess x → IsLawfulState (with_here s p x)
+with_process s p x h lawful =
+    record { processes = λ q y e. set_or (pid_eq p q) x y (s.records q) lawful (h.processes q y) e; inbox = h.inbox; servers = h.servers }
+
+end_or : (same : Bool) (w : Why) (y : Process) (o : Option Known) → (o ≡ Some (Here y) → IsLawfulProcess y) → (if same then Some (Ended w) else o) ≡ Some (Here y) → IsLawfulProcess y
+end_or true w y o h e = absurd (cc)
+end_or false w y o h e = h e
+
+pub without : (s : KernelState) (p : Pid) (x : Process) (w : Why) → IsLawfulState s → IsLawfulState (without_process s p x w)
+without s p x w h =
+    record { processes = λ q y e. end_or (pid_eq p q) w y (s.records q) (h.processes q y) e; inbox = h.inbox; servers = h.servers }
+
+pub with_one_more : (s : KernelState) (p : Pid) (x : Process) (blocks : ℕ) → IsLawfulState s → IsLawfulProcess x → IsLawfulState (with_child s p x blocks)
+with_one_more s p x blocks h lawful =
+    record { processes = λ q y e. set_or (pid_eq p q) x y (s.records q) lawful (h.processes q y) e; inbox = h.inbox; servers = h.servers }
+
+pub with_queued : (x : Process) (m : Message) → IsLawfulProcess x → IsLawfulMessage m → IsLawfulProcess (record x { queue = x.queue ++ m ∷ [] })
+with_queued x m h k =
+    record {
+      home = h.home;
+      registers = h.registers;
+      size = h.size;
+      links = h.links;
+      slots = h.slots;
+      status = h.status;
+      queue = All-push IsLawfulMessage x.queue m h.queue k;
+    }
+
+pub with_stopped : (x : Process) (stopped : Bool) → IsLawfulProcess x → IsLawfulProcess (record x { stopped = stopped })
+with_stopped x stopped h =
+    record { home = h.home; registers = h.registers; size = h.size; links = h.links; slots = h.slots; status = h.status; queue = h.queue }
+
+-- an answer under a lawful request's name
+pub answer_lawfully : (here moves : ℕ) (m : Message) (w : What) → here < 16 → IsLawfulMessage m → is_answer (kind_of w) ≡ true → IsLawfulWhat w → IsLawfulMessage (answer here moves m w)
+answer_lawfully here moves m w machine h kind what =
+    record { from = h.from; answer = sym kind; to = h.sender; sender = record { home = h.to.home; at = omega arith }; what = what }
+
+-- a process that begins
+pub enough : (f : Format) → 3 ≤ slots_of f
+enough One = omega arith
+enough Two = omega arith
+
+many : (f : Format) → (slots_of f ≡ 32) ⊎ (slots_of f ≡ 128)
+many One = inl refl
+many Two = inr refl
+
+slots_length : (slots : ℕ) (links : List Link) → length links ≤ slots → length (slots_with slots links) ≡ slots
+slots_length slots links h = grind (arith, common_steps)
+
+memory_length : (i : BootImage) → image_is_valid i ≡ true → (length (memory_of i) ≡ 256 * i.blocks) × (1 ≤ i.blocks) × (i.blocks ≤ 256)
+memory_length i valid = (grind (arith, common_steps, nat_tests), grind (arith, nat_tests), grind (arith, nat_tests))
+
+slots_lawfully : (slots : ℕ) (links : List Link) → All IsLawfulEnclosed links → All SlotIsLawful (slots_with slots links)
+slots_lawfully slots links h =
+    All-append SlotIsLawful (map Some links) (replicate (slots - length links) None) (All-map SlotIsLawful Some links h) (none_lawful (slots - length links))
+
+pub child_lawfully : (b : Boot) (p : Pid) (i : BootImage) (links : List Link) → IsMachine p.home → image_is_valid i ≡ true → length links ≤ slots_of b.format → All IsLawfulEnclosed links
+    → IsLawfulProcess (child_of b p i links)
+child_lawfully b p i links home valid few lawful =
+    let size : (length (memory_of i) ≡ 256 * i.blocks) × (1 ≤ i.blocks) × (i.blocks ≤ 256) = memory_length i valid in
+    let all : length (slots_with (slots_of b.format) links) ≡ slots_of b.format = slots_length (slots_of b.format) links few in
+    record {
+      home = home;
+      registers = refl;
+      size = (i.blocks, size.0, size.1, size.2);
+      links = slots_lawfully (slots_of b.format) links lawful;
+      slots = subst (λ (n : ℕ). (n ≡ 32) ⊎ (n ≡ 128)) (sym all) (many b.format);
+      status = tt;
+      queue = All-nil IsLawfulMessage;
+    }

@@ -1,0 +1,255 @@
+-- A machine as the boot file has it may take a turn, and is lawful.
+use Rattle.std.proofs.Common.{◌≡◌, ◌∙◌, ℕ, ◌+◌, ◌*◌, ◌/◌, ◌<◌, ◌≤◌, Bool, true, false, ◌==◌, if◌then◌else◌, List, [], ◌∷◌, ◌++◌, length, Some, None, slice_get, refl, ap, sym, subst, arith}
+use Rattle.std.specs.Prelude.{◌&&◌, ◌||◌, nat_le, nat_lt, not}
+use Rattle.std.specs.List.{All}
+use Rattle.std.specs.Option.{IfSome}
+use Rattle.std.proofs.lemmas.Grind.{common_steps}
+use Rattle.std.proofs.lemmas.List.Elements.{All-cons, All-nil}
+use Rattle.std.proofs.lemmas.Bool.{and_parts}
+use Rattle.std.proofs.lemmas.Bool.Decides.{nat_tests}
+use Rattle.std.specs.declared.option.Option.{Option}
+use Rattle.std.specs.declared.result.Result.TheVariants.{Ok}
+use Rattle.dm_link.specs.declared.Link.{Link}
+use Rattle.dm_link.specs.declared.Pid.{Pid}
+use Rattle.dm_link.specs.Lawful.{IsLawfulEnclosed}
+use Rattle.dm_link.specs.Names.{pid_eq}
+use Rattle.dm_linktable.proofs.Names.{pid_eq_same}
+use Rattle.dm_message.specs.declared.Message.{Message}
+use Rattle.dm_message.specs.Lawful.{IsLawfulMessage}
+use Rattle.dm_process.specs.declared.process.Process.{Process}
+use Rattle.dm_process.specs.Lawful.{IsLawfulProcess}
+use Rattle.dm_room.specs.Room.{HasTaken, Taken, with_reserved}
+use Rattle.dm_forward.specs.declared.record.Record.TheVariants.{Here}
+use Rattle.dm_onekernel.specs.declared.boot.Boot.{Boot}
+use Rattle.dm_onekernel.specs.declared.boot.BootImage.{BootImage}
+use Rattle.dm_onekernel.specs.declared.boot.BootMachine.{BootMachine}
+use Rattle.dm_onekernel.specs.declared.boot.BootProcess.{BootProcess}
+use Rattle.dm_onekernel.specs.Boot.{IsValid, area_is_within, blocks_of_image, controls_child, image_is_valid, images_are_valid, leads_somewhere, leads_to_process, leads_to_server, link_is_valid, links_are_valid, manager, memory_size, process_is_valid, process_named, processes_are_valid, slots_of, starting_at, switchboard}
+use Rattle.dm_onekernel.specs.Start.{memory_of}
+use Rattle.dm_procman.proofs.Lawful.{started_lawful}
+use Rattle.dm_procman.specs.Managing.{starting}
+use Rattle.dm_switchboard.specs.Lawful.{IsLawfulNamed}
+use Rattle.dm_kernel.specs.declared.kernel.Servers.{Servers}
+use Rattle.dm_kernel.specs.Begun.{begins, child_of, empty, opened, servers_of, with_all, with_child}
+use Rattle.dm_kernel.specs.Lawful.{IsLawfulPair, IsLawfulState}
+use Rattle.dm_kernel.specs.May.{FrontMay, MayAct, MayTurn}
+use Rattle.dm_kernel.specs.State.{KernelState, Known, blocks_of}
+use Rattle.dm_kernel.proofs.Making.{image_fits}
+use Rattle.dm_kernel.proofs.LawfulRows.{child_lawfully}
+
+-- where a link of a boot file leads
+record Leads (l : Link) : Type 0 where
+  home : l.addr.pid.home ≤ 15
+  at : l.addr.at ≤ 15
+  area : l.area.base + l.area.len ≤ 65536
+
+either : {A : Type 0} (b c : Bool) → (b || c) ≡ true → (b ≡ true → A) → (c ≡ true → A) → A
+either true c e h k = h refl
+either false c e h k = k e
+
+chosen : {A : Type 0} (test x y : Bool) → (if test then x else y) ≡ true → (test ≡ true → x ≡ true → A) → (test ≡ false → y ≡ true → A) → A
+chosen true x y e h k = h refl e
+chosen false x y e h k = k refl e
+
+to_server : (l : Link) → l.addr.pid.home ≡ 0 → leads_to_server l ≡ true → Leads l
+to_server l home h = record { home = omega arith; at = grind (arith, nat_tests); area = grind (arith, nat_tests) }
+
+to_child : (b : Boot) (l : Link) → l.addr.pid.home ≡ 0 → controls_child b l ≡ true → Leads l
+to_child b l home h = record { home = omega arith; at = grind (arith, nat_tests); area = grind (arith, nat_tests) }
+
+-- a process of the boot file is on a machine of it
+named_or : (b : Boot) (test : Bool) (q : Pid) (x p : BootProcess) (rest : Option BootProcess) → pid_eq x.pid q ≡ test → x.pid.home < length b.machines → (if test then Some x else rest) ≡ Some p
+    → (rest ≡ Some p → (pid_eq p.pid q ≡ true) × (p.pid.home < length b.machines)) → (pid_eq p.pid q ≡ true) × (p.pid.home < length b.machines)
+named_or b true q x p rest is home e h =
+    let same : x ≡ p = cc in subst (λ (p : BootProcess). (pid_eq p.pid q ≡ true) × (p.pid.home < length b.machines)) same (is, home)
+named_or b false q x p rest is home e h = h e
+
+home_of : (b : Boot) (others : ℕ) (p : BootProcess) → process_is_valid b others p ≡ true → p.pid.home < length b.machines
+home_of b others p valid = grind (arith, nat_tests)
+
+named_home : (b : Boot) (q : Pid) (earlier ps : List BootProcess) (p : BootProcess) → processes_are_valid b earlier ps ≡ true → process_named q ps ≡ Some p
+    → (pid_eq p.pid q ≡ true) × (p.pid.home < length b.machines)
+named_home b q earlier [] p valid e = absurd (cc)
+named_home b q earlier (x ∷ xs) p valid e =
+    let parts : (process_is_valid b (starting_at x.pid.home earlier) x ≡ true) × (processes_are_valid b (earlier ++ x ∷ []) xs ≡ true) =
+    and_parts (process_is_valid b (starting_at x.pid.home earlier) x) (processes_are_valid b (earlier ++ x ∷ []) xs) valid
+    in
+    named_or b (pid_eq x.pid q) q x p (process_named q xs) refl (home_of b (starting_at x.pid.home earlier) x parts.0) e (named_home b q (earlier ++ x ∷ []) xs p parts.1)
+
+few_blocks : (i : BootImage) → image_is_valid i ≡ true → i.blocks ≤ 256
+few_blocks i valid = grind (arith, nat_tests)
+
+blocks_within : (images : List BootImage) (n : ℕ) (o : Option BootImage) → images_are_valid images ≡ true → slice_get images n ≡ o → blocks_of_image o ≤ 256
+blocks_within images n None valid e = omega arith
+blocks_within images n (Some i) valid e = few_blocks i (image_fits images n i valid e)
+
+leads_within : (at home area base len blocks machines : ℕ) → ((at == home) && nat_le (base + len) area) ≡ true → area ≡ 256 * blocks → blocks ≤ 256 → home < machines → machines ≤ 16
+    → (at ≤ 15) × (base + len ≤ 65536)
+leads_within at home area base len blocks machines h a b c d = (grind (arith, nat_tests), grind (arith, nat_tests))
+
+to_process : (b : Boot) (l : Link) (o : Option BootProcess) → IsValid b → length b.machines ≤ 16 → process_named l.addr.pid b.processes ≡ o → leads_to_process b l o ≡ true → Leads l
+to_process b l None valid few e h = absurd (cc)
+to_process b l (Some p) valid few e h =
+    let named : (pid_eq p.pid l.addr.pid ≡ true) × (p.pid.home < length b.machines) = named_home b l.addr.pid [] b.processes p valid.processes e in
+    let same : p.pid ≡ l.addr.pid = pid_eq_same p.pid l.addr.pid named.0 in
+    let home : p.pid.home ≡ l.addr.pid.home = ap (λ (q : Pid). q.home) same in
+    let less : p.pid.home < length b.machines = named.1 in
+    let both : (l.addr.at ≤ 15) × (l.area.base + l.area.len ≤ 65536) =
+    leads_within l.addr.at p.pid.home (memory_size b (Some p)) l.area.base l.area.len (blocks_of_image (slice_get b.images p.image)) (length b.machines) h refl
+    (blocks_within b.images p.image (slice_get b.images p.image) valid.images refl)
+    less
+    few
+    in
+    record { home = omega arith; at = both.0; area = both.1 }
+
+home_zero : (p q : Pid) → q.home ≡ 0 → pid_eq p q ≡ true → p.home ≡ 0
+home_zero p q zero e = ap (λ (p : Pid). p.home) (pid_eq_same p q e) ∙ zero
+
+leads : (b : Boot) (l : Link) → IsValid b → length b.machines ≤ 16 → leads_somewhere b l ≡ true → Leads l
+leads b l valid few h =
+    chosen (pid_eq l.addr.pid switchboard) (leads_to_server l) _ h (λ is to. to_server l (home_zero l.addr.pid switchboard refl is) to)
+    (λ no k.
+    chosen (pid_eq l.addr.pid manager) (leads_to_server l || controls_child b l) (leads_to_process b l (process_named l.addr.pid b.processes)) k
+    (λ is to.
+    either (leads_to_server l) (controls_child b l) to (to_server l (home_zero l.addr.pid manager refl is)) (to_child b l (home_zero l.addr.pid manager refl is)))
+    (λ nor to. to_process b l (process_named l.addr.pid b.processes) valid few refl to))
+
+is_false : (b : Bool) → not b ≡ true → b ≡ false
+is_false true e = absurd (cc)
+is_false false e = refl
+
+link_lawfully : (b : Boot) (l : Link) → IsValid b → length b.machines ≤ 16 → link_is_valid b l ≡ true → IsLawfulEnclosed l
+link_lawfully b l valid few h =
+    let one : ((l.addr.moves == 0) ≡ true) × ((not l.to_kernel && (nat_le l.channel 31 && leads_somewhere b l)) ≡ true) =
+    and_parts (l.addr.moves == 0) (not l.to_kernel && (nat_le l.channel 31 && leads_somewhere b l)) h
+    in
+    let two : (not l.to_kernel ≡ true) × ((nat_le l.channel 31 && leads_somewhere b l) ≡ true) = and_parts (not l.to_kernel) (nat_le l.channel 31 && leads_somewhere b l) one.1 in
+    let three : (nat_le l.channel 31 ≡ true) × (leads_somewhere b l ≡ true) = and_parts (nat_le l.channel 31) (leads_somewhere b l) two.1 in
+    let channel : nat_le l.channel 31 ≡ true = three.0 in
+    let to : Leads l = leads b l valid few three.1 in
+    record {
+      link = record { addr = record { home = to.home; at = to.at }; channel = grind (arith, nat_tests); area = to.area };
+      not_to_kernel = is_false l.to_kernel two.0;
+    }
+
+links_lawfully : (b : Boot) (ls : List Link) → IsValid b → length b.machines ≤ 16 → links_are_valid b ls ≡ true → All IsLawfulEnclosed ls
+links_lawfully b [] valid few h = All-nil IsLawfulEnclosed
+links_lawfully b (l ∷ ls) valid few h =
+    let parts : (link_is_valid b l ≡ true) × (links_are_valid b ls ≡ true) = and_parts (link_is_valid b l) (links_are_valid b ls) h in
+    All-cons IsLawfulEnclosed l ls (link_lawfully b l valid few parts.0) (links_lawfully b ls valid few parts.1)
+
+-- a process that hasn't executed anything yet stands in its room
+record Fresh (s : KernelState) (p : Pid) (x : Process) : Type 0 where
+  pid : x.pid ≡ p
+  lawful : IsLawfulProcess x
+  sent : x.sent ≡ 0
+  room : HasTaken s.room (blocks_of x)
+
+record AreFresh (s : KernelState) : Type 0 where
+  processes : (p : Pid) (x : Process) → s.records p ≡ Some (Here x) → Fresh s p x
+  inbox : s.inbox ≡ []
+  servers : IfSome s.servers IsLawfulPair
+
+grown : (r : Taken) (n blocks : ℕ) → HasTaken r n → HasTaken (with_reserved r blocks) n
+grown r n blocks h = let some : 0 < r.taken_slots = h.0 in let all : n ≤ r.taken_blocks = h.1 in (omega arith, omega arith)
+
+fresh_or : (s : KernelState) (test : Bool) (p q : Pid) (c x : Process) (blocks : ℕ) (o : Option Known) → pid_eq p q ≡ test → c.pid ≡ p → IsLawfulProcess c → c.sent ≡ 0 → blocks_of c ≡ blocks
+    → (o ≡ Some (Here x) → Fresh s q x) → (if test then Some (Here c) else o) ≡ Some (Here x) → Fresh (with_child s p c blocks) q x
+fresh_or s true p q c x blocks o is named lawful sent size h e =
+    let same : c ≡ x = cc in
+    let all : blocks_of c ≤ s.room.taken_blocks + blocks = omega arith in
+    subst (Fresh (with_child s p c blocks) q) same (record { pid = named ∙ pid_eq_same p q is; lawful = lawful; sent = sent; room = (omega arith, all) })
+fresh_or s false p q c x blocks o is named lawful sent size h e =
+    let f : Fresh s q x = h e in record { pid = f.pid; lawful = f.lawful; sent = f.sent; room = grown s.room (blocks_of x) blocks f.room }
+
+memory_blocks : (i : BootImage) → image_is_valid i ≡ true → length (memory_of i) ≡ 256 * i.blocks
+memory_blocks i valid = grind (arith, common_steps, nat_tests)
+
+child_blocks : (n blocks : ℕ) → n ≡ 256 * blocks → n / 256 ≡ blocks
+child_blocks n blocks e = omega arith
+
+child_fresh : (b : Boot) (s : KernelState) (p : BootProcess) (i : BootImage) → p.pid.home ≤ 15 → image_is_valid i ≡ true → length p.links ≤ slots_of b.format → All IsLawfulEnclosed p.links → AreFresh s
+    → AreFresh (with_child s p.pid (child_of b p.pid i p.links) i.blocks)
+child_fresh b s p i home valid few lawful h =
+    record {
+      processes =
+          λ q x e.
+          fresh_or s (pid_eq p.pid q) p.pid q (child_of b p.pid i p.links) x i.blocks (s.records q) refl refl (child_lawfully b p.pid i p.links home valid few lawful) refl
+          (child_blocks (length (memory_of i)) i.blocks (memory_blocks i valid))
+          (h.processes q x)
+          e;
+      inbox = h.inbox;
+      servers = h.servers;
+    }
+
+begins_fresh : (b : Boot) (s : KernelState) (p : BootProcess) (o : Option BootImage) (test : Bool) → (p.pid.home == s.here) ≡ test → slice_get b.images p.image ≡ o → images_are_valid b.images ≡ true → p.pid.home ≤ 15
+    → length p.links ≤ slots_of b.format → All IsLawfulEnclosed p.links → AreFresh s → AreFresh (begins b s p o)
+begins_fresh b s p None test is e valid home few lawful h = h
+begins_fresh b s p (Some i) true is e valid home few lawful h = rw is (child_fresh b s p i home (image_fits b.images p.image i valid e) few lawful h)
+begins_fresh b s p (Some i) false is e valid home few lawful h = rw is h
+
+links_of : (b : Boot) (others : ℕ) (p : BootProcess) → process_is_valid b others p ≡ true → (length p.links ≤ slots_of b.format) × (links_are_valid b p.links ≡ true)
+links_of b others p valid = (grind (arith, nat_tests), grind (arith, nat_tests))
+
+all_fresh : (b : Boot) (earlier ps : List BootProcess) (s : KernelState) → IsValid b → length b.machines ≤ 16 → processes_are_valid b earlier ps ≡ true → AreFresh s → AreFresh (with_all b s ps)
+all_fresh b earlier [] s valid few h fresh = fresh
+all_fresh b earlier (p ∷ ps) s valid few h fresh =
+    let parts : (process_is_valid b (starting_at p.pid.home earlier) p ≡ true) × (processes_are_valid b (earlier ++ p ∷ []) ps ≡ true) =
+    and_parts (process_is_valid b (starting_at p.pid.home earlier) p) (processes_are_valid b (earlier ++ p ∷ []) ps) h
+    in
+    let links : (length p.links ≤ slots_of b.format) × (links_are_valid b p.links ≡ true) = links_of b (starting_at p.pid.home earlier) p parts.0 in
+    let home : p.pid.home < length b.machines = home_of b (starting_at p.pid.home earlier) p parts.0 in
+    all_fresh b (earlier ++ p ∷ []) ps (begins b s p (slice_get b.images p.image)) valid few parts.1
+    (begins_fresh b s p (slice_get b.images p.image) (p.pid.home == s.here) refl refl valid.images (omega arith) links.0 (links_lawfully b p.links valid few links.1) fresh)
+
+here_or : (test : Bool) (s t : KernelState) → t.here ≡ s.here → (if test then t else s).here ≡ s.here
+here_or true s t e = e
+here_or false s t e = refl
+
+here_still : (b : Boot) (s : KernelState) (p : BootProcess) (o : Option BootImage) → (begins b s p o).here ≡ s.here
+here_still b s p None = refl
+here_still b s p (Some i) = here_or (p.pid.home == s.here) s (with_child s p.pid (child_of b p.pid i p.links) i.blocks) refl
+
+here_always : (b : Boot) (s : KernelState) (ps : List BootProcess) → (with_all b s ps).here ≡ s.here
+here_always b s [] = refl
+here_always b s (p ∷ ps) = here_always b (begins b s p (slice_get b.images p.image)) ps ∙ here_still b s p (slice_get b.images p.image)
+
+no_names : All IsLawfulNamed []
+no_names = All-nil IsLawfulNamed
+
+servers_lawfully : (b : Boot) (test : Bool) → IsValid b → IfSome (if test then Some (record { board = record { names = []; sent = 0 }; manager = starting b }) else None) IsLawfulPair
+servers_lawfully b true valid = record { board = no_names; manager = started_lawful (Ok (starting b)) b valid refl }
+servers_lawfully b false valid = tt
+
+few_machines : (n : ℕ) → nat_le n 16 ≡ true → n ≤ 16
+few_machines n h = grind (arith, nat_tests)
+
+fresh_at_first : (b : Boot) (m : ℕ) → IsValid b → AreFresh (opened b m)
+fresh_at_first b m valid =
+    all_fresh b [] b.processes (empty b m) valid (few_machines (length b.machines) valid.few_machines) valid.processes
+    (record { processes = λ p x e. absurd (cc); inbox = refl; servers = servers_lawfully b (m == 0) valid })
+
+-- a machine that opens may take a turn
+pub opened_may : (b : Boot) (m : ℕ) → IsValid b → m < length b.machines → MayTurn b (opened b m)
+opened_may b m valid h =
+    let fresh : AreFresh (opened b m) = fresh_at_first b m valid in
+    let few : length b.machines ≤ 16 = few_machines (length b.machines) valid.few_machines in
+    let here : (opened b m).here ≡ m = here_always b (empty b m) b.processes in
+    record {
+      here = subst (λ (k : ℕ). k < 16) (sym here) (omega arith);
+      processes =
+          λ p x e.
+          let f : Fresh (opened b m) p x = fresh.processes p x e in
+          record { pid = f.pid; lawful = f.lawful; sent = subst (λ (n : ℕ). n < 4294967295) (sym f.sent) (omega arith); room = f.room };
+      front = subst (FrontMay b (opened b m)) (sym fresh.inbox) tt;
+    }
+
+-- and is lawful
+pub opened_lawful : (b : Boot) (m : ℕ) → IsValid b → IsLawfulState (opened b m)
+opened_lawful b m valid =
+    let fresh : AreFresh (opened b m) = fresh_at_first b m valid in
+    record {
+      processes = λ p x e. let f : Fresh (opened b m) p x = fresh.processes p x e in f.lawful;
+      inbox = subst (All IsLawfulMessage) (sym fresh.inbox) (All-nil IsLawfulMessage);
+      servers = fresh.servers;
+    }

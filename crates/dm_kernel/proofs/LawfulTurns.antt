@@ -1,0 +1,335 @@
+-- What a turn gives is lawful.
+use Rattle.std.proofs.Common.{◌≡◌, ◌∙◌, ℕ, zero, suc, ◌+◌, ◌<◌, ◌≤◌, Bool, true, false, ◌==◌, if◌then◌else◌, List, [], ◌∷◌, length, map, remove, slice_get, Some, None, refl, ap, sym, subst, arith}
+use Rattle.std.specs.List.{All}
+use Rattle.std.specs.Option.{IfSome}
+use Rattle.std.proofs.lemmas.Grind.{common_steps}
+use Rattle.std.proofs.lemmas.List.Elements.{All-head, All-tail}
+use Rattle.std.specs.declared.option.Option.{Option}
+use Rattle.std.specs.declared.result.Result.TheVariants.{Ok}
+use Rattle.dm_link.specs.declared.Link.{Link}
+use Rattle.dm_link.specs.declared.Pid.{Pid}
+use Rattle.dm_link.specs.Lawful.{IsLawfulEnclosed}
+use Rattle.dm_link.specs.Names.{pid_eq}
+use Rattle.dm_link.specs.Plain.{plain_link}
+use Rattle.dm_message.specs.declared.Message.{Message}
+use Rattle.dm_message.specs.declared.What.{What}
+use Rattle.dm_message.specs.declared.What.TheVariants as what
+use Rattle.dm_message.specs.Lawful.{IsLawfulMessage, IsLawfulWhat}
+use Rattle.dm_process.specs.declared.process.Process.{Process}
+use Rattle.dm_process.specs.declared.process.Status.{Status}
+use Rattle.dm_process.specs.declared.process.Status.TheVariants as status
+use Rattle.dm_process.specs.Lawful.{IsLawfulProcess}
+use Rattle.dm_process.specs.Mail.{first_on, is_on, without_first_on}
+use Rattle.dm_room.specs.Room.{free_blocks, free_slots}
+use Rattle.dm_forward.specs.declared.record.Record.TheVariants.{Here, Frozen, Incoming, Forward, Ended}
+use Rattle.dm_datamove.specs.declared.Landed.{Landed}
+use Rattle.dm_datamove.specs.declared.Landed.TheVariants as landed
+use Rattle.dm_datamove.specs.Landing.{Landing, IsAwaited, IsLawfulLanded, landing}
+use Rattle.dm_datamove.specs.Serving.{IsWithin, after_serving, answer, gone_answer, serving_answer}
+use Rattle.dm_datamove.proofs.Landings.{IsLawfulLanding, lands_lawfully}
+use Rattle.dm_datamove.proofs.Services.{answers_lawfully, serves_lawfully}
+use Rattle.dm_onekernel.specs.declared.boot.Boot.{Boot}
+use Rattle.dm_onekernel.specs.declared.boot.BootImage.{BootImage}
+use Rattle.dm_onekernel.specs.declared.label.Label.TheVariants as label
+use Rattle.dm_onekernel.specs.declared.label.Reply.{Reply}
+use Rattle.dm_onekernel.specs.declared.label.Why.{Why}
+use Rattle.dm_onekernel.specs.declared.label.Why.TheVariants as why
+use Rattle.dm_onekernel.specs.Boot.{image_is_valid, images_are_valid, manager, slots_of, switchboard}
+use Rattle.dm_onekernel.specs.Plain.{plain_process}
+use Rattle.dm_onekernel.specs.Receiving.{receive_refusals}
+use Rattle.dm_onekernel.specs.Refusals.{first_failed}
+use Rattle.dm_procman.specs.Taking as manage
+use Rattle.dm_procman.proofs.Hearing.{heard}
+use Rattle.dm_procman.proofs.Lawful.{manager_after, message_after}
+use Rattle.dm_rule.specs.declared.line.Line.TheVariants as line
+use Rattle.dm_rule.specs.Sets.{moved_back}
+use Rattle.dm_switchboard.specs.Taking as board
+use Rattle.dm_switchboard.proofs.Lawful.{answer_after, board_after}
+use Rattle.dm_syscall.specs.declared.Called.{Called}
+use Rattle.dm_syscall.specs.declared.Called.TheVariants as called
+use Rattle.dm_syscall.specs.Calls.{calls}
+use Rattle.dm_syscall.specs.Completing as completing
+use Rattle.dm_syscall.specs.Completing.{Completion, completes, completes_unless, completion, refusal}
+use Rattle.dm_syscall.specs.Plainly.{IsLawfulCalled}
+use Rattle.dm_syscall.proofs.Completes.{completes_lawfully}
+use Rattle.dm_syscall.proofs.LawfulCalls.{IsLawfulDone, call_lawfully}
+use Rattle.dm_kernel.specs.declared.kernel.Servers.{Servers}
+use Rattle.dm_kernel.specs.declared.part.Part.TheVariants.{Says, Routes}
+use Rattle.dm_kernel.specs.declared.run.Halt.{Halt}
+use Rattle.dm_kernel.specs.declared.run.Halt.TheVariants as halt
+use Rattle.dm_kernel.specs.Begun.{child_of}
+use Rattle.dm_kernel.specs.Handle.{answered, answers_with, board_handles, board_took, ended_handles, handles, has_room, here_handles, kernel_handles, lands, lands_as, makes, makes_of, manager_handles, manager_took, next_pid, process_handles, routes}
+use Rattle.dm_kernel.specs.Lawful.{IsLawfulPair, IsLawfulState, IsLawfulTurned}
+use Rattle.dm_kernel.specs.May.{FitsBoard, FitsEnded, FitsHere, FitsKernel, FrontMay, FitsKnown, FitsManager, MayHandle, MayTurn}
+use Rattle.dm_kernel.specs.Serve.{called_with, ends, executes, halts, processor_of, ran, received, received_by, receives, serves, serves_status, with_machine}
+use Rattle.dm_kernel.specs.State.{KernelState, Known, Turned, drops, says, with_here}
+use Rattle.dm_kernel.specs.Turn.{first_runnable, goes_round, turn, turns}
+use Rattle.dm_kernel.proofs.Making.{image_fits}
+use Rattle.dm_kernel.proofs.Serving.{first_is_on, has_run, is_awaited, runs_lawfully}
+use Rattle.dm_kernel.proofs.LawfulRows.{Lawfully, all_dropped, answer_lawfully, child_lawfully, enough, if_lawfully, none_said, routed, routes_lawfully, said, with_one_more, with_process, with_queued, with_stopped, without}
+
+-- a process that executes
+ends_lawfully : (s : KernelState) (p : Pid) (k : ℕ) (x : Process) (y : Why) → IsLawfulState s → Lawfully (ends s p k x y)
+ends_lawfully s p k x y h =
+    record { state = without s p x y h; parts = said (said (all_dropped x.queue)) }
+
+called_lawfully : (s : KernelState) (p : Pid) (k n : ℕ) (x : Process) (c : Called) → IsLawfulState s → IsLawfulCalled c → Lawfully (called_with s p k n x c)
+called_lawfully s p k n x (called.Replied c) h lawful = record { state = h; parts = said (said none_said) }
+called_lawfully s p k n x (called.Sent m) h lawful = record { state = h; parts = said (said (routed m lawful)) }
+called_lawfully s p k n x (called.Moving m) h lawful = record { state = h; parts = said (said (routed m lawful)) }
+called_lawfully s p k n x called.Waits h lawful = record { state = h; parts = said (said none_said) }
+called_lawfully s p k n x (called.Out w) h lawful = record { state = h; parts = said (said none_said) }
+called_lawfully s p k n x (called.Ended y) h lawful = ends_lawfully s p k x y h
+
+halts_lawfully : (s : KernelState) (p : Pid) (k : ℕ) (x : Process) (o : Option Halt) → s.here < 16 → IsLawfulState s → IsLawfulProcess x → Lawfully (halts s p k x o)
+halts_lawfully s p k x None machine h lawful = record { state = with_process s p x h lawful; parts = said none_said }
+halts_lawfully s p k x (Some (halt.Call n)) machine h lawful =
+    let d : IsLawfulDone (calls s.here x n) = call_lawfully s.here x n machine lawful in
+    called_lawfully (with_here s p (calls s.here x n).process) p k n (calls s.here x n).process (calls s.here x n).called (with_process s p (calls s.here x n).process h d.process) d.called
+halts_lawfully s p k x (Some (halt.Fault f)) machine h lawful = ends_lawfully (with_here s p x) p k x (why.Fault f) (with_process s p x h lawful)
+
+-- a process that takes a message: the first on the mask stands at a place
+place_or : (b : Bool) (mask : ℕ) (x m : Message) (xs : List Message) → (if b then Some x else first_on mask xs) ≡ Some m
+    → (first_on mask xs ≡ Some m → (i : ℕ) × (slice_get xs i ≡ Some m) × (remove xs i ≡ without_first_on mask xs))
+    → (i : ℕ) × (slice_get (x ∷ xs) i ≡ Some m) × (remove (x ∷ xs) i ≡ (if b then xs else x ∷ without_first_on mask xs))
+place_or true mask x m xs e h = (0, grind (arith, common_steps), grind (arith, common_steps))
+place_or false mask x m xs e h =
+    let r : (i : ℕ) × (slice_get xs i ≡ Some m) × (remove xs i ≡ without_first_on mask xs) = h e in
+    let there : slice_get xs r.0 ≡ Some m = r.1 in
+    let rest : remove xs r.0 ≡ without_first_on mask xs = r.2 in
+    (suc r.0, grind (arith, common_steps), grind (arith, common_steps))
+
+first_place : (mask : ℕ) (queue : List Message) (m : Message) → first_on mask queue ≡ Some m
+    → (i : ℕ) × (slice_get queue i ≡ Some m) × (remove queue i ≡ without_first_on mask queue)
+first_place mask [] m e = absurd (cc)
+first_place mask (x ∷ xs) m e = place_or (is_on mask x) mask x m xs e (first_place mask xs m)
+
+is_the_first : (x : Process) (mask base size i : ℕ) (m : Message) → x.status ≡ status.Waiting mask base size → slice_get x.queue i ≡ Some m → is_on mask m ≡ true
+    → completing.IsAwaited x.status (slice_get x.queue i)
+is_the_first x mask base size i m waits at on =
+    subst (λ (t : Status). completing.IsAwaited t (slice_get x.queue i)) (sym waits) (subst (completing.IsAwaited (status.Waiting mask base size)) (sym at) on)
+
+completed : (x : Process) (i mask base size : ℕ) (m : Message) (d : Completion) → IsLawfulProcess x → x.status ≡ status.Waiting mask base size → slice_get x.queue i ≡ Some m
+    → is_on mask m ≡ true → completes x i m.id base size m.what ≡ Some d → IsLawfulProcess d.process
+completed x i mask base size m d lawful waits at on e =
+    completes_lawfully x d.process i d.completed lawful (is_the_first x mask base size i m waits at on) ((λ j. completion x i (waits j) (at j)) ∙ e)
+
+unless_lawfully : (s : KernelState) (p : Pid) (x : Process) (mask i base code channel : ℕ) (m : Message) (body : List ℕ) (links : List Link) (o : Option Reply) → IsLawfulState s
+    → remove x.queue i ≡ without_first_on mask x.queue
+    → ((d : Completion) → Some (completes_unless o x (completing.receives x i m.id base code channel body links)) ≡ Some d → IsLawfulProcess d.process)
+    → Lawfully (received_by s p x mask m (Some (completes_unless o x (completing.receives x 0 m.id base code channel body links))))
+unless_lawfully s p x mask i base code channel m body links None h rest k =
+    record {
+      state =
+          with_process s p (record (completing.receives x 0 m.id base code channel body links).process { queue = without_first_on mask x.queue }) h
+          (subst (λ (q : List Message). IsLawfulProcess (record (completing.receives x 0 m.id base code channel body links).process { queue = q })) rest
+          (k (completing.receives x i m.id base code channel body links) refl));
+      parts = said none_said;
+    }
+unless_lawfully s p x mask i base code channel m body links (Some c) h rest k =
+    record { state = with_process s p (refusal c x).process h (k (refusal c x) refl); parts = said none_said }
+
+what_lawfully : (s : KernelState) (p : Pid) (x : Process) (mask i base size : ℕ) (m : Message) (w : What) → IsLawfulState s → remove x.queue i ≡ without_first_on mask x.queue
+    → ((d : Completion) → completes x i m.id base size w ≡ Some d → IsLawfulProcess d.process) → Lawfully (received_by s p x mask m (completes x 0 m.id base size w))
+what_lawfully s p x mask i base size m (what.User code channel body links) h rest k =
+    unless_lawfully s p x mask i base code channel m body.items links.items (first_failed (receive_refusals (plain_process x) size body.items (map plain_link links.items))) h rest k
+what_lawfully s p x mask i base size m w h rest k = tt
+
+receives_lawfully : (s : KernelState) (p : Pid) (x : Process) (mask base size : ℕ) (o : Option Message) → IsLawfulState s → IsLawfulProcess x → x.status ≡ status.Waiting mask base size
+    → first_on mask x.queue ≡ o → Lawfully (receives s p x mask o)
+receives_lawfully s p x mask base size None h lawful waits first = tt
+receives_lawfully s p x mask base size (Some m) h lawful waits first =
+    let there : (i : ℕ) × (slice_get x.queue i ≡ Some m) × (remove x.queue i ≡ without_first_on mask x.queue) = first_place mask x.queue m first in
+    subst (λ (t : Status). Lawfully (received_by s p x mask m (completion x 0 t (Some m)))) (sym waits)
+    (what_lawfully s p x mask there.0 base size m m.what h there.2
+    (λ d e. completed x there.0 mask base size m d lawful waits there.1 (first_is_on mask x.queue m first) e))
+
+-- a process that is served
+status_lawfully : (quantum : ℕ) (s : KernelState) (p : Pid) (x : Process) (t : Status) → s.here < 16 → IsLawfulState s → IsLawfulProcess x → x.status ≡ t
+    → Lawfully (serves_status quantum s p x t)
+status_lawfully quantum s p x status.Ready machine h lawful is =
+    halts_lawfully s p (ran quantum (processor_of x)).count (with_machine x (ran quantum (processor_of x)).machine) (ran quantum (processor_of x)).halt machine h
+    (runs_lawfully x (ran quantum (processor_of x)).machine (has_run quantum x (ran quantum (processor_of x)) refl) is lawful)
+status_lawfully quantum s p x (status.Waiting mask base size) machine h lawful is = receives_lawfully s p x mask base size (first_on mask x.queue) h lawful is refl
+status_lawfully quantum s p x (status.Moving dir owner base own left pending) machine h lawful is = tt
+
+serves_known : (quantum : ℕ) (s : KernelState) (p : Pid) (o : Option Known) → s.here < 16 → IsLawfulState s → s.records p ≡ o → Lawfully (serves quantum s p o)
+serves_known quantum s p None machine h e = tt
+serves_known quantum s p (Some (Here x)) machine h e = status_lawfully quantum s p x x.status machine h (h.processes p x e) refl
+serves_known quantum s p (Some (Frozen leaving)) machine h e = tt
+serves_known quantum s p (Some (Incoming arriving)) machine h e = tt
+serves_known quantum s p (Some (Forward place moves)) machine h e = tt
+serves_known quantum s p (Some (Ended y)) machine h e = tt
+
+-- a message for a process
+answers_with_lawfully : (s : KernelState) (m : Message) (x : Process) (o : Option Message) → s.here < 16 → IsLawfulState s → IsLawfulMessage m → IsLawfulProcess x → IsWithin (length x.memory) m.what
+    → serving_answer s.here x m ≡ o → Lawfully (answers_with s m (after_serving x m.what) o)
+answers_with_lawfully s m x None machine h message lawful within e = tt
+answers_with_lawfully s m x (Some a) machine h message lawful within e =
+    record {
+      state = with_process s m.to.pid (after_serving x m.what) h (serves_lawfully x (after_serving x m.what) m.what within lawful refl);
+      parts = said (routed a (answers_lawfully s.here x m a machine within message e));
+    }
+
+lands_as_lawfully : (s : KernelState) (m : Message) (x : Process) (l : Landed) → IsLawfulState s → IsLawfulProcess x → IsLawfulLanded l → Lawfully (lands_as s m x l)
+lands_as_lawfully s m x (landed.Next request) h lawful next = record { state = with_process s m.to.pid x h lawful; parts = said (routed request next) }
+lands_as_lawfully s m x (landed.Done reply) h lawful next = record { state = with_process s m.to.pid x h lawful; parts = said none_said }
+
+lands_here : (s : KernelState) (m : Message) (x : Process) (o : Option Landing) → s.here < 16 → IsLawfulState s → IsLawfulProcess x → IsAwaited x.status m
+    → landing s.here x m.what x.status ≡ o → Lawfully (lands s m o)
+lands_here s m x None machine h lawful awaited e = tt
+lands_here s m x (Some d) machine h lawful awaited e =
+    let both : IsLawfulLanding d = lands_lawfully s.here x d.process m d.landed machine lawful awaited e in
+    lands_as_lawfully s m d.process d.landed h both.process both.landed
+
+here_lawfully : (s : KernelState) (m : Message) (x : Process) (w : What) → s.here < 16 → IsLawfulState s → IsLawfulMessage m → IsLawfulProcess x → FitsHere m x w
+    → Lawfully (here_handles s m x w)
+here_lawfully s m x (what.User code channel body links) machine h message lawful fits =
+    record { state = with_process s m.to.pid _ h (with_queued x m lawful message); parts = said none_said }
+here_lawfully s m x what.Stop machine h message lawful fits =
+    record { state = with_process s m.to.pid _ h (with_stopped x true lawful); parts = said none_said }
+here_lawfully s m x what.Resume machine h message lawful fits =
+    record { state = with_process s m.to.pid _ h (with_stopped x false lawful); parts = said none_said }
+here_lawfully s m x what.Kill machine h message lawful fits =
+    record { state = without s m.to.pid x why.Killed h; parts = said (all_dropped x.queue) }
+here_lawfully s m x (what.Read base len) machine h message lawful fits = answers_with_lawfully s m x (serving_answer s.here x m) machine h message lawful fits refl
+here_lawfully s m x (what.Write base bytes) machine h message lawful fits = answers_with_lawfully s m x (serving_answer s.here x m) machine h message lawful fits refl
+here_lawfully s m x (what.Block bytes) machine h message lawful fits = lands_here s m x (landing s.here x m.what x.status) machine h lawful fits refl
+here_lawfully s m x what.Written machine h message lawful fits = lands_here s m x (landing s.here x m.what x.status) machine h lawful fits refl
+here_lawfully s m x what.Gone machine h message lawful fits = lands_here s m x (landing s.here x m.what x.status) machine h lawful fits refl
+here_lawfully s m x w machine h message lawful fits = absurd fits
+
+gone_lawfully : (s : KernelState) (m : Message) → s.here < 16 → IsLawfulMessage m → IsLawfulMessage (gone_answer s.here m)
+gone_lawfully s m machine message = answer_lawfully s.here m.to.moves m what.Gone machine message refl tt
+
+ended_lawfully : (s : KernelState) (m : Message) (w : What) → s.here < 16 → IsLawfulState s → IsLawfulMessage m → FitsEnded w → Lawfully (ended_handles s m w)
+ended_lawfully s m (what.Read base len) machine h message fits = record { state = h; parts = said (routed _ (gone_lawfully s m machine message)) }
+ended_lawfully s m (what.Write base bytes) machine h message fits = record { state = h; parts = said (routed _ (gone_lawfully s m machine message)) }
+ended_lawfully s m (what.User code channel body links) machine h message fits = record { state = h; parts = said none_said }
+ended_lawfully s m what.Stop machine h message fits = record { state = h; parts = said none_said }
+ended_lawfully s m what.Resume machine h message fits = record { state = h; parts = said none_said }
+ended_lawfully s m what.Kill machine h message fits = record { state = h; parts = said none_said }
+ended_lawfully s m (what.Block bytes) machine h message fits = record { state = h; parts = said none_said }
+ended_lawfully s m what.Written machine h message fits = record { state = h; parts = said none_said }
+ended_lawfully s m what.Gone machine h message fits = record { state = h; parts = said none_said }
+ended_lawfully s m w machine h message fits = absurd fits
+
+known_lawfully : (s : KernelState) (m : Message) (o : Option Known) → s.here < 16 → IsLawfulState s → IsLawfulMessage m → FitsKnown m o → s.records m.to.pid ≡ o → Lawfully (process_handles s m o)
+known_lawfully s m None machine h message fits e = tt
+known_lawfully s m (Some (Here x)) machine h message fits e = here_lawfully s m x m.what machine h message (h.processes m.to.pid x e) fits
+known_lawfully s m (Some (Frozen leaving)) machine h message fits e = tt
+known_lawfully s m (Some (Incoming arriving)) machine h message fits e = tt
+known_lawfully s m (Some (Forward place moves)) machine h message fits e = tt
+known_lawfully s m (Some (Ended y)) machine h message fits e = ended_lawfully s m m.what machine h message fits
+
+-- a message for the kernel
+makes_lawfully : (b : Boot) (s : KernelState) (m : Message) (links : List Link) (i : BootImage) (room : Bool) → s.here < 16 → IsLawfulState s → IsLawfulMessage m
+    → image_is_valid i ≡ true → length links ≤ 3 → All IsLawfulEnclosed links → Lawfully (makes b s m links i room)
+makes_lawfully b s m links i true machine h message valid few lawful =
+    let room : 3 ≤ slots_of b.format = enough b.format in
+    record {
+      state = with_one_more s (next_pid s) (child_of b (next_pid s) i links) i.blocks h (child_lawfully b (next_pid s) i links (omega arith) valid (omega arith) lawful);
+      parts = said (routed _ (answer_lawfully s.here 0 m (what.Created (next_pid s)) machine message refl (omega arith)));
+    }
+makes_lawfully b s m links i false machine h message valid few lawful =
+    record { state = h; parts = said (routed _ (answer_lawfully s.here 0 m what.NoRoom machine message refl tt)) }
+
+-- an image that there is
+makes_of_lawfully : (b : Boot) (s : KernelState) (m : Message) (links : List Link) (o : Option BootImage) → s.here < 16 → IsLawfulState s → IsLawfulMessage m
+    → ((i : BootImage) → o ≡ Some i → image_is_valid i ≡ true) → length links ≤ 3 → All IsLawfulEnclosed links → Lawfully (makes_of b s m links o)
+makes_of_lawfully b s m links None machine h message valid few lawful = tt
+makes_of_lawfully b s m links (Some i) machine h message valid few lawful = makes_lawfully b s m links i (has_room s.room i.blocks) machine h message (valid i refl) few lawful
+
+kernel_lawfully : (b : Boot) (s : KernelState) (m : Message) (w : What) → s.here < 16 → images_are_valid b.images ≡ true → IsLawfulState s → IsLawfulMessage m → IsLawfulWhat w → FitsKernel b s w
+    → Lawfully (kernel_handles b s m w)
+kernel_lawfully b s m (what.Create image links) machine images h message lawful fits =
+    makes_of_lawfully b s m links.items (slice_get b.images image) machine h message (λ i at. image_fits b.images image i images at) lawful.0 lawful.1
+kernel_lawfully b s m w machine images h message lawful fits = absurd fits
+
+-- a message for a server
+board_what : (s : KernelState) (m : Message) (v : Servers) (w : What) → IsLawfulState s → IsLawfulPair v → IsLawfulMessage m → m.what ≡ w → Lawfully (board_took s m v (board.takes v.board w))
+board_what s m v (what.User code channel body links) h pair message is =
+    let t = board.takes_request v.board body.items links.items in
+    record {
+      state =
+          record {
+            processes = h.processes;
+            inbox = h.inbox;
+            servers =
+                record {
+                  board = board_after (Ok t.took) v.board t.board m code channel body links body.items links.items is refl refl tt pair.board message;
+                  manager = pair.manager;
+                };
+          };
+      parts = said (routes_lawfully t.took.answer (answer_after (Ok t.took) v.board t.board m code channel body links body.items links.items is refl refl pair.board message));
+    }
+board_what s m v w h pair message is = tt
+
+board_lawfully : (s : KernelState) (m : Message) (o : Option Servers) → IsLawfulState s → IfSome o IsLawfulPair → IsLawfulMessage m → Lawfully (board_handles s m o)
+board_lawfully s m None h pair message = tt
+board_lawfully s m (Some v) h pair message = board_what s m v m.what h pair message refl
+
+manager_what : (s : KernelState) (m : Message) (v : Servers) (o : Option manage.Taken) → IsLawfulState s → IsLawfulPair v → IsLawfulMessage m → manage.IsForManager v.manager m.id.n m.what
+    → manage.takes v.manager m.id.n m.what ≡ o → Lawfully (manager_took s m v o)
+manager_what s m v None h pair message fits e = tt
+manager_what s m v (Some t) h pair message fits e =
+    record {
+      state =
+          record {
+            processes = h.processes;
+            inbox = h.inbox;
+            servers =
+                record {
+                  board = pair.board;
+                  manager = manager_after (Ok t.message) v.manager t.manager m (heard v.manager m.id.n m.what fits) e tt pair.manager message;
+                };
+          };
+      parts = said (routes_lawfully t.message (message_after (Ok t.message) v.manager t.manager m (heard v.manager m.id.n m.what fits) e pair.manager message));
+    }
+
+manager_lawfully : (s : KernelState) (m : Message) (o : Option Servers) → IsLawfulState s → IfSome o IsLawfulPair → IsLawfulMessage m → FitsManager m o → Lawfully (manager_handles s m o)
+manager_lawfully s m None h pair message fits = tt
+manager_lawfully s m (Some v) h pair message fits = manager_what s m v (manage.takes v.manager m.id.n m.what) h pair message fits.0 refl
+
+-- a message
+handles_lawfully : (b : Boot) (s : KernelState) (m : Message) → s.here < 16 → images_are_valid b.images ≡ true → IsLawfulState s → MayHandle b s m → Lawfully (handles b s m)
+handles_lawfully b s m machine images h may =
+    if_lawfully (m.to.pid.num == 0) (kernel_handles b s m m.what) _
+    (λ is. kernel_lawfully b s m m.what machine images h may.lawful may.lawful.what (may.for_kernel is))
+    (λ no.
+    if_lawfully (pid_eq m.to.pid switchboard) (board_handles s m s.servers) _
+    (λ is. board_lawfully s m s.servers h h.servers may.lawful)
+    (λ nor.
+    if_lawfully (pid_eq m.to.pid manager) (manager_handles s m s.servers) (process_handles s m (s.records m.to.pid))
+    (λ is. manager_lawfully s m s.servers h h.servers may.lawful (may.for_manager is))
+    (λ none. known_lawfully s m (s.records m.to.pid) machine h may.lawful (may.for_process no nor none) refl)))
+
+-- without the message that is taken, and with the ring turned
+without_front : (s : KernelState) (m : Message) (rest : List Message) → s.inbox ≡ m ∷ rest → IsLawfulState s → IsLawfulState (record s { inbox = rest })
+without_front s m rest e h =
+    record { processes = h.processes; inbox = All-tail IsLawfulMessage m rest (subst (All IsLawfulMessage) e h.inbox); servers = h.servers }
+
+with_ring : (s : KernelState) (ring : List Pid) → IsLawfulState s → IsLawfulState (record s { ring = ring })
+with_ring s ring h = record { processes = h.processes; inbox = h.inbox; servers = h.servers }
+
+may_front : (b : Boot) (s : KernelState) (m : Message) (rest : List Message) → MayHandle b s m → MayHandle b (record s { inbox = rest }) m
+may_front b s m rest h =
+    record { lawful = h.lawful; for_kernel = h.for_kernel; for_board = h.for_board; for_manager = h.for_manager; for_process = h.for_process }
+
+round_lawfully : (b : Boot) (s : KernelState) (o : Option Pid) → s.here < 16 → IsLawfulState s → Lawfully (goes_round b s o)
+round_lawfully b s None machine h = record { state = h; parts = said none_said }
+round_lawfully b s (Some p) machine h =
+    serves_known b.quantum (record s { ring = moved_back p s.ring }) p (s.records p) machine (with_ring s (moved_back p s.ring) h) refl
+
+turns_lawfully : (b : Boot) (s : KernelState) (inbox : List Message) → s.inbox ≡ inbox → s.here < 16 → images_are_valid b.images ≡ true → IsLawfulState s → FrontMay b s inbox
+    → Lawfully (turns b s inbox)
+turns_lawfully b s [] e machine images h may = round_lawfully b s (first_runnable s.records s.ring) machine h
+turns_lawfully b s (m ∷ rest) e machine images h may =
+    handles_lawfully b (record s { inbox = rest }) m machine images (without_front s m rest e h) (may_front b s m rest may)
+
+some_lawfully : (o : Option Turned) (t : Turned) → o ≡ Some t → Lawfully o → IsLawfulTurned t
+some_lawfully None t e h = absurd (cc)
+some_lawfully (Some u) t e h = let same : u ≡ t = cc in subst IsLawfulTurned same h
+
+pub turn_lawful : (b : Boot) (s : KernelState) (t : Turned) → images_are_valid b.images ≡ true → MayTurn b s → IsLawfulState s → turn b s ≡ Some t → IsLawfulTurned t
+turn_lawful b s t images may h e = some_lawfully (turn b s) t e (turns_lawfully b s s.inbox refl may.here images h may.front)

@@ -1,0 +1,12 @@
+use Rattle.std.proofs.Common.{◌≡◌, drop}
+use Rattle.dm_kernel.specs.Begun.{opened, with_all}
+use Rattle.dm_kernel.specs.Meets.{state_of}
+use Rattle.dm_kernel.proofs.Opening.{HasRoomFor}
+use Rattle.dm_kernel.proofs.kernel.Kernel.new.Given as goal
+
+abbrev pub invariant-loop-process : goal.invariant-loop-process
+invariant-loop-process l =
+    record {
+      opens : with_all l.boot (state_of l.kernel) (drop l.process-index l.process-items) ≡ opened l.boot l.here;
+      room : HasRoomFor l.boot l.here (state_of l.kernel) (drop l.process-index l.process-items);
+    }

@@ -1,0 +1,66 @@
+-- A machine as the boot file has it, and the processes that begin on it.
+use Rattle.std.specs.Prelude.{ℕ, ◌+◌, ◌==◌, if◌then◌else◌, List, [], ◌∷◌, ◌++◌, slice_get}
+use Rattle.std.specs.declared.option.Option.{Option}
+use Rattle.std.specs.declared.option.Option.TheVariants.{None, Some}
+use Rattle.dm_link.specs.declared.Link.{Link}
+use Rattle.dm_link.specs.declared.Pid.{Pid}
+use Rattle.dm_process.specs.declared.process.Process.{Process}
+use Rattle.dm_process.specs.Begun.{begun}
+use Rattle.dm_room.specs.Room.{Taken, untaken, with_reserved}
+use Rattle.dm_forward.specs.declared.record.Record.TheVariants.{Here}
+use Rattle.dm_forward.specs.Records.{with_record}
+use Rattle.dm_procman.specs.Managing.{starting}
+use Rattle.dm_onekernel.specs.declared.boot.BootMachine.{BootMachine}
+use Rattle.dm_onekernel.specs.declared.boot.BootImage.{BootImage}
+use Rattle.dm_onekernel.specs.declared.boot.BootProcess.{BootProcess}
+use Rattle.dm_onekernel.specs.declared.boot.Boot.{Boot}
+use Rattle.dm_onekernel.specs.Boot.{slots_of}
+use Rattle.dm_onekernel.specs.Start.{memory_of, slots_with}
+use Rattle.dm_kernel.specs.declared.kernel.Servers.{Servers}
+use Rattle.dm_kernel.specs.State.{KernelState}
+
+-- a process of this image with these links from slot 0 on, which hasn't executed anything yet
+abbrev pub child_of : Boot → Pid → BootImage → List Link → Process
+child_of b p i links = begun p (memory_of i) (slots_with (slots_of b.format) links)
+
+-- it stands at the ring's back, and takes a slot and its blocks
+abbrev pub with_child : KernelState → Pid → Process → ℕ → KernelState
+with_child s child x blocks =
+    record s {
+      records = with_record s.records child (Here x);
+      ring = s.ring ++ child ∷ [];
+      made = s.made + 1;
+      room = with_reserved s.room blocks;
+    }
+
+-- the processes of the boot file, those whose home the machine is
+abbrev pub begins : Boot → KernelState → BootProcess → Option BootImage → KernelState
+begins b s p None = s
+begins b s p (Some i) = if p.pid.home == s.here then with_child s p.pid (child_of b p.pid i p.links) i.blocks else s
+
+abbrev pub with_all : Boot → KernelState → List BootProcess → KernelState
+with_all b s [] = s
+with_all b s (p ∷ ps) = with_all b (begins b s p (slice_get b.images p.image)) ps
+
+abbrev pub room_of : Option BootMachine → Taken
+room_of None = untaken 0 0
+room_of (Some r) = untaken r.slots r.blocks
+
+-- the servers are on machine 0
+abbrev pub servers_of : Boot → ℕ → Option Servers
+servers_of b m = if m == 0 then Some (record { board = record { names = []; sent = 0 }; manager = starting b }) else None
+
+abbrev pub empty : Boot → ℕ → KernelState
+empty b m =
+    record {
+      here = m;
+      records = λ p. None;
+      ring = [];
+      inbox = [];
+      made = 0;
+      room = room_of (slice_get b.machines m);
+      servers = servers_of b m;
+    }
+
+abbrev pub opened : Boot → ℕ → KernelState
+opened b m = with_all b (empty b m) b.processes

@@ -1,0 +1,40 @@
+-- The kernel of the code, over the plain one.
+use Rattle.std.specs.Prelude.{◌≡◌, ⊤, ℕ, List, Vec}
+use Rattle.std.specs.declared.alloc.Global.{Global}
+use Rattle.std.specs.declared.option.Option.{Option}
+use Rattle.std.specs.declared.option.Option.TheVariants.{None, Some}
+use Rattle.std.specs.declared.result.Result.{Result}
+use Rattle.std.specs.declared.result.Result.TheVariants.{Ok, Err}
+use Rattle.dm_link.specs.declared.Pid.{Pid}
+use Rattle.dm_memory.specs.declared.NoMemory.{NoMemory}
+use Rattle.dm_forward.specs.Records.{at}
+use Rattle.dm_kernel.specs.declared.kernel.Kernel.{Kernel}
+use Rattle.dm_kernel.specs.declared.part.Part.{Part}
+use Rattle.dm_kernel.specs.State.{KernelState, Turned}
+
+abbrev pub state_of : Kernel → KernelState
+state_of k = record { here = k.here; records = at k.records; ring = k.ring; inbox = k.inbox; made = k.made; room = k.room; servers = k.servers }
+
+-- the kernel is in this state
+pub record IsIn (k : Kernel) (s : KernelState) : Type 0 where
+  pub here : k.here ≡ s.here
+  pub records : (q : Pid) → at k.records q ≡ s.records q
+  pub ring : k.ring ≡ s.ring
+  pub inbox : k.inbox ≡ s.inbox
+  pub made : k.made ≡ s.made
+  pub room : k.room ≡ s.room
+  pub servers : k.servers ≡ s.servers
+
+-- the kernel and the parts are these
+pub record Meets (k : Kernel) (said : List Part) (t : Turned) : Type 0 where
+  pub state : IsIn k t.state
+  pub parts : said ≡ t.parts
+
+abbrev pub MeetsSome : Kernel → List Part → Option Turned → Type 0
+MeetsSome k said None = ⊥
+MeetsSome k said (Some t) = Meets k said t
+
+-- the code does this, or has no memory
+abbrev pub Answers : Result (Vec Part Global) NoMemory → Kernel → Option Turned → Type 0
+Answers (Ok parts) k t = MeetsSome k parts.items t
+Answers (Err e) k t = ⊤

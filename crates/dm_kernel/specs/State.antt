@@ -1,0 +1,71 @@
+-- The kernel of one machine over plain functions and lists, and what an event gives.
+use Rattle.std.specs.Prelude.{ℕ, ◌/◌, List, [], ◌∷◌, ◌++◌, length, map}
+use Rattle.std.specs.declared.option.Option.{Option}
+use Rattle.std.specs.declared.option.Option.TheVariants.{None, Some}
+use Rattle.dm_link.specs.declared.Pid.{Pid}
+use Rattle.dm_message.specs.declared.Message.{Message}
+use Rattle.dm_process.specs.declared.process.Process.{Process}
+use Rattle.dm_room.specs.Room.{Taken, with_released}
+use Rattle.dm_forward.specs.declared.record.Record as record_
+use Rattle.dm_forward.specs.declared.record.Record.TheVariants.{Here, Ended}
+use Rattle.dm_forward.specs.Records.{with_record}
+use Rattle.dm_migrate.specs.Departure.{Departure}
+use Rattle.dm_migrate.specs.Arrival.{Arrival}
+use Rattle.dm_onekernel.specs.declared.label.Label.{Label}
+use Rattle.dm_onekernel.specs.declared.label.Label.TheVariants as label
+use Rattle.dm_onekernel.specs.declared.label.Why.{Why}
+use Rattle.dm_rule.specs.declared.line.Line.{Line}
+use Rattle.dm_rule.specs.declared.line.Line.TheVariants as line
+use Rattle.dm_rule.specs.Sets.{without}
+use Rattle.dm_kernel.specs.declared.kernel.Servers.{Servers}
+use Rattle.dm_kernel.specs.declared.part.Part.{Part}
+use Rattle.dm_kernel.specs.declared.part.Part.TheVariants.{Says, Routes}
+
+-- what a machine knows of a process
+abbrev pub Known : Type 0
+Known = record_.Record Process Departure Arrival Why
+
+pub record KernelState : Type 0 where
+  pub here : ℕ
+  pub records : Pid → Option Known
+  -- the processes that are served, in order
+  pub ring : List Pid
+  -- the messages that have come and wait to be handled
+  pub inbox : List Message
+  -- how many processes were made here
+  pub made : ℕ
+  pub room : Taken
+  pub servers : Option Servers
+
+-- a kernel after an event, and what it says and routes, in order
+pub record Turned : Type 0 where
+  pub state : KernelState
+  pub parts : List Part
+
+abbrev pub turned : KernelState → List Part → Option Turned
+turned s parts = Some (record { state = s; parts = parts })
+
+abbrev pub says : Label → Part
+says l = Says (line.Label l)
+
+abbrev pub with_here : KernelState → Pid → Process → KernelState
+with_here s p x = record s { records = with_record s.records p (Here x) }
+
+-- the blocks of a process's memory
+abbrev pub blocks_of : Process → ℕ
+blocks_of x = length x.memory / 256
+
+-- a process that ends leaves the ring, its slot and its blocks, and its queue goes message by message
+abbrev pub dropped : Message → Part
+dropped m = says (label.Dropped m.id)
+
+abbrev pub drops : List Message → List Part
+drops ms = map dropped ms
+
+abbrev pub without_process : KernelState → Pid → Process → Why → KernelState
+without_process s p x y =
+    record s {
+      records = with_record s.records p (Ended y);
+      ring = without p s.ring;
+      room = with_released s.room (blocks_of x);
+    }

@@ -1,0 +1,89 @@
+//! A machine as the boot file has it.
+ghost use Rattle.std.specs.Prelude.{◌≡◌, ◌<◌, ◌≤◌, IfOk, OnOk, length, slice_get, true};
+ghost use Rattle.dm_onekernel.specs.Boot.{IsValid, blocks_of_image, images_are_valid, slots_of};
+ghost use Rattle.dm_room.specs.Room.{HasRoom};
+ghost use Rattle.dm_kernel.specs.Begun.{begins, empty, opened, servers_of};
+ghost use Rattle.dm_kernel.specs.Meets.{IsIn, state_of};
+
+use crate::kernel::{Kernel, Servers};
+use crate::make::{child_of, image_of};
+use dm_forward::Records;
+use dm_lists::Queue;
+use dm_memory::NoMemory;
+use dm_onekernel::{Boot, BootProcess};
+use dm_procman::ProcMan;
+use dm_room::Room;
+use dm_switchboard::Switchboard;
+use std::alloc::Global;
+
+impl Kernel {
+    /// The kernel of a machine of the boot file, with the processes whose home it is; machine 0 has the servers.
+    pub fn new(alloc: Global, boot: &Boot, here: u8) -> Result<Kernel, NoMemory>
+        requires valid { IsValid boot.now }
+        requires here { here < length boot.now.machines }
+        ensures { IfOk result (λ k. IsIn k (opened boot.now here)) }
+    {
+        let mut kernel = Kernel::empty(alloc, boot, here)?;
+        for process in boot.processes.as_slice() {
+            kernel.begin(boot, process)?;
+        }
+        Ok(kernel)
+    }
+
+    /// The kernel of a machine of the boot file, without any process.
+    fn empty(alloc: Global, boot: &Boot, here: u8) -> Result<Kernel, NoMemory>
+        requires valid { IsValid boot.now }
+        requires here { here < length boot.now.machines }
+        ensures { IfOk result (λ k. IsIn k (empty boot.now here)) }
+    {
+        let machine = &boot.machines.as_slice()[usize::from(here)];
+        Ok(Kernel {
+            alloc,
+            here,
+            records: Records::new(alloc),
+            ring: Queue::new(alloc),
+            inbox: Queue::new(alloc),
+            made: 0,
+            room: Room::new(machine.slots, machine.blocks),
+            servers: servers_of(alloc, boot, here)?,
+        })
+    }
+
+    /// Begins a process of the boot file, if this is its home.
+    fn begin(&mut self, boot: &Boot, process: &BootProcess) -> Result<(), NoMemory>
+        requires images { images_are_valid boot.now.images ≡ true }
+        requires image { process.now.image < length boot.now.images }
+        requires links { length process.now.links ≤ slots_of boot.now.format }
+        requires room { process.now.pid.home ≡ self.old.here → HasRoom self.old.room (blocks_of_image (slice_get boot.now.images process.now.image)) }
+        requires counts { self.old.made < 4294967295 }
+        ensures { OnOk result (IsIn self.new (begins boot.now (state_of self.old) process.now (slice_get boot.now.images process.now.image))) }
+    {
+        if process.pid.home != self.here {
+            return Ok(());
+        }
+        let image = image_of(boot, process.image);
+        self.room.reserve(image.blocks).unwrap();
+        let child = child_of(
+            self.alloc,
+            boot,
+            process.pid,
+            image,
+            process.links.as_slice(),
+        )?;
+        self.stand(process.pid, child)
+    }
+}
+
+/// The servers, which are on machine 0.
+fn servers_of(alloc: Global, boot: &Boot, here: u8) -> Result<Option<Servers>, NoMemory>
+    requires { IsValid boot.now }
+    ensures { IfOk result (λ servers. servers ≡ servers_of boot.now here) }
+{
+    if here != 0 {
+        return Ok(None);
+    }
+    Ok(Some(Servers {
+        board: Switchboard::new(alloc),
+        manager: ProcMan::new(alloc, boot)?,
+    }))
+}

@@ -1,0 +1,103 @@
+//! How a message is handled: by its receiver, by what is known of that, and by its kind.
+ghost use Rattle.std.specs.Prelude.{◌≡◌, ◌<◌, Some, true};
+ghost use Rattle.dm_forward.specs.Records.{at, here_of};
+ghost use Rattle.dm_forward.specs.declared.record.Record.TheVariants.{Here};
+ghost use Rattle.dm_message.specs.Lawful.{IsLawfulMessage};
+ghost use Rattle.dm_onekernel.specs.Boot.{images_are_valid};
+ghost use Rattle.dm_onekernel.specs.Options.{bind};
+ghost use Rattle.dm_kernel.specs.Handle.{ended_handles, handles, here_handles, process_handles};
+ghost use Rattle.dm_kernel.specs.May.{FitsEnded, FitsKnown, MayAct, MayHandle};
+ghost use Rattle.dm_kernel.specs.Meets.{Answers, state_of};
+ghost use Rattle.dm_kernel.specs.Served.{Handles, IsHere};
+
+use crate::kernel::Kernel;
+use crate::part::Part;
+use dm_forward::Record;
+use dm_link::Pid;
+use dm_memory::NoMemory;
+use dm_message::{Message, What};
+use dm_onekernel::Boot;
+
+/// The servers.
+const SWITCHBOARD: Pid = Pid { home: 0, num: 1 };
+
+const MANAGER: Pid = Pid { home: 0, num: 2 };
+
+impl Kernel {
+    /// Handles a message for the machine's kernel, a server or a process.
+    pub(crate) fn handle(&mut self, boot: &Boot, message: Message) -> Result<Vec<Part>, NoMemory>
+        requires may { MayHandle boot.now (state_of self.old) message }
+        requires images { images_are_valid boot.now.images ≡ true }
+        requires here { self.old.here < 16 }
+        requires processes { (p : _) (x : _) → at self.old.records p ≡ Some (Here x) → MayAct (state_of self.old) p x }
+        ensures { Answers result self.new (handles boot.now (state_of self.old) message) }
+    {
+        let to = message.to.pid;
+        if to.num == 0 {
+            self.for_kernel(boot, &message)
+        } else if to == SWITCHBOARD {
+            self.for_board(&message)
+        } else if to == MANAGER {
+            self.for_manager(&message)
+        } else {
+            self.for_process(message)
+        }
+    }
+
+    /// Handles a message for a process.
+    fn for_process(&mut self, message: Message) -> Result<Vec<Part>, NoMemory>
+        requires lawful { IsLawfulMessage message }
+        requires here { self.old.here < 16 }
+        requires fits { FitsKnown message (at self.old.records message.to.pid) }
+        requires acts { (x : _) → at self.old.records message.to.pid ≡ Some (Here x) → MayAct (state_of self.old) message.to.pid x }
+        ensures { Answers result self.new (process_handles (state_of self.old) message (at self.old.records message.to.pid)) }
+    {
+        match self.records.borrow(message.to.pid) {
+            Record::Here(_) => self.for_here(message),
+            Record::Ended(_) => self.for_ended(&message),
+            _ => unreachable!(),
+        }
+    }
+
+    /// Handles a message for a process that is here.
+    fn for_here(&mut self, message: Message) -> Result<Vec<Part>, NoMemory>
+        requires lawful { IsLawfulMessage message }
+        requires here { self.old.here < 16 }
+        requires process { IsHere (Handles (state_of self.old) message) (at self.old.records message.to.pid) }
+        ensures { Answers result self.new (bind (here_of (at self.old.records message.to.pid)) (λ x. here_handles (state_of self.old) message x message.what)) }
+    {
+        match &message.what {
+            What::User { .. } => self.queue(message),
+            What::Stop => self.set_stopped(&message, true),
+            What::Resume => self.set_stopped(&message, false),
+            What::Kill => self.kill(&message),
+            What::Read { .. } => self.answer_piece(&message),
+            What::Write { .. } => self.answer_piece(&message),
+            What::Block { .. } => self.land_piece(&message),
+            What::Written => self.land_piece(&message),
+            What::Gone => self.land_piece(&message),
+            _ => unreachable!(),
+        }
+    }
+
+    /// Handles a message for a process that has ended here.
+    fn for_ended(&self, message: &Message) -> Result<Vec<Part>, NoMemory>
+        requires lawful { IsLawfulMessage message.now }
+        requires here { self.now.here < 16 }
+        requires fits { FitsEnded message.now.what }
+        ensures { Answers result self.now (ended_handles (state_of self.now) message.now message.now.what) }
+    {
+        match &message.what {
+            What::Read { .. } => self.answer_gone(message),
+            What::Write { .. } => self.answer_gone(message),
+            What::User { .. } => self.drop_message(message),
+            What::Stop => self.drop_message(message),
+            What::Resume => self.drop_message(message),
+            What::Kill => self.drop_message(message),
+            What::Block { .. } => self.drop_message(message),
+            What::Written => self.drop_message(message),
+            What::Gone => self.drop_message(message),
+            _ => unreachable!(),
+        }
+    }
+}

@@ -1,0 +1,39 @@
+//! The kernel of a machine.
+use dm_forward::Records;
+use dm_link::Pid;
+use dm_lists::Queue;
+use dm_message::Message;
+use dm_migrate::{Arriving, Leaving};
+use dm_onekernel::Why;
+use dm_process::Process;
+use dm_procman::ProcMan;
+use dm_room::Room;
+use dm_switchboard::Switchboard;
+use std::alloc::Global;
+
+/// The kernel of a machine.
+#[derive(Drop)]
+pub struct Kernel {
+    pub alloc: Global,
+    /// The machine's number, 0 to 15.
+    pub here: u8,
+    /// What is known of each process.
+    pub records: Records<Process, Leaving, Arriving, Why>,
+    /// The processes that are here, in the order in which they are served.
+    pub ring: Queue<Pid>,
+    /// The messages that have come and wait to be handled.
+    pub inbox: Queue<Message>,
+    /// How many processes were made here.
+    pub made: u32,
+    /// The slots and blocks.
+    pub room: Room,
+    /// The servers, on machine 0.
+    pub servers: Option<Servers>,
+}
+
+/// The switchboard and the process manager (1977).
+#[derive(Drop)]
+pub struct Servers {
+    pub board: Switchboard,
+    pub manager: ProcMan,
+}

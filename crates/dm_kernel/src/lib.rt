@@ -1,0 +1,25 @@
+//! The kernel of one machine: its processes and its servers, and what a turn does to them. It says lines and routes
+//! messages; how messages come to other machines is not its part.
+#![tactic(auto)]
+
+mod begin;
+mod handle;
+pub mod kernel;
+mod law;
+mod leave;
+mod make;
+pub mod part;
+mod ring;
+pub mod run;
+mod serve;
+mod servers;
+mod service;
+mod turn;
+
+pub use dm_memory::NoMemory;
+pub use kernel::{Kernel, Servers};
+pub use law::{machines_open_lawfully, turns_are_lawful};
+pub use part::Part;
+
+#[cfg(test)]
+mod tests;

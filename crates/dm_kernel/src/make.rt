@@ -1,0 +1,169 @@
+//! How a process is made of an image.
+ghost use Rattle.std.specs.Prelude.{◌≡◌, ◌+◌, ◌<◌, ◌≤◌, ◌⊎◌, [], ◌∷◌, ◌++◌, IfOk, OnOk, Some, length, slice_get, true};
+ghost use Rattle.dm_forward.specs.Records.{at, with_record};
+ghost use Rattle.dm_forward.specs.declared.record.Record.TheVariants.{Here};
+ghost use Rattle.dm_message.specs.Lawful.{IsLawfulMessage};
+ghost use Rattle.dm_onekernel.specs.Boot.{image_is_valid, images_are_valid, slots_of};
+ghost use Rattle.dm_onekernel.specs.Start.{slots_with};
+ghost use Rattle.dm_datamove.specs.Serving.{answer};
+ghost use Rattle.dm_message.specs.declared.What.TheVariants as what_;
+ghost use Rattle.dm_onekernel.specs.declared.label.Label.TheVariants as label_;
+ghost use Rattle.dm_kernel.specs.Begun.{child_of};
+ghost use Rattle.dm_kernel.specs.Handle.{has_room, kernel_handles, makes, next_pid};
+ghost use Rattle.dm_kernel.specs.May.{FitsKernel};
+ghost use Rattle.dm_kernel.specs.Meets.{Answers, IsIn, state_of};
+ghost use Rattle.dm_kernel.specs.State.{says};
+
+use crate::kernel::Kernel;
+use crate::part::Part;
+use dm_datamove::answer;
+use dm_forward::Record;
+use dm_link::{Link, Pid};
+use dm_linktable::Table;
+use dm_memory::NoMemory;
+use dm_message::{Message, What};
+use dm_onekernel::{Boot, BootImage, Label};
+use dm_process::Process;
+use dm_room::Lacks;
+use dm_rule::line::Line;
+use std::alloc::Global;
+
+/// The number of a machine's first process.
+const FIRST_NUMBER: u32 = 3;
+
+impl Kernel {
+    /// Handles a message for the machine's kernel: it makes a process.
+    pub(crate) fn for_kernel(
+        &mut self,
+        boot: &Boot,
+        message: &Message,
+    ) -> Result<Vec<Part>, NoMemory>
+        requires lawful { IsLawfulMessage message.now }
+        requires images { images_are_valid boot.now.images ≡ true }
+        requires fits { FitsKernel boot.now (state_of self.old) message.now.what }
+        ensures { Answers result self.new (kernel_handles boot.now (state_of self.old) message.now message.now.what) }
+    {
+        match &message.what {
+            What::Create { image, links } => {
+                self.make(boot, message, image_of(boot, *image), links.as_slice())
+            }
+            _ => unreachable!(),
+        }
+    }
+
+    /// Makes a process of an image with links, as a message asks, or says what is free.
+    fn make(
+        &mut self,
+        boot: &Boot,
+        message: &Message,
+        image: &BootImage,
+        links: &[Link],
+    ) -> Result<Vec<Part>, NoMemory>
+        requires image { image_is_valid image.now ≡ true }
+        requires links { length links.now ≤ 3 }
+        requires counts { 3 + self.old.made < 4294967295 }
+        ensures { Answers result self.new (makes boot.now (state_of self.old) message.now links.now image.now (has_room self.old.room image.now.blocks)) }
+    {
+        match self.room.reserve(image.blocks) {
+            Ok(()) => {
+                let pid = self.next_pid();
+                self.stand(pid, child_of(self.alloc, boot, pid, image, links)?)?;
+                self.made(message, pid)
+            }
+            Err(lacks) => self.no_space(message, lacks),
+        }
+    }
+
+    /// The name of the next process that is made here.
+    fn next_pid(&self) -> Pid
+        requires { 3 + self.now.made < 4294967295 }
+        ensures { result ≡ next_pid (state_of self.now) }
+    {
+        Pid {
+            home: self.here,
+            num: FIRST_NUMBER + self.made,
+        }
+    }
+
+    /// Puts a process that begins into the records and at the ring's back, and counts it.
+    pub(crate) fn stand(&mut self, pid: Pid, process: Process) -> Result<(), NoMemory>
+        requires { self.old.made < 4294967295 }
+        ensures { OnOk result (IsIn self.new (record (state_of self.old) { records = with_record (at self.old.records) pid (Here process); ring = self.old.ring ++ pid ∷ []; made = self.old.made + 1 })) }
+    {
+        self.ring.push(pid)?;
+        if let Err((_, fault)) = self.records.set(pid, Record::Here(process)) {
+            return Err(fault);
+        }
+        self.made += 1;
+        Ok(())
+    }
+
+    /// What is said of a process that is made, and the answer to who asked for it.
+    fn made(&self, message: &Message, pid: Pid) -> Result<Vec<Part>, NoMemory>
+        ensures { IfOk result (λ parts. parts.items ≡ says (label_.Created message.now.id pid) ∷ Part.Routes (answer self.now.here 0 message.now (what_.Created pid)) ∷ []) }
+    {
+        let said = Line::Label(Label::Created {
+            id: message.id,
+            pid,
+        });
+        let answer = answer(message, self.here, 0, What::Created { pid });
+        Ok(vec![in self.alloc; Part::Says(said), Part::Routes(answer)]?)
+    }
+
+    /// What is said where there is no room, and the answer to who asked.
+    fn no_space(&self, message: &Message, lacks: Lacks) -> Result<Vec<Part>, NoMemory>
+        ensures { IfOk result (λ parts. parts.items ≡ says (label_.NoSpace message.now.id lacks.free_slots lacks.free_blocks) ∷ Part.Routes (answer self.now.here 0 message.now what_.NoRoom) ∷ []) }
+    {
+        let Lacks {
+            free_slots,
+            free_blocks,
+        } = lacks;
+        let said = Line::Label(Label::NoSpace {
+            id: message.id,
+            free_slots,
+            free_blocks,
+        });
+        let answer = answer(message, self.here, 0, What::NoRoom);
+        Ok(vec![in self.alloc; Part::Says(said), Part::Routes(answer)]?)
+    }
+}
+
+/// A process of an image with these links from slot 0 on, which hasn't executed anything yet.
+pub(crate) fn child_of(
+    alloc: Global,
+    boot: &Boot,
+    pid: Pid,
+    image: &BootImage,
+    links: &[Link],
+) -> Result<Process, NoMemory>
+    requires image { image_is_valid image.now ≡ true }
+    requires links { length links.now ≤ slots_of boot.now.format }
+    ensures { IfOk result (λ x. x ≡ child_of boot.now pid image.now links.now) }
+{
+    let table = table_of(links, boot.format.slots());
+    let bytes = image.bytes.as_slice();
+    Ok(Process::new(alloc, pid, bytes, image.blocks, table)?)
+}
+
+/// An image of the boot file, by its place.
+pub(crate) fn image_of(boot: &Boot, place: u16) -> &BootImage
+    requires images { images_are_valid boot.now.images ≡ true }
+    requires image { place < length boot.now.images }
+    ensures at { slice_get boot.now.images place ≡ Some result.now }
+    ensures fits { image_is_valid result.now ≡ true }
+{
+    &boot.images.as_slice()[usize::from(place)]
+}
+
+/// A table with these links from slot 0 on.
+fn table_of(links: &[Link], slots: u8) -> Table
+    requires slots { (slots ≡ 32) ⊎ (slots ≡ 128) }
+    requires fits { length links.now ≤ slots }
+    ensures { result ≡ slots_with slots links.now }
+{
+    let mut table = Table::new(slots);
+    for link in links {
+        table.put(*link).unwrap();
+    }
+    table
+}

@@ -1,0 +1,12 @@
+//! What an event of a machine comes to, part by part.
+use dm_message::Message;
+use dm_rule::line::Line;
+
+/// A part of what an event of a machine comes to.
+#[derive(Drop)]
+pub enum Part {
+    /// A printed line.
+    Says(Line),
+    /// A message goes to the machine that its receiver's address names.
+    Routes(Message),
+}

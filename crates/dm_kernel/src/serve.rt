@@ -1,0 +1,134 @@
+//! How a process is served: it executes, or takes a message that it waits for.
+ghost use Rattle.std.specs.Prelude.{◌≡◌, ◌<◌, [], ◌∷◌, IfOk};
+ghost use Rattle.dm_forward.specs.Records.{at, here_of};
+ghost use Rattle.dm_onekernel.specs.Options.{bind};
+ghost use Rattle.dm_onekernel.specs.declared.label.Label.TheVariants as label_;
+ghost use Rattle.dm_process.specs.Mail.{first_on};
+ghost use Rattle.dm_kernel.specs.Meets.{Answers, state_of};
+ghost use Rattle.dm_kernel.specs.Serve.{called_with, completed_label, executes, processor_of, ran, receives, serves};
+ghost use Rattle.dm_kernel.specs.Served.{Executes, HasPlace, IsHere, Receives, Serves};
+ghost use Rattle.dm_kernel.specs.State.{says};
+
+use crate::kernel::Kernel;
+use crate::part::Part;
+use crate::run::{Halt, execute};
+use dm_forward::Record;
+use dm_link::Pid;
+use dm_memory::NoMemory;
+use dm_message::{Message, MsgId};
+use dm_onekernel::{Label, Why};
+use dm_process::Status;
+use dm_rule::line::Line;
+use dm_syscall::{Called, Completed, call, complete_receive};
+
+impl Kernel {
+    /// Serves a process that can be served: it executes, or takes a message that it waits for.
+    pub(crate) fn serve(&mut self, pid: Pid, quantum: u32) -> Result<Vec<Part>, NoMemory>
+        requires here { self.old.here < 16 }
+        requires process { IsHere (Serves (state_of self.old) pid) (at self.old.records pid) }
+        ensures { Answers result self.new (serves quantum (state_of self.old) pid (at self.old.records pid)) }
+    {
+        match self.records.borrow(pid) {
+            Record::Here(process) => match process.status {
+                Status::Ready => self.run(pid, quantum),
+                Status::Waiting { mask, .. } => self.receive(pid, mask),
+                Status::Moving { .. } => unreachable!(),
+            },
+            _ => unreachable!(),
+        }
+    }
+
+    /// Lets a ready process execute.
+    fn run(&mut self, pid: Pid, quantum: u32) -> Result<Vec<Part>, NoMemory>
+        requires here { self.old.here < 16 }
+        requires process { IsHere (Executes (state_of self.old) pid) (at self.old.records pid) }
+        ensures { Answers result self.new (bind (here_of (at self.old.records pid)) (λ x. executes (state_of self.old) pid x (ran quantum (processor_of x)))) }
+    {
+        let here = self.here;
+        match self.records.here_mut(pid) {
+            Some(process) => {
+                let (count, halt) = execute(&mut process.regs, &mut process.memory, quantum);
+                match halt {
+                    Some(halt) => match halt {
+                        Halt::Call(number) => {
+                            let called = call(process, number, here);
+                            self.after_call(pid, count, number, called)
+                        }
+                        Halt::Fault(fault) => self.end(pid, count, Why::Fault(fault)),
+                    },
+                    None => self.say(Line::Label(Label::Ran { pid, count })),
+                }
+            }
+            None => unreachable!(),
+        }
+    }
+
+    /// What a call of a process, which is as the call left it, comes to for the machine.
+    fn after_call(
+        &mut self,
+        pid: Pid,
+        count: u32,
+        number: u8,
+        called: Called,
+    ) -> Result<Vec<Part>, NoMemory>
+        requires { IsHere (HasPlace (state_of self.old)) (at self.old.records pid) }
+        ensures { Answers result self.new (bind (here_of (at self.old.records pid)) (λ x. called_with (state_of self.old) pid count number x called)) }
+    {
+        match called {
+            Called::Replied(reply) => self.goes_on(pid, count, Label::Call { pid, number, reply }),
+            Called::Sent(message) => self.sends(pid, count, message),
+            Called::Moving(message) => self.sends(pid, count, message),
+            Called::Waits => self.goes_on(pid, count, Label::Wait { pid }),
+            Called::Out(word) => self.goes_on(pid, count, Label::Out { pid, word }),
+            Called::Ended(why) => self.end(pid, count, why),
+        }
+    }
+
+    /// What is said of a process that goes on after a call.
+    fn goes_on(&self, pid: Pid, count: u32, label: Label) -> Result<Vec<Part>, NoMemory>
+        ensures { IfOk result (λ parts. parts.items ≡ says (label_.Ran pid count) ∷ says label ∷ []) }
+    {
+        let ran = Line::Label(Label::Ran { pid, count });
+        Ok(vec![in self.alloc; Part::Says(ran), Part::Says(Line::Label(label))]?)
+    }
+
+    /// What is said of a process that has sent a message, which goes out.
+    fn sends(&self, pid: Pid, count: u32, message: Message) -> Result<Vec<Part>, NoMemory>
+        ensures { IfOk result (λ parts. parts.items ≡ says (label_.Ran pid count) ∷ says (label_.Send pid message.id) ∷ Part.Routes message ∷ []) }
+    {
+        let ran = Line::Label(Label::Ran { pid, count });
+        let sent = Line::Label(Label::Send {
+            pid,
+            id: message.id,
+        });
+        Ok(vec![in self.alloc; Part::Says(ran), Part::Says(sent), Part::Routes(message)]?)
+    }
+
+    /// Lets a process that waits take the first message on its mask, or refuses it one.
+    fn receive(&mut self, pid: Pid, mask: u32) -> Result<Vec<Part>, NoMemory>
+        requires { IsHere (Receives (state_of self.old) pid mask) (at self.old.records pid) }
+        ensures { Answers result self.new (bind (here_of (at self.old.records pid)) (λ x. receives (state_of self.old) pid x mask (first_on mask x.queue))) }
+    {
+        match self.records.here_mut(pid) {
+            Some(process) => match process.first_match(mask) {
+                Some(place) => {
+                    let id = process.queue.at(place).id;
+                    let completed = complete_receive(process, place);
+                    self.completed(pid, id, completed)
+                }
+                None => unreachable!(),
+            },
+            None => unreachable!(),
+        }
+    }
+
+    /// What is said of a receive that a message came to.
+    fn completed(&self, pid: Pid, id: MsgId, completed: Completed) -> Result<Vec<Part>, NoMemory>
+        ensures { IfOk result (λ parts. parts.items ≡ says (completed_label pid id completed) ∷ []) }
+    {
+        match completed {
+            Completed::Received(id) => self.say(Line::Label(Label::Receive { pid, id })),
+            Completed::Refused(reply) => self.say(Line::Label(Label::Refuse { pid, id, reply })),
+        }
+    }
+}

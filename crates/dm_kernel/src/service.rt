@@ -1,0 +1,136 @@
+//! What a machine's kernel does with a message for a process, a row a function.
+ghost use Rattle.std.specs.Prelude.{◌≡◌, ◌<◌, [], ◌∷◌, IfOk, IsSome};
+ghost use Rattle.dm_datamove.specs.Serving.{IsRequest};
+ghost use Rattle.dm_forward.specs.Records.{at, here_of};
+ghost use Rattle.dm_message.specs.Lawful.{IsLawfulMessage};
+ghost use Rattle.dm_onekernel.specs.Options.{bind};
+ghost use Rattle.dm_onekernel.specs.declared.label.Label.TheVariants as label_;
+ghost use Rattle.dm_datamove.specs.Landing.{landing};
+ghost use Rattle.dm_rule.specs.declared.line.Line.TheVariants as line_;
+ghost use Rattle.dm_kernel.specs.Handle.{answered, is_dropped, is_gone, killed, lands, queued, served_as};
+ghost use Rattle.dm_kernel.specs.Meets.{Answers, state_of};
+ghost use Rattle.dm_kernel.specs.Served.{AwaitsPiece, HasPlace, IsHere, OwnsPiece};
+ghost use Rattle.dm_kernel.specs.State.{says, turned, with_here};
+
+use crate::kernel::Kernel;
+use crate::leave::drop_all;
+use crate::part::Part;
+use dm_datamove::{Landed, gone, land, serve};
+use dm_memory::NoMemory;
+use dm_message::{Message, MsgId};
+use dm_onekernel::{Label, Why};
+use dm_rule::line::Line;
+
+impl Kernel {
+    /// Puts a message at the back of its receiver's queue.
+    pub(crate) fn queue(&mut self, message: Message) -> Result<Vec<Part>, NoMemory>
+        requires { IsSome (here_of (at self.old.records message.to.pid)) }
+        ensures { Answers result self.new (bind (here_of (at self.old.records message.to.pid)) (λ x. turned (with_here (state_of self.old) message.to.pid (queued x message)) (Part.Says (line_.Queued message.id) ∷ []))) }
+    {
+        let id = message.id;
+        match self.records.here_mut(message.to.pid) {
+            Some(process) => {
+                process.queue.push(message)?;
+                self.say(Line::Queued(id))
+            }
+            None => unreachable!(),
+        }
+    }
+
+    /// Stops a process, or lets it go on.
+    pub(crate) fn set_stopped(
+        &mut self,
+        message: &Message,
+        stopped: bool,
+    ) -> Result<Vec<Part>, NoMemory>
+        requires { IsSome (here_of (at self.old.records message.now.to.pid)) }
+        ensures { Answers result self.new (bind (here_of (at self.old.records message.now.to.pid)) (λ x. served_as (state_of self.old) message.now (record x { stopped = stopped }))) }
+    {
+        match self.records.here_mut(message.to.pid) {
+            Some(process) => {
+                process.stopped = stopped;
+                self.say_served(message.id)
+            }
+            None => unreachable!(),
+        }
+    }
+
+    /// Ends a process that is to be killed.
+    pub(crate) fn kill(&mut self, message: &Message) -> Result<Vec<Part>, NoMemory>
+        requires { IsHere (HasPlace (state_of self.old)) (at self.old.records message.now.to.pid) }
+        ensures { Answers result self.new (bind (here_of (at self.old.records message.now.to.pid)) (λ x. killed (state_of self.old) message.now x)) }
+    {
+        let mut parts = self.say_served(message.id)?;
+        let queue = self.take_out(message.to.pid, Why::Killed);
+        drop_all(queue, &mut parts)?;
+        Ok(parts)
+    }
+
+    /// Reads or writes a piece of a process's memory, and answers.
+    pub(crate) fn answer_piece(&mut self, message: &Message) -> Result<Vec<Part>, NoMemory>
+        requires lawful { IsLawfulMessage message.now }
+        requires here { self.old.here < 16 }
+        requires owner { IsHere (OwnsPiece message.now) (at self.old.records message.now.to.pid) }
+        ensures { Answers result self.new (bind (here_of (at self.old.records message.now.to.pid)) (λ x. answered (state_of self.old) message.now x)) }
+    {
+        let here = self.here;
+        match self.records.here_mut(message.to.pid) {
+            Some(process) => {
+                let answer = serve(process, message, here);
+                self.serve_and_route(message.id, answer)
+            }
+            None => unreachable!(),
+        }
+    }
+
+    /// Lands the answer to a piece at the process that asked for it, which may ask for the next one.
+    pub(crate) fn land_piece(&mut self, message: &Message) -> Result<Vec<Part>, NoMemory>
+        requires lawful { IsLawfulMessage message.now }
+        requires here { self.old.here < 16 }
+        requires mover { IsHere (AwaitsPiece message.now) (at self.old.records message.now.to.pid) }
+        ensures { Answers result self.new (bind (here_of (at self.old.records message.now.to.pid)) (λ x. lands (state_of self.old) message.now (landing self.old.here x message.now.what x.status))) }
+    {
+        let here = self.here;
+        match self.records.here_mut(message.to.pid) {
+            Some(process) => match land(process, message, here) {
+                Landed::Next(request) => self.serve_and_route(message.id, request),
+                Landed::Done(_) => self.say_served(message.id),
+            },
+            None => unreachable!(),
+        }
+    }
+
+    /// Answers a request for a piece of a process that has ended.
+    pub(crate) fn answer_gone(&self, message: &Message) -> Result<Vec<Part>, NoMemory>
+        requires lawful { IsLawfulMessage message.now }
+        requires here { self.now.here < 16 }
+        requires request { IsRequest message.now.what }
+        ensures { Answers result self.now (is_gone (state_of self.now) message.now) }
+    {
+        let answer = gone(message, self.here);
+        let said = Line::Label(Label::Gone { id: message.id });
+        Ok(vec![in self.alloc; Part::Says(said), Part::Routes(answer)]?)
+    }
+
+    /// Drops a message for a process that has ended.
+    pub(crate) fn drop_message(&self, message: &Message) -> Result<Vec<Part>, NoMemory>
+        ensures { Answers result self.now (is_dropped (state_of self.now) message.now) }
+    {
+        self.say(Line::Label(Label::Dropped { id: message.id }))
+    }
+
+    /// The one part of a turn that served a message.
+    fn say_served(&self, id: MsgId) -> Result<Vec<Part>, NoMemory>
+        ensures { IfOk result (λ parts. parts.items ≡ says (label_.Served id) ∷ []) }
+    {
+        self.say(Line::Label(Label::Served { id }))
+    }
+
+    /// The parts of a turn that served a message and sends one.
+    fn serve_and_route(&self, id: MsgId, message: Message) -> Result<Vec<Part>, NoMemory>
+        ensures { IfOk result (λ parts. parts.items ≡ says (label_.Served id) ∷ Part.Routes message ∷ []) }
+    {
+        let said = Line::Label(Label::Served { id });
+        Ok(vec![in self.alloc; Part::Says(said), Part::Routes(message)]?)
+    }
+}

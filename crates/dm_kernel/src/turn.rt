@@ -1,0 +1,86 @@
+//! A turn of the machine.
+ghost use Rattle.std.specs.Prelude.{◌≡◌, ◌<◌, [], ◌∷◌, IfOk, IfSome, Some, length, slice_get, true};
+ghost use Rattle.dm_forward.specs.Records.{at};
+ghost use Rattle.dm_forward.specs.declared.record.Record.TheVariants.{Here};
+ghost use Rattle.dm_onekernel.specs.Boot.{images_are_valid};
+ghost use Rattle.dm_onekernel.specs.Options.{bind};
+ghost use Rattle.dm_kernel.specs.May.{MayAct, MayTurn};
+ghost use Rattle.dm_kernel.specs.Meets.{Answers, state_of};
+ghost use Rattle.dm_kernel.specs.Turn.{first_runnable, goes_round, known_is_runnable, turn};
+
+use crate::kernel::Kernel;
+use crate::part::Part;
+use crate::ring::move_back;
+use dm_forward::Record;
+use dm_link::Pid;
+use dm_memory::NoMemory;
+use dm_onekernel::Boot;
+use dm_rule::line::Line;
+
+impl Kernel {
+    /// Takes a turn: handles the message at the inbox's front, or serves the first process of the ring that can be
+    /// served, or is idle. Answers what it says and routes, in order.
+    pub fn turn(&mut self, boot: &Boot) -> Result<Vec<Part>, NoMemory>
+        requires may { MayTurn boot.now (state_of self.old) }
+        requires images { images_are_valid boot.now.images ≡ true }
+        ensures { Answers result self.new (turn boot.now (state_of self.old)) }
+    {
+        match self.inbox.pop() {
+            Some(message) => self.handle(boot, message),
+            None => self.go_round(boot),
+        }
+    }
+
+    /// Serves the first process of the ring that can be served, which goes to the ring's back.
+    fn go_round(&mut self, boot: &Boot) -> Result<Vec<Part>, NoMemory>
+        requires here { self.old.here < 16 }
+        requires processes { (p : _) (x : _) → at self.old.records p ≡ Some (Here x) → MayAct (state_of self.old) p x }
+        ensures { Answers result self.new (goes_round boot.now (state_of self.old) (first_runnable (at self.old.records) self.old.ring)) }
+    {
+        match self.first_runnable() {
+            Some(place) => {
+                let pid = *self.ring.at(place);
+                move_back(&mut self.ring, place);
+                self.serve(pid, boot.quantum)
+            }
+            None => self.say(Line::Idle(self.here)),
+        }
+    }
+
+    /// The place in the ring of the first process that can be served.
+    fn first_runnable(&self) -> Option<usize>
+        ensures within { IfSome result (λ i. i < length self.now.ring) }
+        ensures first { bind result (λ i. slice_get self.now.ring i) ≡ first_runnable (at self.now.records) self.now.ring }
+        ensures runnable { IfSome result (λ i. IfSome (slice_get self.now.ring i) (λ p. known_is_runnable (at self.now.records p) ≡ true)) }
+    {
+        for place in 0..self.ring.len() {
+            if self.is_runnable(*self.ring.at(place)) {
+                return Some(place);
+            }
+        }
+        None
+    }
+
+    /// Whether a process is here and can be served.
+    fn is_runnable(&self, pid: Pid) -> bool
+        ensures { result ≡ known_is_runnable (at self.now.records pid) }
+    {
+        match self.records.get(pid) {
+            Some(entry) => match entry {
+                Record::Here(process) => process.runnable(),
+                Record::Frozen(_) => false,
+                Record::Incoming(_) => false,
+                Record::Forward { .. } => false,
+                Record::Ended(_) => false,
+            },
+            None => false,
+        }
+    }
+
+    /// The one part of a turn that says one line.
+    pub(crate) fn say(&self, line: Line) -> Result<Vec<Part>, NoMemory>
+        ensures { IfOk result (λ parts. parts.items ≡ Part.Says line ∷ []) }
+    {
+        Ok(vec![in self.alloc; Part::Says(line)]?)
+    }
+}
