@@ -1,12 +1,13 @@
 -- The counts of a stream are in order, and what was sent has numbers within them.
-use Rattle.std.proofs.Common.{◌≡◌, ℕ, ◌+◌, ◌<◌, ◌≤◌, length, slice_get, Some, arith}
+use Rattle.std.proofs.Common.{◌≡◌, ℕ, ◌+◌, ◌<◌, ◌≤◌, length, Some, arith}
 use Rattle.std.proofs.lemmas.Bool.Decides.{nat_tests}
 use Rattle.std.proofs.lemmas.Grind.{common_steps}
 use Rattle.std.proofs.lemmas.Option.{slice_get_within}
 use Rattle.dm_stream.specs.Sending.{given_count, window}
 use Rattle.dm_stream.specs.Receiving.{place}
+use Rattle.dm_stream.specs.Packets.{Data, Ack, load_at}
 use Rattle.dm_stream.specs.Stream.{Stream, Event, happens}
-use Rattle.dm_stream.proofs.Lists.{get-pushed}
+use Rattle.dm_stream.proofs.Packets.{load-pushed, load-marked}
 use Rattle.dm_stream.proofs.Places.{place-moved_up, place-kept_same, place-kept_other}
 
 module _ {M : Type 0} where
@@ -20,8 +21,8 @@ module _ {M : Type 0} where
 
   -- all that is under way is within the counts
   pub record Within (w : Stream M) : Type 0 where
-    pub packets : (k : ℕ) (p : ℕ × M) → slice_get w.packets k ≡ Some p → p.0 < w.sender.gone
-    pub acks : (k n : ℕ) → slice_get w.acks k ≡ Some n → n ≤ w.receiver.count
+    pub packets : (k n : ℕ) (m : M) → load_at w.out k ≡ Some (Data n m) → n < w.sender.gone
+    pub acks : (k n : ℕ) → load_at w.back k ≡ Some (Ack n) → n ≤ w.receiver.count
     pub kept : (i : ℕ) (m : M) → place w.receiver.kept i ≡ Some m → w.receiver.count + i < w.sender.gone
 
   pub acked_taken-happens : (w : Stream M) (e : Event M) → Within w → w.sender.acked ≤ w.receiver.count → (happens w e).sender.acked ≤ (happens w e).receiver.count
@@ -42,11 +43,11 @@ module _ {M : Type 0} where
   pub given-happens : (w : Stream M) (e : Event M) → given_count w.sender ≡ length w.given → w.sender.gone ≤ given_count w.sender → w.sender.acked ≤ w.sender.gone → Within w → w.receiver.count ≤ w.sender.gone → given_count (happens w e).sender ≡ length (happens w e).given
   given-happens w e le gone below h taken = grind (arith, nat_tests, common_steps, h.acks)
 
-  pub packets-happens : (w : Stream M) (e : Event M) → Within w → (k : ℕ) (p : ℕ × M) → slice_get (happens w e).packets k ≡ Some p → p.0 < (happens w e).sender.gone
-  packets-happens w e h k p is = grind (arith, nat_tests, get-pushed, h.packets)
+  pub packets-happens : (w : Stream M) (e : Event M) → Within w → (k n : ℕ) (m : M) → load_at (happens w e).out k ≡ Some (Data n m) → n < (happens w e).sender.gone
+  packets-happens w e h k n m is = grind (arith, nat_tests, load-pushed, load-marked, h.packets)
 
-  pub acks-happens : (w : Stream M) (e : Event M) → Within w → (k n : ℕ) → slice_get (happens w e).acks k ≡ Some n → n ≤ (happens w e).receiver.count
-  acks-happens w e h k n is = grind (arith, nat_tests, get-pushed, h.acks)
+  pub acks-happens : (w : Stream M) (e : Event M) → Within w → (k n : ℕ) → load_at (happens w e).back k ≡ Some (Ack n) → n ≤ (happens w e).receiver.count
+  acks-happens w e h k n is = grind (arith, nat_tests, load-pushed, load-marked, h.acks)
 
   pub kept-happens : (w : Stream M) (e : Event M) → Within w → length w.receiver.kept ≡ 8 → w.sender.gone ≤ w.receiver.count + 8 → (i : ℕ) (m : M) → place (happens w e).receiver.kept i ≡ Some m → (happens w e).receiver.count + i < (happens w e).sender.gone
   kept-happens w e h places near i m is = grind (arith, nat_tests, place-moved_up, place-kept_same, place-kept_other, h.packets, h.kept)

@@ -1,6 +1,9 @@
 pub mod Places
 pub mod Lists
+pub mod Packets
 pub mod Counts
 pub mod Contents
+pub mod Progress
 pub mod Together
+pub mod Follows
 pub mod Worked

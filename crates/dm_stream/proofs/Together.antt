@@ -1,22 +1,25 @@
--- All that holds of every schedule, together.
-use Rattle.std.proofs.Common.{◌≡◌, ℕ, ◌∙◌, ◌+◌, ◌-◌, ◌^◌, ◌<◌, ◌≤◌, List, [], ◌∷◌, length, take, slice_get, Option, Some, None, refl, arith}
+-- All that stands of a stream, together, and what follows.
+use Rattle.std.proofs.Common.{◌≡◌, sym, nat_lt, ℕ, ◌∙◌, ◌+◌, ◌-◌, ◌^◌, ◌<◌, ◌≤◌, Bool, true, false, List, [], ◌∷◌, length, take, slice_get, Option, Some, None, is_some, refl, inl, inr, ◌⊎◌, arith}
+use Rattle.std.specs.Prelude.{IsSome}
+use Rattle.std.proofs.lemmas.Bool.{cases_Bool}
 use Rattle.std.proofs.lemmas.Bool.Decides.{nat_tests}
 use Rattle.std.proofs.lemmas.Grind.{common_steps}
-use Rattle.std.proofs.lemmas.List.{take_all}
 use Rattle.std.proofs.lemmas.Option.{gets}
-use Rattle.dm_stream.specs.Sending.{due}
-use Rattle.dm_stream.specs.Receiving.{place, kept_under}
-use Rattle.dm_stream.specs.Stream.{Stream, Event, Give, GoOut, GoAgain, Arrive, TakeKept, Acknowledge, AckArrive, happens, arrives, run, start}
-use Rattle.dm_stream.specs.Order.{IsInOrder, MayCome, IsAtRest, IsAllThere}
+use Rattle.dm_stream.specs.Receiving.{Receiving, place, kept_under}
+use Rattle.dm_stream.specs.Packets.{Load, Data, Ack, marked, load_at, HasCome}
+use Rattle.dm_stream.specs.Stream.{Stream, Event, Give, GoOut, GoAgain, Deliver, TakeKept, Acknowledge, DeliverBack, OtherAck, OtherData, happens, arrives, run, start}
+use Rattle.dm_stream.specs.Order.{IsThere, Stands}
 use Rattle.dm_stream.proofs.Counts as counts
 use Rattle.dm_stream.proofs.Counts.{Counts, Within}
-use Rattle.dm_stream.proofs.Lists.{front-none}
+use Rattle.dm_stream.proofs.Packets.{load-marked, load-none}
 use Rattle.dm_stream.proofs.Contents as contents
-use Rattle.dm_stream.proofs.Contents.{Genuine, Progress}
+use Rattle.dm_stream.proofs.Contents.{Genuine}
+use Rattle.dm_stream.proofs.Progress as progress
+use Rattle.dm_stream.proofs.Progress.{Progress}
 
 module _ {M : Type 0} where
   -- all of it, which each event keeps
-  pub record Stands (w : Stream M) : Type 0 where
+  pub record Holds (w : Stream M) : Type 0 where
     pub counts : Counts w
     pub within : Within w
     pub genuine : Genuine w
@@ -31,21 +34,32 @@ module _ {M : Type 0} where
   below w h = omega (arith, h.taken_gone, h.acked_taken)
 
   -- a packet comes, or there is none
-  kept-comes : (w : Stream M) (o : Option (ℕ × M)) → ((p : ℕ × M) → o ≡ Some p → slice_get w.given p.0 ≡ Some p.1) → ((p : ℕ × M) → o ≡ Some p → p.0 < w.receiver.count + 8) → Genuine w → length w.receiver.kept ≡ 8 → (i : ℕ) (m : M) → place (arrives w o).receiver.kept i ≡ Some m → slice_get (arrives w o).given ((arrives w o).receiver.count + i) ≡ Some m
+  kept-comes : (w : Stream M) (o : Option (Load M)) → ((n : ℕ) (m : M) → o ≡ Some (Data n m) → slice_get w.given n ≡ Some m) → ((n : ℕ) (m : M) → o ≡ Some (Data n m) → n < w.receiver.count + 8) → Genuine w → length w.receiver.kept ≡ 8 → (i : ℕ) (m : M) → place (arrives w o).receiver.kept i ≡ Some m → slice_get (arrives w o).given ((arrives w o).receiver.count + i) ≡ Some m
   kept-comes w None genuine within h places i m is = h.kept i m is
-  kept-comes w (Some p) genuine within h places i m is = contents.kept-arrives w p h (genuine p refl) (within p refl) places i m is
+  kept-comes w (Some (Data n x)) genuine within h places i m is = contents.kept-arrives w n x h (genuine n x refl) (within n x refl) places i m is
+  kept-comes w (Some (Ack n)) genuine within h places i m is = h.kept i m is
 
-  packet-near : (w : Stream M) → Counts w → Within w → (k : ℕ) (p : ℕ × M) → slice_get w.packets k ≡ Some p → p.0 < w.receiver.count + 8
-  packet-near w c h k p is = omega (arith, near w c, h.packets k p is)
+  packet-near : (w : Stream M) → Counts w → Within w → (k n : ℕ) (m : M) → load_at w.out k ≡ Some (Data n m) → n < w.receiver.count + 8
+  packet-near w c h k n m is = omega (arith, near w c, h.packets k n m is)
 
-  kept-happens : (w : Stream M) (e : Event M) → Stands w → (i : ℕ) (m : M) → place (happens w e).receiver.kept i ≡ Some m → slice_get (happens w e).given ((happens w e).receiver.count + i) ≡ Some m
+  marked-genuine : (w : Stream M) (k : ℕ) → Genuine w → Genuine (record w { out = marked w.out k })
+  marked-genuine w k h = record {
+    packets = λ j n m is. h.packets j n m (sym (load-marked w.out k j) ∙ is);
+    kept = h.kept;
+    unacked = h.unacked;
+    taken = h.taken;
+  }
+
+  kept-happens : (w : Stream M) (e : Event M) → Holds w → (i : ℕ) (m : M) → place (happens w e).receiver.kept i ≡ Some m → slice_get (happens w e).given ((happens w e).receiver.count + i) ≡ Some m
   kept-happens w (Give x) h = contents.kept-happens w (Give x) h.genuine (λ k e. cc)
   kept-happens w GoOut h = contents.kept-happens w GoOut h.genuine (λ k e. cc)
   kept-happens w (GoAgain j) h = contents.kept-happens w (GoAgain j) h.genuine (λ k e. cc)
-  kept-happens w (Arrive k) h = kept-comes w (slice_get w.packets k) (h.genuine.packets k) (packet-near w h.counts h.within k) h.genuine h.places
+  kept-happens w (Deliver k) h = kept-comes (record w { out = marked w.out k }) (load_at w.out k) (h.genuine.packets k) (packet-near w h.counts h.within k) (marked-genuine w k h.genuine) h.places
   kept-happens w TakeKept h = contents.kept-happens w TakeKept h.genuine (λ k e. cc)
   kept-happens w Acknowledge h = contents.kept-happens w Acknowledge h.genuine (λ k e. cc)
-  kept-happens w (AckArrive j) h = contents.kept-happens w (AckArrive j) h.genuine (λ k e. cc)
+  kept-happens w (DeliverBack j) h = contents.kept-happens w (DeliverBack j) h.genuine (λ k e. cc)
+  kept-happens w (OtherAck j) h = contents.kept-happens w (OtherAck j) h.genuine (λ k e. cc)
+  kept-happens w (OtherData j x) h = contents.kept-happens w (OtherData j x) h.genuine (λ k e. cc)
 
   small-happens : (w : Stream M) (e : Event M) → w.sender.numbers < 2 ^ 32 → (happens w e).sender.numbers < 2 ^ 32
   small-happens w e h = grind (arith, nat_tests)
@@ -60,8 +74,8 @@ module _ {M : Type 0} where
     given = counts.given-happens w e c.given c.gone_given (below w c) h c.taken_gone;
   }
 
-  pub Stands-happens : (w : Stream M) (e : Event M) → Stands w → Stands (happens w e)
-  Stands-happens w e h = record {
+  Holds-happens : (w : Stream M) (e : Event M) → Holds w → Holds (happens w e)
+  Holds-happens w e h = record {
     counts = Counts-happens w e h.counts h.within;
     within = record {
       packets = counts.packets-happens w e h.within;
@@ -75,87 +89,128 @@ module _ {M : Type 0} where
       taken = contents.taken-happens w e h.genuine (omega (arith, h.counts.given, h.counts.gone_given, h.counts.taken_gone));
     };
     progress = record {
-      came = contents.came-happens w e h.within h.places (near w h.counts) h.progress;
-      heard = contents.heard-happens w e h.progress;
+      sent = progress.sent-happens w e h.progress;
+      came = progress.came-happens w e h.within h.places (near w h.counts) h.progress;
+      heard = progress.heard-happens w e h.progress;
+      acked = progress.acked-happens w e h.progress;
     };
     places = counts.places-happens w e h.places;
     small = small-happens w e h.small;
   }
 
-  Stands-run : (es : List (Event M)) (w : Stream M) → Stands w → Stands (run es w)
-  Stands-run [] w h = h
-  Stands-run (e ∷ es) w h = Stands-run es (happens w e) (Stands-happens w e h)
+  -- a message at a place is kept under its number
+  under-place : (r : Receiving M) (i : ℕ) (m : M) → place r.kept i ≡ Some m → kept_under r (r.count + i) ≡ Some m
+  under-place r i m is = grind (arith, nat_tests)
 
-  none-kept : (i : ℕ) (m : M) → place (start {M = M} 0).receiver.kept i ≡ Some m → ⊥
-  none-kept i m is = grind (arith, gets, common_steps)
+  place-under : (r : Receiving M) (n : ℕ) (m : M) → kept_under r n ≡ Some m → (r.count ≤ n) × (place r.kept (n - r.count) ≡ Some m)
+  place-under r n m is = grind (arith, nat_tests)
 
-  pub Stands-start : (numbers : ℕ) → numbers < 2 ^ 32 → Stands (start {M = M} numbers)
-  Stands-start numbers small = record {
-    counts = record { acked_taken = omega arith; taken_gone = omega arith; gone_given = omega arith; given_allowed = omega arith; in_window = omega arith; given = refl };
-    within = record { packets = λ k p is. cc; acks = λ k n is. cc; kept = λ i m is. absurd (none-kept i m is) };
-    genuine = record { packets = λ k p is. cc; kept = λ i m is. absurd (none-kept i m is); unacked = refl; taken = refl };
-    progress = record { came = λ n is le. cc; heard = λ n is. grind (arith, nat_tests) };
-    places = refl;
-    small = small;
+  there-kept : (w : Stream M) (n : ℕ) → IsThere w n → w.receiver.count ≤ n → is_some (place w.receiver.kept (n - w.receiver.count)) ≡ true
+  there-kept w n (inl lt) le = absurd (omega arith)
+  there-kept w n (inr s) le = grind (arith, nat_tests)
+
+  kept-there : (r : Receiving M) (n : ℕ) → r.count ≤ n → is_some (place r.kept (n - r.count)) ≡ true → IsSome (kept_under r n)
+  kept-there r n le s = grind (arith, nat_tests)
+
+  pub Holds-stands : (w : Stream M) → Stands w → Holds w
+  Holds-stands w h = record {
+    counts = record {
+      acked_taken = h.in_order.acked_taken;
+      taken_gone = h.in_order.taken_gone;
+      gone_given = omega (arith, h.in_order.gone_given, h.counted.given);
+      given_allowed = h.counted.allowed;
+      in_window = h.in_order.in_window;
+      given = h.counted.given;
+    };
+    within = record {
+      packets = h.sent.data_gone;
+      acks = h.sent.ack_taken;
+      kept = λ i m is. h.sent.kept_gone (w.receiver.count + i) m (under-place w.receiver i m is);
+    };
+    genuine = record {
+      packets = h.sent.data_given;
+      kept = λ i m is. h.in_order.kept (w.receiver.count + i) m (under-place w.receiver i m is);
+      unacked = h.in_order.unacked;
+      taken = h.in_order.taken;
+    };
+    progress = record {
+      sent = h.heard.sent;
+      came = λ k n m is on le. there-kept w n (h.heard.there n (k, (m, (is, on)))) le;
+      heard = λ k n is on. h.heard.heard n (k, (is, on));
+      acked = h.heard.acked;
+    };
+    places = h.counted.places;
+    small = h.counted.small;
   }
-
-  stands : (numbers : ℕ) (es : List (Event M)) → numbers < 2 ^ 32 → Stands (run es (start numbers))
-  stands numbers es small = Stands-run es (start numbers) (Stands-start numbers small)
 
   kept-genuine : (w : Stream M) → Genuine w → (n : ℕ) (m : M) → kept_under w.receiver n ≡ Some m → slice_get w.given n ≡ Some m
   kept-genuine w h n m is = grind (arith, nat_tests, h.kept (n - w.receiver.count) m)
 
-  IsInOrder-stands : (w : Stream M) → Stands w → IsInOrder w
-  IsInOrder-stands w h = record {
-    taken = h.genuine.taken;
-    kept = kept-genuine w h.genuine;
-    unacked = h.genuine.unacked;
-    acked_taken = h.counts.acked_taken;
-    taken_gone = h.counts.taken_gone;
-    gone_given = omega (arith, h.counts.gone_given, h.counts.given);
-    in_window = h.counts.in_window;
+  kept-within : (w : Stream M) → Within w → (n : ℕ) (m : M) → kept_under w.receiver n ≡ Some m → n < w.sender.gone
+  kept-within w h n m is = grind (arith, nat_tests, h.kept (n - w.receiver.count) m)
+
+  come-there : (w : Stream M) → Progress w → (n : ℕ) → HasCome w.out n → IsThere w n
+  come-there w h n c = elim (cases_Bool (nat_lt n w.receiver.count)) [
+    | inl less ↦ inl (grind (arith, nat_tests))
+    | inr not_less ↦
+        let le : w.receiver.count ≤ n = grind (arith, nat_tests) in
+        inr (kept-there w.receiver n le (h.came c.0 n c.1.0 c.1.1.0 c.1.1.1 le))
+  ]
+
+  pub Stands-holds : (w : Stream M) → Holds w → Stands w
+  Stands-holds w h = record {
+    in_order = record {
+      taken = h.genuine.taken;
+      kept = kept-genuine w h.genuine;
+      unacked = h.genuine.unacked;
+      acked_taken = h.counts.acked_taken;
+      taken_gone = h.counts.taken_gone;
+      gone_given = omega (arith, h.counts.gone_given, h.counts.given);
+      in_window = h.counts.in_window;
+    };
+    sent = record {
+      data_gone = h.within.packets;
+      data_given = h.genuine.packets;
+      kept_gone = kept-within w h.within;
+      ack_taken = h.within.acks;
+    };
+    heard = record {
+      sent = h.progress.sent;
+      there = come-there w h.progress;
+      heard = λ n a. h.progress.heard a.0 n a.1.0 a.1.1;
+      acked = h.progress.acked;
+    };
+    counted = record {
+      given = h.counts.given;
+      allowed = h.counts.given_allowed;
+      small = h.small;
+      places = h.places;
+    };
   }
 
-  MayCome-stands : (w : Stream M) → Stands w → MayCome w
-  MayCome-stands w h = record {
-    message = λ k n m is. h.genuine.packets k (n, m) is;
-    in_window = λ k n m is. packet-near w h.counts h.within k (n, m) is;
-    numbered = λ k n m is. omega (arith, h.within.packets k (n, m) is, h.counts.gone_given, h.counts.given_allowed, h.small);
-    ack = λ k n is. omega (arith, h.within.acks k n is, h.counts.taken_gone);
+  -- one step
+  pub Stands-happens : (w : Stream M) (e : Event M) → Stands w → Stands (happens w e)
+  Stands-happens w e h = Stands-holds (happens w e) (Holds-happens w e (Holds-stands w h))
+
+  none-kept : (i : ℕ) (m : M) → place (start {M = M} 0).receiver.kept i ≡ Some m → ⊥
+  none-kept i m is = grind (arith, gets, common_steps)
+
+  Holds-start : (numbers : ℕ) → numbers < 2 ^ 32 → Holds (start {M = M} numbers)
+  Holds-start numbers small = record {
+    counts = record { acked_taken = omega arith; taken_gone = omega arith; gone_given = omega arith; given_allowed = omega arith; in_window = omega arith; given = refl };
+    within = record { packets = λ k n m is. absurd (load-none k (Data n m) is); acks = λ k n is. absurd (load-none k (Ack n) is); kept = λ i m is. absurd (none-kept i m is) };
+    genuine = record { packets = λ k n m is. absurd (load-none k (Data n m) is); kept = λ i m is. absurd (none-kept i m is); unacked = refl; taken = refl };
+    progress = record { sent = λ n lt. absurd (omega arith); came = λ k n m is on le. absurd (load-none k (Data n m) is); heard = λ k n is on. absurd (load-none k (Ack n) is); acked = inl refl };
+    places = refl;
+    small = small;
   }
 
-  -- the next message would have come, and would be kept
-  all-taken : (w : Stream M) → Stands w → IsAtRest w → w.sender.gone ≤ w.receiver.count
-  all-taken w h r = grind (arith, r.none_next, r.all_came w.receiver.count, h.progress.came w.receiver.count)
+  pub Stands-start : (numbers : ℕ) → numbers < 2 ^ 32 → Stands (start {M = M} numbers)
+  Stands-start numbers small = Stands-holds (start numbers) (Holds-start numbers small)
 
-  none-waits : (w : Stream M) → w.sender.gone ≡ w.sender.acked → due w.sender ≡ None → slice_get w.sender.unacked (w.sender.gone - w.sender.acked) ≡ None
-  none-waits w is none = grind (arith, nat_tests)
+  Stands-run : (es : List (Event M)) (w : Stream M) → Stands w → Stands (run es w)
+  Stands-run [] w h = h
+  Stands-run (e ∷ es) w h = Stands-run es (happens w e) (Stands-happens w e h)
 
-  -- all that went out is acknowledged
-  all-acked : (w : Stream M) → Stands w → IsAtRest w → w.sender.gone ≡ w.sender.acked
-  all-acked w h r = omega (arith, all-taken w h r, h.progress.heard w.receiver.count r.count_heard, h.counts.acked_taken, h.counts.taken_gone)
-
-  -- a message that waits could go out
-  all-gone : (w : Stream M) → Stands w → IsAtRest w → length w.sender.unacked ≡ 0
-  all-gone w h r = front-none w.sender.unacked (w.sender.gone - w.sender.acked) (omega (arith, all-acked w h r)) (none-waits w (all-acked w h r) r.none_due)
-
-  all-given : (w : Stream M) → Stands w → IsAtRest w → w.sender.acked ≡ length w.given
-  all-given w h r = omega (arith, all-gone w h r, h.counts.given)
-
-  taken-all : (xs ys : List M) (n : ℕ) → length ys ≤ n → xs ≡ take n ys → xs ≡ ys
-  taken-all xs ys n le is = is ∙ take_all n ys le
-
-  IsAllThere-stands : (w : Stream M) → Stands w → IsAtRest w → IsAllThere w
-  IsAllThere-stands w h r = record {
-    taken = taken-all w.taken w.given w.receiver.count (omega (arith, all-given w h r, h.counts.acked_taken)) h.genuine.taken;
-    acked = all-given w h r;
-  }
-
-  pub in_order : (numbers : ℕ) (es : List (Event M)) → numbers < 2 ^ 32 → IsInOrder (run es (start numbers))
-  in_order numbers es small = IsInOrder-stands (run es (start numbers)) (stands numbers es small)
-
-  pub may_come : (numbers : ℕ) (es : List (Event M)) → numbers < 2 ^ 32 → MayCome (run es (start numbers))
-  may_come numbers es small = MayCome-stands (run es (start numbers)) (stands numbers es small)
-
-  pub at_rest : (numbers : ℕ) (es : List (Event M)) → numbers < 2 ^ 32 → IsAtRest (run es (start numbers)) → IsAllThere (run es (start numbers))
-  at_rest numbers es small r = IsAllThere-stands (run es (start numbers)) (stands numbers es small) r
+  pub stands : (numbers : ℕ) (es : List (Event M)) → numbers < 2 ^ 32 → Stands (run es (start numbers))
+  stands numbers es small = Stands-run es (start numbers) (Stands-start numbers small)

@@ -2,20 +2,24 @@
 use Rattle.std.proofs.Common.{◌≡◌, ℕ, List, [], ◌∷◌, length, None, Some, refl}
 use Rattle.dm_stream.specs.Sending.{due, outstanding}
 use Rattle.dm_stream.specs.Receiving.{kept_under}
-use Rattle.dm_stream.specs.Stream.{Event, Give, GoOut, Arrive, TakeKept, Acknowledge, AckArrive, run, start}
+use Rattle.dm_stream.specs.Packets.{Ack, load_at}
+use Rattle.dm_stream.specs.Stream.{Event, Give, GoOut, Deliver, TakeKept, Acknowledge, DeliverBack, OtherAck, run, start}
 
 -- two messages, whose packets come as 1, 0, 1: the first is kept, the second lets both be taken, the third is old
 abbrev reordered : List (Event ℕ)
-reordered = Give 10 ∷ Give 11 ∷ GoOut ∷ GoOut ∷ Arrive 1 ∷ Acknowledge ∷ Arrive 0 ∷ TakeKept ∷ TakeKept ∷ Acknowledge ∷ Arrive 1 ∷ Acknowledge ∷ []
+reordered = Give 10 ∷ Give 11 ∷ GoOut ∷ GoOut ∷ Deliver 1 ∷ Acknowledge ∷ Deliver 0 ∷ TakeKept ∷ TakeKept ∷ Acknowledge ∷ Deliver 1 ∷ Acknowledge ∷ []
 
 reordered-taken : (run reordered (start 100)).taken ≡ 10 ∷ 11 ∷ []
+unfolding load_at
 reordered-taken = refl
 
-reordered-acks : (run reordered (start 100)).acks ≡ 0 ∷ 2 ∷ 2 ∷ []
-reordered-acks = refl
+reordered-answer : load_at (run reordered (start 100)).back 1 ≡ Some (Ack 2)
+unfolding load_at
+reordered-answer = refl
 
 -- an early message stands under its number, before the first is taken
-early-kept : kept_under {M = ℕ} (run (Give 10 ∷ Give 11 ∷ GoOut ∷ GoOut ∷ Arrive 1 ∷ []) (start 100)).receiver 1 ≡ Some 11
+early-kept : kept_under {M = ℕ} (run (Give 10 ∷ Give 11 ∷ GoOut ∷ GoOut ∷ Deliver 1 ∷ []) (start 100)).receiver 1 ≡ Some 11
+unfolding load_at
 early-kept = refl
 
 -- nine messages: eight go out, and the ninth once one is acknowledged
@@ -23,13 +27,14 @@ abbrev nine : List (Event ℕ)
 nine =
     Give 0 ∷ Give 1 ∷ Give 2 ∷ Give 3 ∷ Give 4 ∷ Give 5 ∷ Give 6 ∷ Give 7 ∷ Give 8 ∷ GoOut ∷ GoOut ∷ GoOut ∷ GoOut ∷ GoOut ∷ GoOut ∷ GoOut ∷ GoOut ∷ GoOut ∷ []
 
-nine-packets : length (run nine (start 100)).packets ≡ 8
+nine-packets : length (run nine (start 100)).out ≡ 8
 nine-packets = refl
 
 nine-due : due (run nine (start 100)).sender ≡ None
 nine-due = refl
 
-nine-first : due (run (Arrive 0 ∷ Acknowledge ∷ AckArrive 0 ∷ []) (run nine (start 100))).sender ≡ Some (8, 8)
+nine-first : due (run (Deliver 0 ∷ Acknowledge ∷ DeliverBack 0 ∷ []) (run nine (start 100))).sender ≡ Some (8, 8)
+unfolding load_at
 nine-first = refl
 
 nine-outstanding : outstanding (run nine (start 100)).sender 7 ≡ Some (7, 7)
@@ -38,3 +43,8 @@ nine-outstanding = refl
 -- three numbers: the fourth message isn't given
 worn : (run {M = ℕ} (Give 10 ∷ Give 11 ∷ Give 12 ∷ Give 13 ∷ []) (start 3)).given ≡ 10 ∷ 11 ∷ 12 ∷ []
 worn = refl
+
+-- the other stream's acknowledgement on the wire out is no message of this one
+other : (run {M = ℕ} (Give 10 ∷ OtherAck 0 ∷ GoOut ∷ Deliver 0 ∷ Deliver 1 ∷ []) (start 3)).taken ≡ 10 ∷ []
+unfolding load_at
+other = refl

@@ -1,4 +1,6 @@
 pub mod Sending
 pub mod Receiving
+pub mod Packets
 pub mod Stream
 pub mod Order
+pub mod Returned

@@ -8,6 +8,6 @@ mod sender;
 mod tests;
 
 pub use dm_memory::NoMemory;
-pub use law::any_schedule;
+pub use law::{any_schedule, one_step, while_it_stands};
 pub use receiver::{Arrived, Receiver};
 pub use sender::{GiveNo, Sender};

@@ -1,7 +1,9 @@
 //! The sending side of a stream.
-ghost use Rattle.std.specs.Prelude.{IfErr, IsSome, OnErr, OnOk, drop, option_map, ◌≡◌, ◌↔◌, ◌≤◌, ◌⊎◌};
+ghost use Rattle.std.specs.Prelude.{IfErr, IsSome, OnErr, OnOk, drop, option_map, ◌≡◌, ◌↔◌, ◌≤◌};
+ghost use Rattle.dm_stream.specs.Returned.{message_in};
 
-use std::alloc::{AllocFailed, Global};
+use dm_memory::NoMemory;
+use std::alloc::{AllocError, AllocFailed, Global};
 use std::collections::VecDeque;
 use std::marker::Model;
 use thiserror::Error;
@@ -17,7 +19,7 @@ pub enum GiveNo<M> {
     Worn(M),
     /// No memory was left.
     #[error("out of memory")]
-    NoMemory(M),
+    NoMemory(M, NoMemory),
 }
 
 /// Messages on their way to one machine, numbered from 0. Each stays here until it is acknowledged.
@@ -81,7 +83,7 @@ impl<M> Sender<M> {
     pub fn give(&mut self, message: M) -> Result<(), GiveNo<M>>
         ensures ok { OnOk result (self.new ≡ with_given self.old message) }
         ensures worn { (result ≡ Err (GiveNo.Worn message)) ↔ (given_count self.old ≡ self.old.numbers) }
-        ensures refused { IfErr result (λ e. (e ≡ GiveNo.Worn message) ⊎ (e ≡ GiveNo.NoMemory message)) }
+        ensures returned { IfErr result (λ e. message_in e ≡ message) }
         ensures err { OnErr result (self.new ≡ self.old) }
     {
         if self.given() == self.numbers {
@@ -89,7 +91,7 @@ impl<M> Sender<M> {
         }
         match self.unacked.push_back(message) {
             Ok(()) => Ok(()),
-            Err(AllocFailed { value }) => Err(GiveNo::NoMemory(value)),
+            Err(AllocFailed { value }) => Err(GiveNo::NoMemory(value, NoMemory::from(AllocError))),
         }
     }
 
