@@ -1,11 +1,11 @@
 -- The wires between sixteen machines, one for each ordered pair.
 use Rattle.std.specs.Prelude.{ℕ, ◌+◌, ◌*◌, nat_lt, Bool, ◌==◌, ◌&&◌, if◌then◌else◌, List, [], ◌∷◌, ◌++◌, slice_index_or}
-use Rattle.dm_wire.specs.declared.wire.Wire.{Wire}
 use Rattle.dm_wire.specs.Sent.{Sent, just_put, marked}
 
--- all packets ever put on the wire from a to b, in order
-unfoldable pub packets_on : Wire → ℕ → ℕ → List Sent
-packets_on w a b = if nat_lt b 16 then slice_index_or w.pairs.items (16 * a + b) [] else []
+-- all packets ever put on the wire from a to b, in order: the pairs stand by the first machine, then by the second, and
+-- those past the end are empty
+unfoldable pub packets_on : List (List Sent) → ℕ → ℕ → List Sent
+packets_on pairs a b = if nat_lt b 16 then slice_index_or pairs (16 * a + b) [] else []
 
 abbrev pub is_pair : ℕ → ℕ → ℕ → ℕ → Bool
 is_pair a b x y = (a == x) && (b == y)

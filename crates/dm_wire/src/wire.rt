@@ -4,6 +4,7 @@ ghost use Rattle.std.specs.Prelude.{IfOk, OnErr, OnOk, [], length, option_map, p
 use crate::packets::Packets;
 use dm_memory::NoMemory;
 use std::alloc::{AllocError, Global};
+use std::marker::Model;
 
 /// Machines are numbered from 0, and there are at most so many.
 const MACHINES: u8 = 16;
@@ -14,6 +15,15 @@ const MACHINES: u8 = 16;
 pub struct Wire {
     pairs: Vec<Packets>,
     alloc: Global,
+}
+
+impl Model for Wire {
+    ghost use Rattle.std.specs.Prelude.{List};
+    ghost use Rattle.dm_wire.specs.Sent.{Sent};
+
+    ghost Value = { List (List Sent) };
+
+    ghost view = { λ w. w.pairs.items };
 }
 
 /// The place of a pair.
