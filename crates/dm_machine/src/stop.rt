@@ -1,0 +1,11 @@
+//! Why an event stops before its end.
+use dm_memory::NoMemory;
+
+/// Why an event stops before its end. Its machine is not to be used again then.
+#[derive(Clone, Copy, Debug, PartialEq, Eq)]
+pub enum Stop {
+    /// No memory was left.
+    NoMemory(NoMemory),
+    /// A message was to be routed between two machines that count as many as they may.
+    Worn { from: u8, to: u8 },
+}
