@@ -2,10 +2,12 @@
 //! messages; how messages come to other machines is not its part.
 #![tactic(auto)]
 
+mod begin;
 pub mod kernel;
 pub mod part;
-mod ring;
+pub mod ring;
 pub mod run;
+mod turn;
 
 pub use dm_memory::NoMemory;
 pub use kernel::{Kernel, Servers};

@@ -17,7 +17,9 @@ use Rattle.dm_kernel.specs.declared.part.Part.TheVariants as part
 use Rattle.dm_kernel.specs.State.{Turned}
 use Rattle.dm_kernel.specs.Turn as kernel
 use Rattle.dm_machine.specs.State.{NodeState, here, with_sender, with_message, with_receiver}
-use Rattle.dm_machine.specs.Out.{Out, Says, Sends, Acted, Acts, Goes, Worn, goes, behind, then_}
+use Rattle.dm_machine.specs.declared.out.Out.{Out}
+use Rattle.dm_machine.specs.declared.out.Out.TheVariants.{Says, Sends}
+use Rattle.dm_machine.specs.Out.{Acted, Acts, Goes, Worn, goes, behind, then_, packet_of}
 
 -- a message is routed to the machine that its receiver's address names
 abbrev pub put_line : NodeState → Message → Line
@@ -28,10 +30,13 @@ abbrev pub routes_home : NodeState → Message → Bool → Acts
 routes_home n m true = Worn (here n) (here n)
 routes_home n m false = goes (record (with_message n m) { home = n.home + 1 }) (Says (put_line n m) ∷ [])
 
+abbrev pub sends : NodeState → ℕ → Load Message → Out
+sends n b carried = Sends (packet_of (here n) b carried)
+
 -- what is due goes out
 abbrev pub sends_due : NodeState → ℕ → Option (ℕ × Message) → Acted
 sends_due n b None = record { state = n; outs = [] }
-sends_due n b (Some p) = record { state = with_sender n b (with_sent (n.senders b)); outs = Sends b (Data p.0 p.1) ∷ [] }
+sends_due n b (Some p) = record { state = with_sender n b (with_sent (n.senders b)); outs = sends n b (Data p.0 p.1) ∷ [] }
 
 -- to another one: it goes out at once where none waits before it, and the window isn't full
 abbrev pub gives : NodeState → ℕ → Message → Sending Message → Bool → Acts
@@ -72,25 +77,25 @@ abbrev pub counts_out : NodeState → ℕ → ℕ
 counts_out n zero = 0
 counts_out n (suc b) = counts_out n b + (if here n == b then 0 else count_out (n.senders b))
 
-abbrev pub again : ℕ → Option (ℕ × Message) → List Out
-again b None = []
-again b (Some p) = Sends b (Data p.0 p.1) ∷ []
+abbrev pub again : NodeState → ℕ → Option (ℕ × Message) → List Out
+again n b None = []
+again n b (Some p) = sends n b (Data p.0 p.1) ∷ []
 
 -- the first k of what is out to a machine
-abbrev pub first_out : ℕ → Sending Message → ℕ → List Out
-first_out b s zero = []
-first_out b s (suc k) = first_out b s k ++ again b (outstanding s k)
+abbrev pub first_out : NodeState → ℕ → ℕ → List Out
+first_out n b zero = []
+first_out n b (suc k) = first_out n b k ++ again n b (outstanding (n.senders b) k)
 
 abbrev pub all_out : NodeState → ℕ → List Out
 all_out n zero = []
-all_out n (suc b) = all_out n b ++ (if here n == b then [] else first_out b (n.senders b) (count_out (n.senders b)))
+all_out n (suc b) = all_out n b ++ (if here n == b then [] else first_out n b (count_out (n.senders b)))
 
 abbrev pub tick : NodeState → Acted
 tick n = record { state = n; outs = Says (line.Resent (here n) (counts_out n n.machines)) ∷ all_out n n.machines }
 
 -- an acknowledgement of all that was taken of a machine's messages
 abbrev pub acknowledges : NodeState → ℕ → List Out
-acknowledges n a = Sends a (Ack (n.receivers a).count) ∷ []
+acknowledges n a = sends n a (Ack (n.receivers a).count) ∷ []
 
 abbrev pub before : List Out → Acted → Acted
 before outs d = record { state = d.state; outs = outs ++ d.outs }
@@ -117,7 +122,7 @@ comes n a k Early = then_acknowledges (record { state = n; outs = Says (line.Ear
 -- an acknowledgement lets messages go that wait, at most 8
 abbrev pub lets_next : NodeState → ℕ → Option (ℕ × Message) → (NodeState → Acted) → Acted
 lets_next n b None go = record { state = n; outs = [] }
-lets_next n b (Some p) go = before (Sends b (Data p.0 p.1) ∷ []) (go (with_sender n b (with_sent (n.senders b))))
+lets_next n b (Some p) go = before (sends n b (Data p.0 p.1) ∷ []) (go (with_sender n b (with_sent (n.senders b))))
 
 abbrev pub lets_go : ℕ → NodeState → ℕ → Acted
 lets_go zero n b = record { state = n; outs = [] }

@@ -1,14 +1,23 @@
 -- What an event of a machine gives to the outside: printed lines, and packets for other machines.
-use Rattle.std.specs.Prelude.{ℕ, List, [], ◌∷◌, ◌++◌}
+use Rattle.std.specs.Prelude.{ℕ, List, ◌++◌}
+use Rattle.std.specs.declared.option.Option.{Option}
+use Rattle.std.specs.declared.option.Option.TheVariants.{None, Some}
 use Rattle.dm_message.specs.declared.Message.{Message}
-use Rattle.dm_stream.specs.Packets.{Load}
-use Rattle.dm_rule.specs.declared.line.Line.{Line}
+use Rattle.dm_stream.specs.Packets.{Load, Data, Ack}
+use Rattle.dm_packet.specs.declared.Packet.{Packet}
+use Rattle.dm_packet.specs.declared.Packet.TheVariants as packet
+use Rattle.dm_machine.specs.declared.out.Out.{Out}
 use Rattle.dm_machine.specs.State.{NodeState}
 
--- a line, or a packet that is put on the wire to another machine, which has a line too
-pub data Out : Type 0 where
-  Says : (said : Line) → Out
-  Sends : (to : ℕ) → (load : Load Message) → Out
+-- the packet of a load from machine a to machine b
+abbrev pub packet_of : ℕ → ℕ → Load Message → Packet
+packet_of a b (Data k m) = packet.Data a b k m
+packet_of a b (Ack k) = packet.Ack a b k
+
+-- the packet of a message with its number
+abbrev pub numbered : ℕ → ℕ → Option (ℕ × Message) → Option Packet
+numbered a b None = None
+numbered a b (Some p) = Some (packet.Data a b p.0 p.1)
 
 -- a machine after an event, and what it gave, in order
 pub record Acted : Type 0 where

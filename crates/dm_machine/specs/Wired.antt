@@ -1,7 +1,6 @@
 -- What is printed of an event's packets, and what stands on the wires then.
-use Rattle.std.specs.Prelude.{ℕ, ◌+◌, List, [], ◌∷◌, length}
+use Rattle.std.specs.Prelude.{ℕ, List, [], ◌∷◌, length}
 use Rattle.dm_message.specs.declared.Message.{Message}
-use Rattle.dm_stream.specs.Packets as stream
 use Rattle.dm_packet.specs.declared.Packet.{Packet}
 use Rattle.dm_packet.specs.declared.Packet.TheVariants as packet
 use Rattle.dm_packet.specs.Packets.{spelling}
@@ -9,20 +8,11 @@ use Rattle.dm_wire.specs.Sent.{Sent}
 use Rattle.dm_wire.specs.Wire.{after_put}
 use Rattle.dm_rule.specs.declared.line.Line.{Line}
 use Rattle.dm_rule.specs.declared.line.Line.TheVariants as line
-use Rattle.dm_rule.specs.declared.line.Load.{Load}
 use Rattle.dm_rule.specs.declared.line.Load.TheVariants as load
-use Rattle.dm_machine.specs.Out.{Out, Says, Sends}
+use Rattle.dm_machine.specs.declared.out.Out.{Out}
+use Rattle.dm_machine.specs.declared.out.Out.TheVariants.{Says, Sends}
 
--- the packet of a load from machine a to machine b, and what a line says of it
-abbrev pub packet_of : ℕ → ℕ → stream.Load Message → Packet
-packet_of a b (stream.Data k m) = packet.Data a b k m
-packet_of a b (stream.Ack k) = packet.Ack a b k
-
-abbrev pub load_of : stream.Load Message → Load
-load_of (stream.Data k m) = load.Data k
-load_of (stream.Ack k) = load.Ack k
-
--- the lines, and the wires, after what machine a gives, in order
+-- the lines, and the wires, after what a machine gives, in order
 pub record Spoken : Type 0 where
   pub lines : List Line
   pub wires : ℕ → ℕ → List Sent
@@ -30,8 +20,16 @@ pub record Spoken : Type 0 where
 abbrev pub says : Line → Spoken → Spoken
 says l w = record { lines = l ∷ w.lines; wires = w.wires }
 
-abbrev pub spoken : ℕ → (ℕ → ℕ → List Sent) → List Out → Spoken
-spoken a wires [] = record { lines = []; wires = wires }
-spoken a wires (Says l ∷ outs) = says l (spoken a wires outs)
-spoken a wires (Sends b carried ∷ outs) =
-    says (line.Packet a b (length (wires a b)) (load_of carried)) (spoken a (after_put wires a b (spelling (packet_of a b carried))) outs)
+-- the line of a packet that goes on the wires, as the next of its pair
+abbrev pub packet_line : (ℕ → ℕ → List Sent) → Packet → Line
+packet_line wires (packet.Data a b k m) = line.Packet a b (length (wires a b)) (load.Data k)
+packet_line wires (packet.Ack a b k) = line.Packet a b (length (wires a b)) (load.Ack k)
+
+abbrev pub with_packet : (ℕ → ℕ → List Sent) → Packet → ℕ → ℕ → List Sent
+with_packet wires (packet.Data a b k m) = after_put wires a b (spelling (packet.Data a b k m))
+with_packet wires (packet.Ack a b k) = after_put wires a b (spelling (packet.Ack a b k))
+
+abbrev pub spoken : (ℕ → ℕ → List Sent) → List Out → Spoken
+spoken wires [] = record { lines = []; wires = wires }
+spoken wires (Says l ∷ outs) = says l (spoken wires outs)
+spoken wires (Sends p ∷ outs) = says (packet_line wires p) (spoken (with_packet wires p) outs)

@@ -1,4 +1,6 @@
 //! Why an event stops before its end.
+ghost use Rattle.std.specs.Prelude.{◌≡◌};
+
 use dm_memory::NoMemory;
 
 /// Why an event stops before its end. Its machine is not to be used again then.
@@ -8,4 +10,12 @@ pub enum Stop {
     NoMemory(NoMemory),
     /// A message was to be routed between two machines that count as many as they may.
     Worn { from: u8, to: u8 },
+}
+
+impl From<NoMemory> for Stop {
+    fn from(e: NoMemory) -> Stop
+        ensures { result ≡ Stop.NoMemory e }
+    {
+        Stop::NoMemory(e)
+    }
 }

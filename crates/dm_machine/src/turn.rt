@@ -1,0 +1,93 @@
+//! A turn and a tick of a machine.
+ghost use Rattle.std.specs.Prelude.{◌≡◌, ◌<◌, ◌≤◌, ◌^◌, [], IfOk, OnOk};
+ghost use Rattle.dm_machine.specs.Acts.{acts, all_out, counts_out, first_out, tick, turn};
+ghost use Rattle.dm_machine.specs.May.{MayAct, MayTurn};
+ghost use Rattle.dm_machine.specs.Meets.{Answers, AnswersSome, Gave, HasStreams, state_of};
+ghost use Rattle.dm_machine.specs.Out.{Goes};
+
+use crate::node::Node;
+use crate::out::Out;
+use crate::route::push;
+use crate::stop::Stop;
+use crate::streams::{count_out, outstanding};
+use dm_kernel::Part;
+use dm_memory::NoMemory;
+use dm_onekernel::Boot;
+use dm_rule::line::Line;
+
+impl Node {
+    /// Takes a turn. What it gives comes to the end of `outs`. It stops as worn exactly where it would route a message
+    /// to a machine to which it has routed as many as it may.
+    pub fn turn(&mut self, boot: &Boot, outs: &mut Vec<Out>) -> Result<(), Stop>
+        requires may { MayTurn boot.now (state_of self.old) }
+        requires streams { HasStreams self.old }
+        ensures { AnswersSome result self.new outs.old.items outs.new.items (turn boot.now (state_of self.old)) }
+    {
+        let parts = self.kernel.turn(boot)?;
+        self.act(parts, outs)
+    }
+
+    /// Prints and routes the parts of a turn, in order.
+    fn act(&mut self, parts: Vec<Part>, outs: &mut Vec<Out>) -> Result<(), Stop>
+        requires may { MayAct (state_of self.old) }
+        requires parts { PartsFit parts.items }
+        requires streams { HasStreams self.old }
+        ensures { Answers result self.new outs.old.items outs.new.items (acts (state_of self.old) parts.items) }
+    {
+        for part in parts {
+            match part {
+                Part::Says(line) => push(outs, Out::Says(line))?,
+                Part::Routes(message) => self.route(message, outs)?,
+            }
+        }
+        Ok(())
+    }
+
+    /// Sends all packets again that are out and not acknowledged, by machine and by number.
+    pub fn tick(&mut self, outs: &mut Vec<Out>) -> Result<(), NoMemory>
+        requires may { MayAct (state_of self.old) }
+        requires streams { HasStreams self.old }
+        ensures { OnOk result (Gave self.new outs.old.items outs.new.items (tick (state_of self.old))) }
+    {
+        let resent = Line::Resent {
+            machine: self.kernel.here,
+            count: self.counts_out(),
+        };
+        push(outs, Out::Says(resent))?;
+        for to in 0..self.machines {
+            if to != self.kernel.here {
+                self.send_again(to, outs)?;
+            }
+        }
+        Ok(())
+    }
+
+    /// How many packets are out to other machines and not acknowledged.
+    fn counts_out(&self) -> u32
+        requires streams { HasStreams self.now }
+        requires machines { self.now.machines ≤ 16 }
+        ensures { result ≡ counts_out (state_of self.now) self.now.machines }
+    {
+        let mut count = 0;
+        for to in 0..self.machines {
+            if to != self.kernel.here {
+                count += count_out(&self.senders, to);
+            }
+        }
+        count
+    }
+
+    /// Sends all packets again that are out to machine `to`.
+    fn send_again(&self, to: u8, outs: &mut Vec<Out>) -> Result<(), NoMemory>
+        requires streams { HasStreams self.now }
+        requires to { to < 16 }
+        ensures { OnOk result (outs.new.items ≡ outs.old.items ++ first_out (state_of self.now) to (count_out (sender_of self.now.senders.items to))) }
+    {
+        for place in 0..count_out(&self.senders, to) {
+            if let Some(packet) = outstanding(&self.senders, self.kernel.here, to, place as usize) {
+                push(outs, Out::Sends(packet))?;
+            }
+        }
+        Ok(())
+    }
+}
