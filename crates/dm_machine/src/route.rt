@@ -2,17 +2,15 @@
 ghost use Rattle.std.specs.Prelude.{◌≡◌, ◌<◌, ◌≤◌, ◌^◌, ◌++◌, ◌∷◌, ◌==◌, [], IfOk, OnOk, is_some};
 ghost use Rattle.dm_stream.specs.Sending.{due, given_count, with_given, with_sent};
 ghost use Rattle.dm_machine.specs.Acts.{gives, put_line, routes, routes_away, routes_home, sends_due};
-ghost use Rattle.dm_machine.specs.Meets.{Answers, Gave, HasStreams, sender_of, state_of};
+ghost use Rattle.dm_machine.specs.Meets.{Answers, Gave, HasStreams, state_of};
 ghost use Rattle.dm_machine.specs.Out.{Goes};
 
 use crate::node::Node;
 use crate::out::Out;
 use crate::stop::Stop;
-use crate::streams::{due, give, none_waits, sent_due};
 use dm_memory::NoMemory;
 use dm_message::Message;
 use dm_rule::line::Line;
-use dm_stream::GiveNo;
 
 impl Node {
     /// Routes a message to the machine that its receiver's address names.
@@ -70,21 +68,12 @@ impl Node {
     fn route_away(&mut self, message: Message, outs: &mut Vec<Out>) -> Result<(), Stop>
         requires streams { HasStreams self.old }
         requires to { message.to.at < 16 }
-        ensures { Answers result self.new outs.old.items outs.new.items (routes_away (state_of self.old) message.to.at message (sender_of self.old.senders.items message.to.at)) }
+        ensures { Answers result self.new outs.old.items outs.new.items (routes_away (state_of self.old) message.to.at message ((state_of self.old).senders message.to.at)) }
     {
         let to = message.to.at;
-        let at_once = none_waits(&self.senders, to);
+        let at_once = self.none_waits(to);
         let put = self.put_line(&message);
-        match give(&mut self.senders, to, message) {
-            Ok(()) => {},
-            Err(GiveNo::Worn(_)) => {
-                return Err(Stop::Worn {
-                    from: self.kernel.here,
-                    to,
-                })
-            }
-            Err(GiveNo::NoMemory(_, e)) => return Err(Stop::NoMemory(e)),
-        }
+        self.give(to, message)?;
         push(outs, Out::Says(put))?;
         if at_once {
             self.send_due(to, outs)?;
@@ -96,13 +85,13 @@ impl Node {
     pub fn send_due(&mut self, to: u8, outs: &mut Vec<Out>) -> Result<bool, NoMemory>
         requires streams { HasStreams self.old }
         requires to { to < 16 }
-        ensures gave { OnOk result (Gave self.new outs.old.items outs.new.items (sends_due (state_of self.old) to (due (sender_of self.old.senders.items to)))) }
-        ensures was { IfOk result (λ sent. sent ≡ is_some (due (sender_of self.old.senders.items to))) }
+        ensures gave { OnOk result (Gave self.new outs.old.items outs.new.items (sends_due (state_of self.old) to (due ((state_of self.old).senders to)))) }
+        ensures was { IfOk result (λ sent. sent ≡ is_some (due ((state_of self.old).senders to))) }
     {
-        match due(&self.senders, self.kernel.here, to) {
+        match self.due(to) {
             Some(packet) => {
                 push(outs, Out::Sends(packet))?;
-                sent_due(&mut self.senders, to);
+                self.sent_due(to);
                 Ok(true)
             }
             None => Ok(false),

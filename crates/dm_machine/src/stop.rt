@@ -13,6 +13,11 @@ pub enum Stop {
 }
 
 impl From<NoMemory> for Stop {
+    ghost use Rattle.std.specs.Prelude.{◌≡◌};
+    ghost use Rattle.dm_machine.specs.declared.stop.Stop.TheVariants as stops;
+
+    ghost from_gives = { λ e stop. stop ≡ stops.NoMemory e };
+
     fn from(e: NoMemory) -> Stop
         ensures { result ≡ Stop.NoMemory e }
     {

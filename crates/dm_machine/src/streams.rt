@@ -1,7 +1,8 @@
 //! The ends of a machine's streams, by machine.
-ghost use Rattle.std.specs.Prelude.{◌≡◌, ◌<◌, ◌≤◌, ◌+◌, ◌-◌, ◌^◌, ◌↔◌, IsSome, OnOk, Err, length, ℕ};
+ghost use Rattle.std.specs.Prelude.{◌≡◌, ◌<◌, ◌≤◌, ◌+◌, ◌-◌, ◌^◌, ◌↔◌, IfErr, IsSome, OnOk, Err, length, ℕ};
 ghost use Rattle.dm_stream.specs.Sending.{due, given_count, outstanding, with_acked, with_given, with_sent};
 ghost use Rattle.dm_stream.specs.Receiving.{after_arrival, after_next, arrival, next};
+ghost use Rattle.dm_stream.specs.Returned.{message_in};
 ghost use Rattle.dm_stream.specs.declared.sender.GiveNo.TheVariants as no;
 ghost use Rattle.dm_machine.specs.Acts.{count_out, none_waits};
 ghost use Rattle.dm_machine.specs.Out.{numbered};
@@ -26,6 +27,7 @@ pub fn give(senders: &mut [Sender<Message>], to: u8, message: Message) -> Result
     requires { to < length senders.old }
     ensures ok { OnOk result ((c : ℕ) → sender_of senders.new c ≡ at_machine (sender_of senders.old) to (with_given (sender_of senders.old to) message) c) }
     ensures worn { (result ≡ Err (no.Worn message)) ↔ (given_count (sender_of senders.old to) ≡ (sender_of senders.old to).numbers) }
+    ensures returned { IfErr result (λ e. message_in e ≡ message) }
     ensures length { length senders.new ≡ length senders.old }
 {
     senders[usize::from(to)].give(message)
