@@ -6,3 +6,4 @@ pub mod Turn
 pub mod May
 pub mod Served
 pub mod Meets
+pub mod Fits

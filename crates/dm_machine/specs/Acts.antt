@@ -4,6 +4,8 @@ use Rattle.std.specs.declared.option.Option.{Option}
 use Rattle.std.specs.declared.option.Option.TheVariants.{None, Some}
 use Rattle.dm_message.specs.declared.Message.{Message}
 use Rattle.dm_message.specs.Kinds.{kind_of}
+use Rattle.dm_packet.specs.declared.Packet.{Packet}
+use Rattle.dm_packet.specs.declared.Packet.TheVariants as packet
 use Rattle.dm_stream.specs.Packets.{Load, Data, Ack}
 use Rattle.dm_stream.specs.Sending.{Sending, window, given_count, due, outstanding, with_given, with_sent, with_acked}
 use Rattle.dm_stream.specs.Receiving.{Receiving, arrival, after_arrival, next, after_next}
@@ -105,7 +107,7 @@ abbrev pub takes_next : NodeState → ℕ → Option Message → (NodeState → 
 takes_next n a None go = record { state = n; outs = [] }
 takes_next n a (Some m) go = before (Says (line.Taken a (here n) (n.receivers a).count) ∷ []) (go (with_message (with_receiver n a (after_next (n.receivers a))) m))
 
-abbrev pub takes_kept : ℕ → NodeState → ℕ → Acted
+unfoldable pub takes_kept : ℕ → NodeState → ℕ → Acted
 takes_kept zero n a = record { state = n; outs = [] }
 takes_kept (suc k) n a = takes_next n a (next (n.receivers a)) (λ m. takes_kept k m a)
 
@@ -114,17 +116,20 @@ abbrev pub then_acknowledges : Acted → ℕ → Acted
 then_acknowledges d a = record { state = d.state; outs = d.outs ++ acknowledges d.state a }
 
 -- a message with its number comes from machine a
+abbrev pub comes_in : NodeState → ℕ → ℕ → Arrived Message → Acted
+comes_in n a k (Taken m) = before (Says (line.Taken a (here n) k) ∷ []) (takes_kept window (with_message n m) a)
+comes_in n a k Old = record { state = n; outs = Says (line.Old a (here n) k) ∷ [] }
+comes_in n a k Early = record { state = n; outs = Says (line.Early a (here n) k) ∷ [] }
+
 abbrev pub comes : NodeState → ℕ → ℕ → Arrived Message → Acted
-comes n a k (Taken m) = then_acknowledges (before (Says (line.Taken a (here n) k) ∷ []) (takes_kept window (with_message n m) a)) a
-comes n a k Old = then_acknowledges (record { state = n; outs = Says (line.Old a (here n) k) ∷ [] }) a
-comes n a k Early = then_acknowledges (record { state = n; outs = Says (line.Early a (here n) k) ∷ [] }) a
+comes n a k what = then_acknowledges (comes_in n a k what) a
 
 -- an acknowledgement lets messages go that wait, at most 8
 abbrev pub lets_next : NodeState → ℕ → Option (ℕ × Message) → (NodeState → Acted) → Acted
 lets_next n b None go = record { state = n; outs = [] }
 lets_next n b (Some p) go = before (sends n b (Data p.0 p.1) ∷ []) (go (with_sender n b (with_sent (n.senders b))))
 
-abbrev pub lets_go : ℕ → NodeState → ℕ → Acted
+unfoldable pub lets_go : ℕ → NodeState → ℕ → Acted
 lets_go zero n b = record { state = n; outs = [] }
 lets_go (suc k) n b = lets_next n b (due (n.senders b)) (λ m. lets_go k m b)
 
@@ -132,3 +137,7 @@ lets_go (suc k) n b = lets_next n b (due (n.senders b)) (λ m. lets_go k m b)
 abbrev pub arrives : NodeState → ℕ → Load Message → Acted
 arrives n a (Data k m) = comes (with_receiver n a (after_arrival (n.receivers a) k m)) a k (arrival (n.receivers a) k m)
 arrives n a (Ack k) = before (Says (line.Acked a (here n) k) ∷ []) (lets_go window (with_sender n a (with_acked (n.senders a) k)) a)
+
+abbrev pub arrives_packet : NodeState → Packet → Acted
+arrives_packet n (packet.Data from to seq m) = arrives n from (Data seq m)
+arrives_packet n (packet.Ack from to count) = arrives n from (Ack count)

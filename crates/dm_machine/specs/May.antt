@@ -3,6 +3,8 @@ use Rattle.std.specs.Prelude.{ℕ, ◌+◌, ◌-◌, ◌^◌, ◌<◌, ◌≤◌
 use Rattle.std.specs.List.{All}
 use Rattle.dm_message.specs.declared.Message.{Message}
 use Rattle.dm_message.specs.Lawful.{IsLawfulMessage}
+use Rattle.dm_packet.specs.declared.Packet.{Packet}
+use Rattle.dm_packet.specs.declared.Packet.TheVariants as packet
 use Rattle.dm_stream.specs.Packets.{Load, Data, Ack}
 use Rattle.dm_onekernel.specs.declared.boot.Boot.{Boot}
 use Rattle.dm_kernel.specs.May as kernel
@@ -29,3 +31,7 @@ pub record MayArrive (n : NodeState) (a : ℕ) (l : Load Message) : Type 0 where
   pub acts : MayAct n
   pub from : (a < 16) × (a ≢ here n)
   pub fits : FitsLoad n a l
+
+abbrev pub MayArrivePacket : NodeState → Packet → Type 0
+MayArrivePacket n (packet.Data from to seq m) = MayArrive n from (Data seq m)
+MayArrivePacket n (packet.Ack from to count) = MayArrive n from (Ack count)

@@ -75,6 +75,15 @@ Answers (Ok done) n old new a = GaveActs n old new a
 Answers (Err (stop.Worn from to)) n old new a = IsWorn from to a
 Answers (Err (stop.NoMemory e)) n old new a = ⊤
 
+abbrev pub GaveSome : Node → List Out → List Out → Option Acts → Type 0
+GaveSome n old new None = ⊥
+GaveSome n old new (Some a) = GaveActs n old new a
+
+abbrev pub IsWornSome : ℕ → ℕ → Option Acts → Type 0
+IsWornSome from to None = ⊥
+IsWornSome from to (Some a) = IsWorn from to a
+
 abbrev pub AnswersSome : Result Unit Stop → Node → List Out → List Out → Option Acts → Type 0
-AnswersSome r n old new None = ⊥
-AnswersSome r n old new (Some a) = Answers r n old new a
+AnswersSome (Ok done) n old new a = GaveSome n old new a
+AnswersSome (Err (stop.Worn from to)) n old new a = IsWornSome from to a
+AnswersSome (Err (stop.NoMemory e)) n old new a = ⊤

@@ -1,5 +1,5 @@
 -- One machine over plain functions and lists: its kernel, and both ends of its streams with the other machines.
-use Rattle.std.specs.Prelude.{ℕ, [], ◌∷◌, ◌++◌, length}
+use Rattle.std.specs.Prelude.{ℕ, nat_lt, if◌then◌else◌, [], ◌∷◌, ◌++◌, length}
 use Rattle.dm_message.specs.declared.Message.{Message}
 use Rattle.dm_stream.specs.Sending.{Sending, fresh_sending}
 use Rattle.dm_stream.specs.Receiving.{Receiving, fresh_receiving}
@@ -32,6 +32,10 @@ with_message n m = record n { kernel = record n.kernel { inbox = n.kernel.inbox 
 abbrev pub with_receiver : NodeState → ℕ → Receiving Message → NodeState
 with_receiver n a r = record n { receivers = at_machine n.receivers a r }
 
+-- there are streams to 16 machines
+abbrev pub fresh_sender : ℕ → ℕ → Sending Message
+fresh_sender numbers c = fresh_sending (if nat_lt c 16 then numbers else 0)
+
 -- a machine as the boot file has it: nothing was sent yet
 abbrev pub opened : Boot → ℕ → NodeState
 opened b m =
@@ -40,6 +44,6 @@ opened b m =
       machines = length b.machines;
       numbers = b.numbers;
       home = 0;
-      senders = λ c. fresh_sending b.numbers;
+      senders = fresh_sender b.numbers;
       receivers = λ c. fresh_receiving;
     }

@@ -73,7 +73,8 @@ impl Node {
     pub fn count_out(&self, to: u8) -> u32
         requires streams { HasStreams self.now }
         requires to { to < 16 }
-        ensures { result ≡ count_out ((state_of self.now).senders to) }
+        ensures count { result ≡ count_out ((state_of self.now).senders to) }
+        ensures few { result ≤ 8 }
     {
         streams::count_out(&self.senders, to)
     }

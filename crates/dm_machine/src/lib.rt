@@ -2,12 +2,15 @@
 //! packet; it gives lines to print and packets for the machine's own wires.
 #![tactic(auto)]
 
+mod arrive;
+mod begin;
 mod ends;
 pub mod node;
 pub mod out;
 mod route;
 pub mod stop;
 mod streams;
+mod turn;
 
 pub use dm_memory::NoMemory;
 pub use node::Node;

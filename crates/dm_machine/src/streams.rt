@@ -78,7 +78,8 @@ pub fn outstanding(senders: &[Sender<Message>], here: u8, to: u8, place: usize) 
 /// How many packets are out to machine `to` and not acknowledged.
 pub fn count_out(senders: &[Sender<Message>], to: u8) -> u32
     requires { to < length senders.now }
-    ensures { result ≡ count_out (sender_of senders.now to) }
+    ensures count { result ≡ count_out (sender_of senders.now to) }
+    ensures few { result ≤ 8 }
 {
     senders[usize::from(to)].out()
 }
