@@ -1,5 +1,5 @@
 -- What comes of a packet that arrives, one message after another.
-use Rattle.std.proofs.Common.{◌≡◌, ℕ, zero, suc, ◌+◌, ◌-◌, ◌<◌, ◌≤◌, Bool, true, false, ◌==◌, List, [], ◌∷◌, ◌++◌, refl, sym, ap, subst, inl, inr, ◌∙◌, append_assoc, append-nil, arith, eqb-true}
+use Rattle.std.proofs.Common.{◌≡◌, ℕ, suc, ◌+◌, ◌-◌, ◌<◌, ◌≤◌, Bool, true, false, List, [], ◌∷◌, ◌++◌, refl, sym, ap, subst, inl, inr, ◌∙◌, append_assoc, append-nil, arith}
 use Rattle.std.specs.Prelude.{if◌then◌else◌, is_some}
 use Rattle.std.specs.declared.option.Option.{Option}
 use Rattle.std.specs.declared.option.Option.TheVariants.{None, Some}
@@ -7,12 +7,12 @@ use Rattle.std.proofs.lemmas.Bool.Decides.{eqb_tells}
 use Rattle.dm_message.specs.declared.Message.{Message}
 use Rattle.dm_rule.specs.declared.line.Line.TheVariants as line
 use Rattle.dm_rule.specs.Sets.{at_machine}
-use Rattle.dm_stream.specs.Sending.{Sending, due, window}
+use Rattle.dm_stream.specs.Sending.{due, window}
 use Rattle.dm_stream.specs.Receiving.{Receiving, moved_up, next, after_next}
 use Rattle.dm_stream.specs.declared.receiver.Arrived.{Arrived}
 use Rattle.dm_machine.specs.declared.node.Node.{Node}
 use Rattle.dm_machine.specs.declared.out.Out.{Out}
-use Rattle.dm_machine.specs.declared.out.Out.TheVariants.{Says, Sends}
+use Rattle.dm_machine.specs.declared.out.Out.TheVariants.{Says}
 use Rattle.dm_machine.specs.State.{NodeState, here, with_message, with_receiver}
 use Rattle.dm_machine.specs.Out.{Acted}
 use Rattle.dm_machine.specs.Acts.{acknowledges, before, comes, comes_in, lets_go, lets_next, sends_due, takes_kept, takes_next, then_acknowledges}
@@ -36,8 +36,8 @@ gave_acknowledged after old mid new a from g e =
 same_everywhere : {X : Type 0} (f : ℕ → X) (a : ℕ) (x : X) → x ≡ f a → (c : ℕ) → at_machine f a x c ≡ f c
 same_everywhere f a x e c =
     elim (eqb_tells a c) [
-      inl t ↦ ap (λ (b : Bool). if b then x else f c) t.0 ∙ e ∙ ap f t.1
-    | inr t ↦ ap (λ (b : Bool). if b then x else f c) t.0
+      | inl t ↦ ap (λ (b : Bool). if b then x else f c) t.0 ∙ e ∙ ap f t.1
+      | inr t ↦ ap (λ (b : Bool). if b then x else f c) t.0
     ]
 
 receiver_stays : (n : NodeState) (a : ℕ) (r : Receiving Message) → r ≡ n.receivers a → with_receiver n a r ≡ n

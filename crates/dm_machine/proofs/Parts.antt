@@ -1,5 +1,5 @@
 -- The parts of a turn, one after another.
-use Rattle.std.proofs.Common.{◌≡◌, ℕ, suc, ◌+◌, ◌^◌, ◌<◌, ◌≤◌, Bool, true, false, ◌==◌, List, [], ◌∷◌, ◌++◌, length, refl, sym, ap, subst, inl, inr, ◌∙◌, append_assoc, append-nil, arith, eqb-true}
+use Rattle.std.proofs.Common.{◌≡◌, ℕ, suc, ◌≤◌, Bool, true, false, ◌==◌, List, [], ◌∷◌, ◌++◌, length, refl, sym, ap, subst, inl, inr, ◌∙◌, append_assoc, append-nil, arith}
 use Rattle.std.specs.Prelude.{Result, ⊤, if◌then◌else◌}
 use Rattle.std.specs.declared.option.Option.{Option}
 use Rattle.std.specs.declared.option.Option.TheVariants.{None, Some}
@@ -17,11 +17,11 @@ use Rattle.dm_machine.specs.declared.node.Node.{Node}
 use Rattle.dm_machine.specs.declared.stop.Stop.{Stop}
 use Rattle.dm_machine.specs.declared.stop.Stop.TheVariants as stop
 use Rattle.dm_machine.specs.declared.out.Out.{Out}
-use Rattle.dm_machine.specs.declared.out.Out.TheVariants.{Says, Sends}
+use Rattle.dm_machine.specs.declared.out.Out.TheVariants.{Says}
 use Rattle.dm_machine.specs.State.{NodeState, here, with_sender}
-use Rattle.dm_machine.specs.Out.{Acted, Acts, Goes, Worn, behind, then_}
+use Rattle.dm_machine.specs.Out.{Acts, Goes, Worn, behind, then_}
 use Rattle.dm_machine.specs.Acts.{acts, gives, is_worn, none_waits, routes, routes_away, routes_home, sends_due, turns}
-use Rattle.dm_machine.specs.Meets.{Answers, AnswersSome, Gave, GaveActs, HasStreams, IsWorn, state_of}
+use Rattle.dm_machine.specs.Meets.{Answers, AnswersSome, GaveActs, HasStreams, state_of}
 
 -- what answers the rest answers the whole
 pub answers_behind : (r : Result Unit Stop) (after : Node) (old mid new : List Out) (outs : List Out) (a : Acts) → mid ≡ old ++ outs → Answers r after mid new a → Answers r after old new (behind outs a)
@@ -94,15 +94,15 @@ away_counts n b m s false h = gives_counts n b m s (none_waits s) h
 home_counts : (n : NodeState) (m : Message) → n.home ≤ n.numbers → CountsIn n.numbers (routes_home n m (n.home == n.numbers))
 home_counts n m h =
     elim (eqb_tells n.home n.numbers) [
-      inl e ↦ subst (λ c. CountsIn n.numbers (routes_home n m c)) (sym e.0) tt
-    | inr e ↦ subst (λ c. CountsIn n.numbers (routes_home n m c)) (sym e.0) (let d = e.1 in record { home = omega (arith, d); numbers = refl })
+      | inl e ↦ subst (λ c. CountsIn n.numbers (routes_home n m c)) (sym e.0) tt
+      | inr e ↦ subst (λ c. CountsIn n.numbers (routes_home n m c)) (sym e.0) (let d = e.1 in record { home = omega (arith, d); numbers = refl })
     ]
 
 pub routes_counts : (n : NodeState) (m : Message) → n.home ≤ n.numbers → CountsIn n.numbers (routes n m)
 routes_counts n m h =
     elim (m.to.at == here n) as (λ c. CountsIn n.numbers (if c then routes_home n m (n.home == n.numbers) else routes_away n m.to.at m (n.senders m.to.at))) [
-      true ↦ home_counts n m h
-    | false ↦ away_counts n m.to.at m (n.senders m.to.at) (is_worn (n.senders m.to.at)) h
+      | true ↦ home_counts n m h
+      | false ↦ away_counts n m.to.at m (n.senders m.to.at) (is_worn (n.senders m.to.at)) h
     ]
 
 gave_counts : (a : Acts) (numbers : ℕ) (after : Node) (old new : List Out) → GaveActs after old new a → CountsIn numbers a → Counts (state_of after) numbers

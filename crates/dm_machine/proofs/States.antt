@@ -20,7 +20,7 @@ use Rattle.dm_machine.specs.declared.stop.Stop.TheVariants as stop
 use Rattle.dm_machine.specs.declared.out.Out.{Out}
 use Rattle.dm_machine.specs.declared.out.Out.TheVariants.{Says, Sends}
 use Rattle.dm_machine.specs.State.{NodeState, here, with_sender, with_receiver}
-use Rattle.dm_machine.specs.Out.{Acted, Acts, Goes, Worn, numbered}
+use Rattle.dm_machine.specs.Out.{Acted, Acts, Worn, numbered}
 use Rattle.dm_machine.specs.Acts.{gives, is_worn, none_waits, put_line, routes_away, sends_due}
 use Rattle.dm_machine.specs.Meets.{Answers, Gave, GaveActs, HasStreams, receiver_of, sender_of, state_of}
 
@@ -82,5 +82,5 @@ given_goes n mid after b m old between new state outs gave =
     let s = with_given (n.senders b) m in
     let set = with_sender n b s in
     let e : sends_due mid b (due (mid.senders b)) ≡ sends_due set b (due s) =
-        ap (λ (x : NodeState). sends_due x b (due (x.senders b))) state ∙ ap (λ (x : Sending Message). sends_due set b (due x)) (at_same n.senders b s) in
+    ap (λ (x : NodeState). sends_due x b (due (x.senders b))) state ∙ ap (λ (x : Sending Message). sends_due set b (due x)) (at_same n.senders b s) in
     behind_gave after old between new (Says (put_line n m)) (sends_due set b (due s)) outs (subst (Gave after between new) e gave)

@@ -1,5 +1,5 @@
 -- What the events of a machine count on stays: what waits to be acknowledged can be put into packets.
-use Rattle.std.proofs.Common.{◌≡◌, ℕ, zero, suc, ◌+◌, ◌-◌, ◌<◌, ◌≤◌, Bool, true, false, ◌==◌, List, [], ◌∷◌, ◌++◌, sym, subst, inl, inr, arith}
+use Rattle.std.proofs.Common.{◌≡◌, ℕ, zero, suc, ◌-◌, ◌<◌, Bool, true, false, ◌==◌, List, [], ◌∷◌, sym, subst, inl, inr, arith}
 use Rattle.std.specs.Prelude.{⊤, if◌then◌else◌}
 use Rattle.std.specs.List.{All}
 use Rattle.std.specs.declared.option.Option.{Option}
@@ -11,7 +11,7 @@ use Rattle.dm_message.specs.Lawful.{IsLawfulMessage}
 use Rattle.dm_kernel.specs.declared.part.Part.{Part}
 use Rattle.dm_kernel.specs.declared.part.Part.TheVariants as part
 use Rattle.dm_kernel.specs.Fits.{PartFits, PartsFit}
-use Rattle.dm_kernel.specs.State.{KernelState, Turned}
+use Rattle.dm_kernel.specs.State.{Turned}
 use Rattle.dm_packet.specs.declared.Packet.{Packet}
 use Rattle.dm_packet.specs.declared.Packet.TheVariants as packet
 use Rattle.dm_stream.specs.Packets.{Load, Data, Ack}
@@ -67,10 +67,10 @@ home_may : (n : NodeState) (m : Message) → MayAct n → MayAfter (routes_home 
 home_may n m h =
     let small = h.home in
     elim (eqb_tells n.home n.numbers) [
-      inl e ↦ subst (λ c. MayAfter (routes_home n m c)) (sym e.0) tt
-    | inr e ↦
-      subst (λ c. MayAfter (routes_home n m c)) (sym e.0)
-      (let d = e.1 in record { here = h.here; machines = h.machines; numbers = h.numbers; home = omega (arith, d, small); unacked = h.unacked })
+      | inl e ↦ subst (λ c. MayAfter (routes_home n m c)) (sym e.0) tt
+      | inr e ↦
+          subst (λ c. MayAfter (routes_home n m c)) (sym e.0)
+          (let d = e.1 in record { here = h.here; machines = h.machines; numbers = h.numbers; home = omega (arith, d, small); unacked = h.unacked })
     ]
 
 pub routes_may : (n : NodeState) (m : Message) → IsLawfulMessage m → MayAct n → MayAfter (routes n m)
@@ -78,8 +78,8 @@ routes_may n m l h =
     let at = l.to.at in
     let k : m.to.at < 16 = omega (arith, at) in
     elim (m.to.at == here n) as (λ (c : Bool). MayAfter (if c then routes_home n m (n.home == n.numbers) else routes_away n m.to.at m (n.senders m.to.at))) [
-      true ↦ home_may n m h
-    | false ↦ away_may n m.to.at m k l h
+      | true ↦ home_may n m h
+      | false ↦ away_may n m.to.at m k l h
     ]
 
 behind_may : (outs : List Out) (a : Acts) → MayAfter a → MayAfter (behind outs a)

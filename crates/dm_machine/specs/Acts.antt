@@ -8,7 +8,7 @@ use Rattle.dm_packet.specs.declared.Packet.{Packet}
 use Rattle.dm_packet.specs.declared.Packet.TheVariants as packet
 use Rattle.dm_stream.specs.Packets.{Load, Data, Ack}
 use Rattle.dm_stream.specs.Sending.{Sending, window, given_count, due, outstanding, with_given, with_sent, with_acked}
-use Rattle.dm_stream.specs.Receiving.{Receiving, arrival, after_arrival, next, after_next}
+use Rattle.dm_stream.specs.Receiving.{arrival, after_arrival, next, after_next}
 use Rattle.dm_stream.specs.declared.receiver.Arrived.{Arrived}
 use Rattle.dm_stream.specs.declared.receiver.Arrived.TheVariants.{Taken, Old, Early}
 use Rattle.dm_onekernel.specs.declared.boot.Boot.{Boot}

@@ -1,6 +1,5 @@
 -- What is printed of an event's packets, and what stands on the wires then.
 use Rattle.std.specs.Prelude.{ℕ, List, [], ◌∷◌, length}
-use Rattle.dm_message.specs.declared.Message.{Message}
 use Rattle.dm_packet.specs.declared.Packet.{Packet}
 use Rattle.dm_packet.specs.declared.Packet.TheVariants as packet
 use Rattle.dm_packet.specs.Packets.{spelling}

@@ -29,14 +29,23 @@ impl Node {
     {
         match packet {
             Packet::Data {
-                from, seq, message, ..
+                from,
+                seq,
+                message,
+                ..
             } => self.take(from, seq, message, outs),
             Packet::Ack { from, count, .. } => self.hear(from, count, outs),
         }
     }
 
     /// Takes a message with its number, from machine `from`, and acknowledges all that were taken.
-    fn take(&mut self, from: u8, seq: u32, message: Message, outs: &mut Vec<Out>) -> Result<(), NoMemory>
+    fn take(
+        &mut self,
+        from: u8,
+        seq: u32,
+        message: Message,
+        outs: &mut Vec<Out>,
+    ) -> Result<(), NoMemory>
         requires may { MayArrive (state_of self.old) from (Data seq message) }
         requires streams { HasStreams self.old }
         ensures { OnOk result (Gave self.new outs.old.items outs.new.items (arrives (state_of self.old) from (Data seq message))) }
@@ -47,7 +56,13 @@ impl Node {
     }
 
     /// Says what an arrival is. If it is the next message, it comes into the inbox, with those behind it.
-    fn take_in(&mut self, from: u8, seq: u32, arrived: Arrived<Message>, outs: &mut Vec<Out>) -> Result<(), NoMemory>
+    fn take_in(
+        &mut self,
+        from: u8,
+        seq: u32,
+        arrived: Arrived<Message>,
+        outs: &mut Vec<Out>,
+    ) -> Result<(), NoMemory>
         requires from { from < 16 }
         requires streams { HasStreams self.old }
         ensures { OnOk result (Gave self.new outs.old.items outs.new.items (comes_in (state_of self.old) from seq arrived)) }
@@ -55,24 +70,33 @@ impl Node {
         let here = self.kernel.here;
         match arrived {
             Arrived::Taken(message) => {
-                push(outs, Out::Says(Line::Taken {
-                    from,
-                    to: here,
-                    n: seq,
-                }))?;
+                push(
+                    outs,
+                    Out::Says(Line::Taken {
+                        from,
+                        to: here,
+                        n: seq,
+                    }),
+                )?;
                 self.kernel.inbox.push(message)?;
                 self.take_kept(from, outs)?;
             }
-            Arrived::Old => push(outs, Out::Says(Line::Old {
-                from,
-                to: here,
-                n: seq,
-            }))?,
-            Arrived::Early => push(outs, Out::Says(Line::Early {
-                from,
-                to: here,
-                n: seq,
-            }))?,
+            Arrived::Old => push(
+                outs,
+                Out::Says(Line::Old {
+                    from,
+                    to: here,
+                    n: seq,
+                }),
+            )?,
+            Arrived::Early => push(
+                outs,
+                Out::Says(Line::Early {
+                    from,
+                    to: here,
+                    n: seq,
+                }),
+            )?,
         }
         Ok(())
     }
@@ -87,11 +111,14 @@ impl Node {
             let n = self.count(from);
             match self.next_kept(from) {
                 Some(message) => {
-                    push(outs, Out::Says(Line::Taken {
-                        from,
-                        to: self.kernel.here,
-                        n,
-                    }))?;
+                    push(
+                        outs,
+                        Out::Says(Line::Taken {
+                            from,
+                            to: self.kernel.here,
+                            n,
+                        }),
+                    )?;
                     self.kernel.inbox.push(message)?;
                 }
                 None => return Ok(()),
@@ -106,11 +133,14 @@ impl Node {
         requires streams { HasStreams self.now }
         ensures { OnOk result (outs.new.items ≡ outs.old.items ++ acknowledges (state_of self.now) to) }
     {
-        push(outs, Out::Sends(Packet::Ack {
-            from: self.kernel.here,
-            to,
-            count: self.count(to),
-        }))
+        push(
+            outs,
+            Out::Sends(Packet::Ack {
+                from: self.kernel.here,
+                to,
+                count: self.count(to),
+            }),
+        )
     }
 
     /// Machine `from` has taken the first `count` messages: those that wait go out, as far as the window allows.
@@ -119,11 +149,14 @@ impl Node {
         requires streams { HasStreams self.old }
         ensures { OnOk result (Gave self.new outs.old.items outs.new.items (arrives (state_of self.old) from (Ack count))) }
     {
-        push(outs, Out::Says(Line::Acked {
-            from,
-            to: self.kernel.here,
-            n: count,
-        }))?;
+        push(
+            outs,
+            Out::Says(Line::Acked {
+                from,
+                to: self.kernel.here,
+                n: count,
+            }),
+        )?;
         self.acked(from, count);
         for _round in 0..WINDOW {
             if !self.send_due(from, outs)? {

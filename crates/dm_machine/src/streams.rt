@@ -23,7 +23,11 @@ pub fn none_waits(senders: &[Sender<Message>], to: u8) -> bool
 }
 
 /// Gives a message to the stream to machine `to`.
-pub fn give(senders: &mut [Sender<Message>], to: u8, message: Message) -> Result<(), GiveNo<Message>>
+pub fn give(
+    senders: &mut [Sender<Message>],
+    to: u8,
+    message: Message,
+) -> Result<(), GiveNo<Message>>
     requires { to < length senders.old }
     ensures ok { OnOk result ((c : ℕ) → sender_of senders.new c ≡ at_machine (sender_of senders.old) to (with_given (sender_of senders.old to) message) c) }
     ensures worn { (result ≡ Err (no.Worn message)) ↔ (given_count (sender_of senders.old to) ≡ (sender_of senders.old to).numbers) }
@@ -103,7 +107,12 @@ pub fn count(receivers: &[Receiver<Message>], from: u8) -> u32
 }
 
 /// A message with its number has come from machine `from`.
-pub fn arrive(receivers: &mut [Receiver<Message>], from: u8, seq: u32, message: Message) -> Arrived<Message>
+pub fn arrive(
+    receivers: &mut [Receiver<Message>],
+    from: u8,
+    seq: u32,
+    message: Message,
+) -> Arrived<Message>
     requires within { from < length receivers.old }
     requires in_window { seq < (receiver_of receivers.old from).count + 8 }
     requires numbered { seq < 2 ^ 32 - 1 }

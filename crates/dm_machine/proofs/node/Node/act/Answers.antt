@@ -1,9 +1,8 @@
-use Rattle.std.proofs.Common.{◌≡◌, ◌<◌, ◌∷◌, sym, ap, subst, ◌∙◌}
+use Rattle.std.proofs.Common.{◌<◌, ◌∷◌, sym, ap, subst, ◌∙◌}
 use Rattle.std.specs.declared.result.Result.TheVariants.{Ok}
 use Rattle.std.specs.Vec.Iter.{into_iter_items}
 use Rattle.std.proofs.lemmas.List.Elements.{All-rest}
 use Rattle.dm_kernel.specs.Fits.{PartFits}
-use Rattle.dm_kernel.specs.declared.part.Part.TheVariants.{Says, Routes}
 use Rattle.dm_machine.specs.Acts.{acts, routes}
 use Rattle.dm_machine.specs.Meets.{Answers, state_of}
 use Rattle.dm_machine.proofs.Parts.{all_done, gave_streams, line_said, message_routed, routed_counts}

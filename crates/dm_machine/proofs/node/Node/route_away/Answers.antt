@@ -1,4 +1,4 @@
-use Rattle.std.proofs.Common.{◌≡◌, true, ◌++◌, ◌∷◌, [], ap, sym, subst, ◌∙◌}
+use Rattle.std.proofs.Common.{true, ◌++◌, ◌∷◌, [], ap, sym, subst, ◌∙◌}
 use Rattle.dm_machine.specs.declared.out.Out.TheVariants.{Says}
 use Rattle.dm_machine.specs.Meets.{GaveActs, state_of}
 use Rattle.dm_machine.proofs.States.{given, given_goes}

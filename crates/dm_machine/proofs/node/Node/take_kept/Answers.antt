@@ -25,7 +25,7 @@ loop-round-preserved c =
     let mid = record next { kernel = record next.kernel { inbox = c.push-in-Some.new.self } } in
     let state = c.next_kept.ensures.state in
     let told : line.Taken from (here next) c.count-n.result ≡ line.Taken from (here n) (n.receivers from).count =
-        ap (λ (s : NodeState). line.Taken from (here s) c.count-n.result) state ∙ ap (λ k. line.Taken from (here n) k) c.count-n.ensures in
+    ap (λ (s : NodeState). line.Taken from (here s) c.count-n.result) state ∙ ap (λ k. line.Taken from (here n) k) c.count-n.ensures in
     record {
       streams = record { senders = c.next_kept.ensures.streams.senders; receivers = c.next_kept.ensures.streams.receivers };
       rest = λ after new g.

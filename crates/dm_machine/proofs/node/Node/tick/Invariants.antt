@@ -1,4 +1,4 @@
-use Rattle.std.proofs.Common.{◌≡◌, ◌++◌, ◌∷◌, []}
+use Rattle.std.proofs.Common.{◌≡◌, ◌++◌, ◌∷◌}
 use Rattle.dm_rule.specs.declared.line.Line.TheVariants as line
 use Rattle.dm_machine.specs.declared.out.Out.TheVariants.{Says}
 use Rattle.dm_machine.specs.Acts.{all_out, counts_out}
