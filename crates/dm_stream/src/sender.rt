@@ -1,5 +1,5 @@
 //! The sending side of a stream.
-ghost use Rattle.std.specs.Prelude.{IfErr, IsSome, OnErr, OnOk, drop, option_map, ◌≡◌, ◌↔◌, ◌≤◌};
+ghost use Rattle.std.specs.Prelude.{IfErr, IsSome, OnErr, OnOk, drop, option_map, ◌≡◌, ◌↔◌, ◌≤◌, ◌-◌};
 ghost use Rattle.dm_stream.specs.Returned.{message_in};
 
 use dm_memory::NoMemory;
@@ -77,6 +77,13 @@ impl<M> Sender<M> {
         ensures { result ≡ self.now.acked }
     {
         self.acked
+    }
+
+    /// How many messages have gone out and aren't acknowledged, 0 to 8.
+    pub fn out(&self) -> u32
+        ensures { result ≡ self.now.gone - self.now.acked }
+    {
+        self.gone - self.acked
     }
 
     /// Gives one more message, which gets the next number.

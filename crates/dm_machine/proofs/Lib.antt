@@ -1,0 +1,5 @@
+pub mod States
+pub mod Parts
+pub mod Arrivals
+pub mod Beginnings
+pub mod Staying

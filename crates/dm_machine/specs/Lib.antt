@@ -1,0 +1,6 @@
+pub mod State
+pub mod Out
+pub mod Acts
+pub mod Wired
+pub mod Meets
+pub mod May

@@ -1,0 +1,18 @@
+//! One machine: its kernel, and its streams with the other machines. An event is a turn, a tick or the arrival of a
+//! packet; it gives lines to print and packets for the machine's own wires.
+#![tactic(auto)]
+
+mod arrive;
+mod begin;
+mod ends;
+pub mod node;
+pub mod out;
+mod route;
+pub mod stop;
+mod streams;
+mod turn;
+
+pub use dm_memory::NoMemory;
+pub use node::Node;
+pub use out::Out;
+pub use stop::Stop;

@@ -1,0 +1,21 @@
+//! A machine.
+use dm_kernel::Kernel;
+use dm_message::Message;
+use dm_stream::{Receiver, Sender};
+use std::alloc::Global;
+
+/// A machine.
+#[derive(Drop)]
+pub struct Node {
+    pub alloc: Global,
+    pub kernel: Kernel,
+    /// How many machines there are, 1 to 16.
+    pub machines: u8,
+    /// The greatest number of messages that it may route to any machine, 1 to 1,048,576.
+    pub numbers: u32,
+    /// How many it has routed to itself.
+    pub home: u32,
+    /// What goes to each machine, and what comes from it, for 16 machines.
+    pub senders: Vec<Sender<Message>>,
+    pub receivers: Vec<Receiver<Message>>,
+}

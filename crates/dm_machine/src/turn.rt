@@ -1,0 +1,96 @@
+//! A turn and a tick of a machine.
+ghost use Rattle.std.specs.Prelude.{◌≡◌, ◌<◌, ◌≤◌, ◌+◌, ◌^◌, ◌++◌, [], IfOk, OnOk};
+ghost use Rattle.dm_kernel.specs.Fits.{PartsFit};
+ghost use Rattle.dm_machine.specs.Acts.{acts, all_out, count_out, counts_out, first_out, tick, turn};
+ghost use Rattle.dm_machine.specs.May.{MayAct, MayTurn};
+ghost use Rattle.dm_machine.specs.Meets.{Answers, AnswersSome, Gave, HasStreams, state_of};
+
+use crate::node::Node;
+use crate::out::Out;
+use crate::route::push;
+use crate::stop::Stop;
+use dm_kernel::Part;
+use dm_memory::NoMemory;
+use dm_onekernel::Boot;
+use dm_rule::line::Line;
+
+impl Node {
+    /// Takes a turn. What it gives comes to the end of `outs`. It stops as worn exactly where it would route a message
+    /// to a machine to which it has routed as many as it may.
+    pub fn turn(&mut self, boot: &Boot, outs: &mut Vec<Out>) -> Result<(), Stop>
+        requires may { MayTurn boot.now (state_of self.old) }
+        requires streams { HasStreams self.old }
+        ensures { AnswersSome result self.new outs.old.items outs.new.items (turn boot.now (state_of self.old)) }
+    {
+        match self.kernel.turn(boot) {
+            Ok(parts) => self.act(parts, outs),
+            Err(e) => Err(Stop::NoMemory(e)),
+        }
+    }
+
+    /// Prints and routes the parts of a turn, in order.
+    fn act(&mut self, parts: Vec<Part>, outs: &mut Vec<Out>) -> Result<(), Stop>
+        requires streams { HasStreams self.old }
+        requires parts { PartsFit parts.items }
+        requires home { self.old.home ≤ self.old.numbers }
+        requires numbers { self.old.numbers < 2 ^ 32 }
+        ensures { Answers result self.new outs.old.items outs.new.items (acts (state_of self.old) parts.items) }
+    {
+        for part in parts {
+            match part {
+                Part::Says(line) => push(outs, Out::Says(line))?,
+                Part::Routes(message) => self.route(message, outs)?,
+            }
+        }
+        Ok(())
+    }
+
+    /// Sends all packets again that are out and not acknowledged, by machine and by number.
+    pub fn tick(&self, outs: &mut Vec<Out>) -> Result<(), NoMemory>
+        requires may { MayAct (state_of self.now) }
+        requires streams { HasStreams self.now }
+        ensures { OnOk result (Gave self.now outs.old.items outs.new.items (tick (state_of self.now))) }
+    {
+        let resent = Line::Resent {
+            machine: self.kernel.here,
+            count: self.counts_out(),
+        };
+        push(outs, Out::Says(resent))?;
+        for to in 0..self.machines {
+            if to != self.kernel.here {
+                self.send_again(to, outs)?;
+            }
+        }
+        Ok(())
+    }
+
+    /// How many packets are out to other machines and not acknowledged, 0 to 120.
+    fn counts_out(&self) -> u32
+        requires streams { HasStreams self.now }
+        requires machines { self.now.machines ≤ 16 }
+        ensures { result ≡ counts_out (state_of self.now) self.now.machines }
+    {
+        let mut count = 0;
+        for to in 0..self.machines {
+            if to != self.kernel.here {
+                count += self.count_out(to);
+            }
+        }
+        count
+    }
+
+    /// Sends all packets again that are out to machine `to`.
+    fn send_again(&self, to: u8, outs: &mut Vec<Out>) -> Result<(), NoMemory>
+        requires streams { HasStreams self.now }
+        requires to { to < 16 }
+        ensures { OnOk result (outs.new.items ≡ outs.old.items ++ first_out (state_of self.now) to (count_out ((state_of self.now).senders to))) }
+    {
+        let count = self.count_out(to);
+        for place in 0..count {
+            if let Some(packet) = self.outstanding(to, place as usize) {
+                push(outs, Out::Sends(packet))?;
+            }
+        }
+        Ok(())
+    }
+}

@@ -1,0 +1,74 @@
+-- All machines and the wires between them, and what a directive does.
+use Rattle.std.specs.Prelude.{ℕ, Bool, List, [], ◌∷◌, ◌++◌}
+use Rattle.std.specs.declared.option.Option.{Option}
+use Rattle.std.specs.declared.option.Option.TheVariants.{None, Some}
+use Rattle.std.specs.declared.result.Result.{Result}
+use Rattle.std.specs.declared.result.Result.TheVariants.{Ok, Err}
+use Rattle.dm_message.specs.declared.Message.{Message}
+use Rattle.dm_stream.specs.Packets.{Load, Data, Ack}
+use Rattle.dm_packet.specs.declared.Packet.{Packet}
+use Rattle.dm_packet.specs.declared.Packet.TheVariants as packet
+use Rattle.dm_packet.specs.declared.Bad.{Bad}
+use Rattle.dm_packet.specs.Packets.{packet_of}
+use Rattle.dm_wire.specs.Sent.{Sent, bytes_at}
+use Rattle.dm_wire.specs.Wire.{after_mark}
+use Rattle.dm_onekernel.specs.declared.boot.Boot.{Boot}
+use Rattle.dm_schedule.specs.declared.Step.{Step}
+use Rattle.dm_schedule.specs.declared.Step.TheVariants as step
+use Rattle.dm_rule.specs.declared.line.Line.{Line}
+use Rattle.dm_rule.specs.declared.line.Line.TheVariants as line
+use Rattle.dm_rule.specs.Sets.{at_machine}
+use Rattle.dm_machine.specs.State.{NodeState, opened}
+use Rattle.dm_machine.specs.Out.{Acted, Acts, Goes, Worn}
+use Rattle.dm_machine.specs.Acts as node
+use Rattle.dm_machine.specs.Wired.{Spoken, spoken}
+
+pub record WorldState : Type 0 where
+  pub nodes : ℕ → NodeState
+  -- all packets ever put on the wire from one machine to another
+  pub wires : ℕ → ℕ → List Sent
+
+-- the world after a directive, and the group of lines that it printed
+pub record Said : Type 0 where
+  pub state : WorldState
+  pub lines : List Line
+
+-- the group of a directive, or the two machines that it would let count one message too many
+pub data Happened : Type 0 where
+  Says : (said : Said) → Happened
+  WornOut : (from : ℕ) → (to : ℕ) → Happened
+
+-- machine m has acted; the group begins with the directive
+abbrev pub acted : WorldState → Step → ℕ → Acted → Said
+acted w e m d =
+    let gave : Spoken = spoken m w.wires d.outs in
+    record { state = record { nodes = at_machine w.nodes m d.state; wires = gave.wires }; lines = line.Head e ∷ gave.lines }
+
+abbrev pub turned : WorldState → Step → ℕ → Option Acts → Option Happened
+turned w e m None = None
+turned w e m (Some (Goes d)) = Some (Says (acted w e m d))
+turned w e m (Some (Worn from to)) = Some (WornOut from to)
+
+-- a packet is delivered: what it carries comes to machine c from machine a
+abbrev pub arrives : WorldState → Step → ℕ → ℕ → Load Message → Option Happened
+arrives w e a c carried = Some (Says (acted w e c (node.arrives (w.nodes c) a carried)))
+
+abbrev pub reads : WorldState → Step → ℕ → ℕ → Result Packet Bad → Option Happened
+reads w e a c (Ok (packet.Data from to k m)) = arrives w e a c (Data k m)
+reads w e a c (Ok (packet.Ack from to k)) = arrives w e a c (Ack k)
+reads w e a c (Err bad) = None
+
+abbrev pub delivers : WorldState → Step → ℕ → ℕ → ℕ → Option (List ℕ) → Option Happened
+delivers w e a c k None = Some (Says (record { state = w; lines = line.Head e ∷ line.Nothing ∷ [] }))
+delivers w e a c k (Some bytes) = reads (record w { wires = after_mark w.wires a c k }) e a c (packet_of bytes)
+
+-- an elementary directive, a row each; migrations have theirs with migration
+abbrev pub world_step : Boot → WorldState → Step → Option Happened
+world_step b w (step.Turn m) = turned w (step.Turn m) m (node.turn b (w.nodes m))
+world_step b w (step.Tick m) = Some (Says (acted w (step.Tick m) m (node.tick (w.nodes m))))
+world_step b w (step.Deliver a c k) = delivers w (step.Deliver a c k) a c k (bytes_at (w.wires a c) k)
+world_step b w (step.Migrate p m) = None
+
+-- the world as the boot file has it
+abbrev pub first_world : Boot → WorldState
+first_world b = record { nodes = opened b; wires = λ x y. [] }

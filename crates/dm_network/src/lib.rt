@@ -1,0 +1,2 @@
+//! All machines and the wires between them.
+#![tactic(auto)]
