@@ -1,0 +1,1 @@
+//! What holds wherever the rule leads, whoever ran by it.
