@@ -6,3 +6,5 @@ pub mod FitsServes
 pub mod FitsCreates
 pub mod FitsServers
 pub mod FitsStart
+pub mod RunLabels
+pub mod SeenLives
