@@ -8,3 +8,5 @@ pub mod FitsServers
 pub mod FitsStart
 pub mod RunLabels
 pub mod SeenLives
+pub mod SeenPoint
+pub mod SeenParts
