@@ -10,3 +10,4 @@ pub mod RunLabels
 pub mod SeenLives
 pub mod SeenPoint
 pub mod SeenParts
+pub mod SeenLabels
