@@ -11,3 +11,4 @@ pub mod SeenLives
 pub mod SeenPoint
 pub mod SeenParts
 pub mod SeenLabels
+pub mod GoesTurns
