@@ -12,3 +12,5 @@ pub mod SeenPoint
 pub mod SeenParts
 pub mod SeenLabels
 pub mod GoesTurns
+pub mod GoesFront
+pub mod GoesProcess
