@@ -14,3 +14,4 @@ pub mod SeenLabels
 pub mod GoesTurns
 pub mod GoesFront
 pub mod GoesProcess
+pub mod GoesServers
