@@ -58,7 +58,7 @@ begins_with : (b : Boot) (p : BootProcess) (n : ℕ) (o : Option BootImage) → 
 begins_with b p n None some le = cc
 begins_with b p n (Some i) some le = let f = memory_long i in grind (arith, nat_tests)
 
-get_some : {X : Type 0} (xs : List X) (k : ℕ) → nat_lt k (length xs) ≡ true → is_some (slice_get xs k) ≡ true
+pub get_some : {X : Type 0} (xs : List X) (k : ℕ) → nat_lt k (length xs) ≡ true → is_some (slice_get xs k) ≡ true
 get_some [] k e = absurd (let f : nat_lt k 0 ≡ false = grind (arith, nat_tests) in false≢true (sym f ∙ e))
 get_some (x ∷ xs) zero e = refl
 get_some (x ∷ xs) (suc k) e = get_some xs k (let f : nat_lt k (length xs) ≡ true = grind (arith, nat_tests) in f)

@@ -15,3 +15,5 @@ pub mod GoesTurns
 pub mod GoesFront
 pub mod GoesProcess
 pub mod GoesServers
+pub mod SeenStart
+pub mod GoesAlways

@@ -1,1 +1,19 @@
 //! What holds wherever the rule leads, whoever ran by it.
+ghost use Rattle.dm_rulelaws.specs.Laws.{FitsAlways, GoesOnAlways, KnownAlways};
+
+/// Wherever the rule leads from a boot file, each directive but a migration has its group.
+pub fn goes_on_always()
+    ensures { GoesOnAlways }
+{}
+
+/// Wherever the rule leads from a boot file, each link leads to a server or to a process whose memory has its area, each
+/// data move lies within both memories, and each message is of a kind that its receiver can take.
+pub fn fits_always()
+    ensures { FitsAlways }
+{}
+
+/// Wherever the rule leads from a boot file, each machine knows the processes of its home as the kernel without machines
+/// has them, and its ring has each living one of them once.
+pub fn known_always()
+    ensures { KnownAlways }
+{}
