@@ -1,13 +1,12 @@
 -- What a call gives fits.
-use Rattle.std.proofs.Common.{◌≡◌, ℕ, zero, suc, ◌+◌, ◌-◌, ◌≤◌, ◌==◌, ◌&&◌, ◌||◌, Bool, true, false, not, List, [], ◌∷◌, length, take, drop, filter_map, refl, ap, ◌∙◌, sym, subst, nat_le, nat_lt, min, arith}
+use Rattle.std.proofs.Common.{◌≡◌, ℕ, zero, suc, ◌+◌, ◌≤◌, ◌==◌, ◌&&◌, ◌||◌, Bool, true, false, not, List, [], ◌∷◌, length, take, drop, filter_map, refl, ap, ◌∙◌, sym, subst, nat_le, nat_lt, min, arith}
 use Rattle.std.specs.Prelude.{⊤, if◌then◌else◌, slice_set}
 use Rattle.std.specs.List.{cons_option}
 use Rattle.std.specs.declared.option.Option.{Option}
 use Rattle.std.specs.declared.option.Option.TheVariants.{None, Some}
 use Rattle.std.proofs.lemmas.Bool.Decides.{nat_tests}
-use Rattle.std.proofs.lemmas.List.{length-take, length-drop}
+use Rattle.std.proofs.lemmas.List.{length-take}
 use Rattle.dm_link.specs.declared.Pid.{Pid}
-use Rattle.dm_link.specs.declared.Area.{Area}
 use Rattle.dm_link.specs.Plain.{PlainLink}
 use Rattle.dm_linktable.specs.Slots.{first_empty, link_at}
 use Rattle.dm_message.specs.Plain as what
@@ -15,17 +14,16 @@ use Rattle.dm_message.specs.Plain.{PlainMessage, PlainWhat}
 use Rattle.dm_process.specs.Directions.{direction_numbered}
 use Rattle.dm_process.specs.declared.process.Direction.{Direction}
 use Rattle.dm_process.specs.declared.process.Direction.TheVariants as direction
-use Rattle.dm_regs.specs.declared.registers.Regs.{Regs}
 use Rattle.dm_onekernel.specs.declared.label.Reply.{Reply}
 use Rattle.dm_onekernel.specs.declared.label.Reply.TheVariants as reply
-use Rattle.dm_onekernel.specs.PlainProcess.{PlainProcess, PlainStatus, Ready, Waiting, Moving, reg}
+use Rattle.dm_onekernel.specs.PlainProcess.{PlainProcess, PlainStatus, Waiting, reg}
 use Rattle.dm_onekernel.specs.Kernel.{Life, Alive, Ended}
 use Rattle.dm_onekernel.specs.Refusals.{first_failed}
 use Rattle.dm_onekernel.specs.Pieces as pieces
 use Rattle.dm_onekernel.specs.Calls as calls
 use Rattle.dm_onekernel.specs.Calls.{Called, Replies, Sends, Waits, Outputs, Ends, CallNumber}
-use Rattle.dm_rulelaws.specs.Fits.{Each, Lives, has_bytes, is_server, takes_users, gives_no_right, link_fits, LinkFits, SlotFits, move_fits, ProcessFits, piece_fits, status_awaits}
-use Rattle.dm_rulelaws.proofs.FitsRises.{both, two, or_on, move_on}
+use Rattle.dm_rulelaws.specs.Fits.{Each, Lives, has_bytes, is_server, takes_users, gives_no_right, LinkFits, SlotFits, move_fits, ProcessFits, status_awaits}
+use Rattle.dm_rulelaws.proofs.FitsRises.{two, move_on}
 
 -- lists of slots
 pub slots_set : (ps : Lives) (slots : List (Option PlainLink)) (k : ℕ) (o : Option PlainLink) → SlotFits ps o → Each (SlotFits ps) slots → Each (SlotFits ps) (slice_set slots k o)
@@ -194,6 +192,7 @@ right_is ps l direction.FromArea e h = right_of (is_server l.to) (l.area.read) (
     read_of : (b : Bool) → (if b then false else true) ≡ false → (not b) ≡ false
     read_of true e = refl
     read_of false e = cc
+
     right_of : (a r w c : Bool) → (not r) ≡ false → ((a && (not r && not w)) || c) ≡ true → c ≡ true
     right_of true true w c e h = h
     right_of true false w c e h = cc
@@ -203,6 +202,7 @@ right_is ps l direction.IntoArea e h = right_of (is_server l.to) (l.area.read) (
     read_of : (b : Bool) → (if b then false else true) ≡ false → (not b) ≡ false
     read_of true e = refl
     read_of false e = cc
+
     right_of : (a r w c : Bool) → (not w) ≡ false → ((a && (not r && not w)) || c) ≡ true → c ≡ true
     right_of true true true c e h = h
     right_of true false true c e h = h

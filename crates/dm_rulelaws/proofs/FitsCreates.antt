@@ -1,47 +1,32 @@
 -- A process that is made, or not for want of room, keeps that all fits.
-use Rattle.std.proofs.Common.{◌≡◌, ℕ, zero, suc, ◌+◌, ◌-◌, ◌≤◌, ◌==◌, ◌&&◌, Bool, true, false, List, [], ◌∷◌, ◌++◌, length, take, drop, map, replicate, refl, ap, ◌∙◌, sym, subst, is_some, nat_le, nat_lt, min, arith}
-use Rattle.std.specs.Prelude.{⊤, if◌then◌else◌, slice_get}
+use Rattle.std.proofs.Common.{◌≡◌, ℕ, zero, suc, ◌+◌, ◌-◌, ◌&&◌, true, false, List, [], ◌∷◌, ◌++◌, length, map, replicate, refl, ap, ◌∙◌, sym, subst, is_some, nat_le, nat_lt, arith}
+use Rattle.std.specs.Prelude.{slice_get}
 use Rattle.std.specs.declared.option.Option.{Option}
 use Rattle.std.specs.declared.option.Option.TheVariants.{None, Some}
 use Rattle.std.proofs.lemmas.Bool.{false≢true}
 use Rattle.std.proofs.lemmas.Bool.Decides.{nat_tests}
-use Rattle.std.proofs.lemmas.List.{length-take, length-drop}
 use Rattle.dm_link.specs.declared.Pid.{Pid}
 use Rattle.dm_link.specs.Names.{pid_eq, pid_of}
 use Rattle.dm_link.specs.Plain.{PlainLink}
 use Rattle.dm_message.specs.declared.MsgId.{MsgId}
-use Rattle.dm_message.specs.Ids.{id_eq, id_of}
 use Rattle.dm_message.specs.Plain as what
 use Rattle.dm_message.specs.Plain.{PlainMessage, PlainWhat}
-use Rattle.dm_process.specs.declared.process.Direction.{Direction}
-use Rattle.dm_process.specs.declared.process.Direction.TheVariants as direction
 use Rattle.dm_onekernel.specs.declared.boot.BootImage.{BootImage}
 use Rattle.dm_onekernel.specs.declared.label.Label.TheVariants as label
-use Rattle.dm_onekernel.specs.declared.label.Why.{Why}
-use Rattle.dm_onekernel.specs.declared.label.Why.TheVariants as why
-use Rattle.dm_onekernel.specs.declared.label.Reply.TheVariants as reply
 use Rattle.dm_onekernel.specs.Boot.{first_number, slots_of}
 use Rattle.dm_onekernel.specs.declared.boot.Format.{Format}
 use Rattle.dm_onekernel.specs.Manager as manage
-use Rattle.dm_onekernel.specs.Options.{bind}
-use Rattle.dm_onekernel.specs.PlainProcess.{PlainProcess, PlainStatus, Ready, Waiting, Moving}
-use Rattle.dm_onekernel.specs.Kernel.{Life, Alive, Ended, Manager, OneKernel, with_process, with_sent}
-use Rattle.dm_onekernel.specs.Pieces as pieces
+use Rattle.dm_onekernel.specs.Kernel.{Life, Alive, Manager, OneKernel, with_process, with_sent}
 use Rattle.dm_onekernel.specs.Pieces.{answer_id, answer_to}
 use Rattle.dm_onekernel.specs.Service as service
 use Rattle.dm_onekernel.specs.Service.{without_message, is_of_memory, is_dropped}
-use Rattle.dm_onekernel.specs.Start.{begun, slots_with}
+use Rattle.dm_onekernel.specs.Start.{begun}
 use Rattle.dm_onekernel.specs.Step as kernel
-use Rattle.dm_laws.proofs.Counted.{is_piece, pending_of}
-use Rattle.dm_laws.proofs.Equal.{pid_eq-is, id_eq-same}
-use Rattle.dm_laws.proofs.Movers.{One, stayed, out_at}
+use Rattle.dm_laws.proofs.Equal.{pid_eq-is}
 use Rattle.dm_laws.proofs.Sound.{Sound}
-use Rattle.dm_laws.proofs.Steps.{bind-is, when-is, alive-is}
-use Rattle.dm_rulelaws.specs.Fits.{Each, Lives, has_bytes, LinkFits, SlotFits, move_fits, ProcessFits, piece_fits, status_awaits, awaits, IsPending, WhatFits, KernelFits}
-use Rattle.dm_rulelaws.proofs.FitsRises.{Rises, both, two, Each-on, link_on, move_on, Becomes, Carries, carries, set_if, set_fits, set_at, set_rises, out_fits, put_fits, end_fits}
-use Rattle.dm_rulelaws.proofs.FitsCalls.{Requests, SentFits, requests_fit}
-use Rattle.dm_rulelaws.proofs.FitsReceives.{GoesOn, written_longer}
-use Rattle.dm_rulelaws.proofs.FitsSteps.{becomes, sent_fits}
+use Rattle.dm_laws.proofs.Steps.{bind-is, when-is}
+use Rattle.dm_rulelaws.specs.Fits.{Each, Lives, has_bytes, LinkFits, SlotFits, ProcessFits, awaits, IsPending, WhatFits, KernelFits}
+use Rattle.dm_rulelaws.proofs.FitsRises.{both, Becomes, carries, set_fits, set_at, out_fits, put_fits}
 
 -- a request to make a process is answered under its number
 pending_at : (s u : OneKernel) (id : MsgId) (m : PlainMessage) → m.id ≡ id → u.manager ≡ s.manager → IsPending s id → IsPending u (answer_id m.id)

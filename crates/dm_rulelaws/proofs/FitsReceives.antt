@@ -1,11 +1,9 @@
 -- What a process becomes by its instructions, its calls and its receives fits.
-use Rattle.std.proofs.Common.{◌≡◌, ℕ, zero, suc, ◌+◌, ◌≤◌, ◌==◌, ◌&&◌, Bool, true, false, List, [], ◌∷◌, ◌++◌, length, take, drop, refl, ap, ◌∙◌, sym, subst, nat_le, min, arith}
+use Rattle.std.proofs.Common.{◌≡◌, ℕ, zero, suc, ◌+◌, ◌≤◌, ◌&&◌, Bool, true, false, List, [], ◌∷◌, length, refl, ap, ◌∙◌, sym, subst, nat_le, arith}
 use Rattle.std.specs.Prelude.{⊤, if◌then◌else◌}
 use Rattle.std.specs.declared.option.Option.{Option}
 use Rattle.std.specs.declared.option.Option.TheVariants.{None, Some}
-use Rattle.std.proofs.lemmas.Bool.Decides.{nat_tests}
 use Rattle.std.proofs.lemmas.Grind.{common_steps}
-use Rattle.std.proofs.lemmas.Bool.{false≢true}
 use Rattle.dm_link.specs.declared.Pid.{Pid}
 use Rattle.dm_link.specs.Names.{pid_eq}
 use Rattle.dm_link.specs.Plain.{PlainLink}
@@ -22,7 +20,7 @@ use Rattle.dm_regs.proofs.Lengths.{instruction-lengths}
 use Rattle.dm_onekernel.specs.declared.label.Reply.{Reply}
 use Rattle.dm_onekernel.specs.Options.{bind}
 use Rattle.dm_onekernel.specs.PlainProcess.{PlainProcess, PlainStatus, Ready, Waiting, Moving}
-use Rattle.dm_onekernel.specs.Kernel.{Life, Alive, OneKernel}
+use Rattle.dm_onekernel.specs.Kernel.{Alive, OneKernel}
 use Rattle.dm_onekernel.specs.Pieces.{written_at}
 use Rattle.dm_onekernel.specs.Receiving as receiving
 use Rattle.dm_onekernel.specs.Refusals.{first_failed}
@@ -30,7 +28,7 @@ use Rattle.dm_onekernel.specs.Calls as calls
 use Rattle.dm_onekernel.specs.Step as kernel
 use Rattle.dm_laws.proofs.Counted.{pending_of}
 use Rattle.dm_laws.proofs.Steps.{bind-is, alive-is, Runs}
-use Rattle.dm_rulelaws.specs.Fits.{Each, Lives, has_bytes, LinkFits, SlotFits, move_fits, ProcessFits, status_awaits, WhatFits, KernelFits}
+use Rattle.dm_rulelaws.specs.Fits.{Each, Lives, has_bytes, LinkFits, SlotFits, move_fits, ProcessFits, WhatFits, KernelFits}
 use Rattle.dm_rulelaws.proofs.FitsRises.{move_on}
 use Rattle.dm_rulelaws.proofs.FitsCalls.{CallFits, call_fits, slots_set}
 

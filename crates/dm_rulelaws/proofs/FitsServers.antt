@@ -1,21 +1,21 @@
 -- What the servers do keeps that all fits.
-use Rattle.std.proofs.Common.{◌≡◌, ℕ, zero, suc, ◌+◌, ◌*◌, ◌≤◌, ◌==◌, ◌&&◌, ◌||◌, Bool, true, false, List, [], ◌∷◌, ◌++◌, length, refl, ap, ◌∙◌, sym, subst, is_some, nat_le, nat_lt, inl, inr, arith}
+use Rattle.std.proofs.Common.{◌≡◌, ℕ, zero, suc, ◌+◌, ◌*◌, ◌==◌, ◌&&◌, Bool, true, false, List, [], ◌∷◌, ◌++◌, length, refl, ap, ◌∙◌, sym, subst, is_some, nat_lt, inl, inr, arith}
 use Rattle.std.specs.Prelude.{⊤, if◌then◌else◌, slice_get}
 use Rattle.std.specs.declared.option.Option.{Option}
 use Rattle.std.specs.declared.option.Option.TheVariants.{None, Some}
-use Rattle.std.proofs.lemmas.Bool.{cases_Bool, false≢true}
+use Rattle.std.proofs.lemmas.Bool.{cases_Bool}
 use Rattle.std.proofs.lemmas.Bool.Decides.{nat_tests}
 use Rattle.dm_link.specs.declared.Pid.{Pid}
-use Rattle.dm_link.specs.Names.{pid_eq, pid_of}
+use Rattle.dm_link.specs.Names.{pid_eq}
 use Rattle.dm_link.specs.Plain.{PlainLink}
 use Rattle.dm_message.specs.declared.MsgId.{MsgId}
-use Rattle.dm_message.specs.Ids.{id_eq, id_of}
+use Rattle.dm_message.specs.Ids.{id_eq}
 use Rattle.dm_message.specs.Plain as what
 use Rattle.dm_message.specs.Plain.{PlainMessage, PlainWhat}
 use Rattle.dm_onekernel.specs.declared.label.Label.TheVariants as label
 use Rattle.dm_onekernel.specs.Boot.{is_general, switchboard, manager}
 use Rattle.dm_onekernel.specs.Options.{bind}
-use Rattle.dm_onekernel.specs.Kernel.{NamedLink, Pending, Switchboard, Manager, OneKernel, with_sent}
+use Rattle.dm_onekernel.specs.Kernel.{NamedLink, Pending, Manager, OneKernel, with_sent}
 use Rattle.dm_onekernel.specs.Switchboard as board
 use Rattle.dm_onekernel.specs.Manager as manage
 use Rattle.dm_onekernel.specs.Service as service
@@ -27,8 +27,8 @@ use Rattle.dm_laws.proofs.Equal.{id_eq-same}
 use Rattle.dm_laws.proofs.Movers.{stayed, out_at}
 use Rattle.dm_laws.proofs.Sound.{Sound}
 use Rattle.dm_laws.proofs.Steps.{bind-is}
-use Rattle.dm_rulelaws.specs.Fits.{Each, Lives, has_bytes, takes_users, LinkFits, awaits, IsPending, WhatFits, KernelFits}
-use Rattle.dm_rulelaws.proofs.FitsRises.{Carries, carries, what_on, out_fits, put_fits}
+use Rattle.dm_rulelaws.specs.Fits.{Each, Lives, has_bytes, LinkFits, awaits, WhatFits, KernelFits}
+use Rattle.dm_rulelaws.proofs.FitsRises.{carries, what_on, out_fits, put_fits}
 use Rattle.dm_rulelaws.proofs.FitsCalls.{link_users}
 
 pub Each-last : {X : Type 0} (P : X → Type 0) (xs : List X) (y : X) → Each P xs → P y → Each P (xs ++ y ∷ [])
@@ -137,6 +137,7 @@ board_on s id k b fits =
     what_same : (s u : OneKernel) (i : MsgId) (m : PlainMessage) (w : PlainWhat) → u.processes ≡ s.processes → u.machines ≡ s.machines → u.images ≡ s.images → u.manager ≡ s.manager → WhatFits s i m w → WhatFits u i m w
     what_same s u i m w ps machines images g h = what_on s u i m w (λ p n e. ap (λ (f : Lives). has_bytes n (f p)) ps ∙ e) (λ e. ap (λ (f : Lives). awaits (f i.from) i.n w) ps ∙ e)
         (λ c p. record { from = p.from; pending = ap (λ (x : Manager). is_some (manage.pending_numbered i.n x.pending)) g ∙ p.pending }) machines images h
+
     sends_off : (s u : OneKernel) (o : Option PlainMessage) → u.processes ≡ s.processes → u.machines ≡ s.machines → u.images ≡ s.images → u.manager ≡ s.manager → SendsFit s o → SendsFit u o
     sends_off s u None ps machines images g h = tt
     sends_off s u (Some m) ps machines images g h = what_same s u m.id m m.what ps machines images g h

@@ -1,6 +1,6 @@
 -- All fits where a run begins, and wherever it comes.
 use Rattle.std.proofs.Common.{◌≡◌, ℕ, zero, suc, ◌+◌, ◌*◌, ◌-◌, ◌≤◌, ◌==◌, ◌&&◌, ◌||◌, Bool, true, false, not, List, [], ◌∷◌, ◌++◌, length, map, replicate, refl, ap, ◌∙◌, sym, subst, is_some, nat_le, nat_lt, inl, inr, arith}
-use Rattle.std.specs.Prelude.{⊤, if◌then◌else◌, slice_get, option_map}
+use Rattle.std.specs.Prelude.{if◌then◌else◌, slice_get, option_map}
 use Rattle.std.specs.declared.option.Option.{Option}
 use Rattle.std.specs.declared.option.Option.TheVariants.{None, Some}
 use Rattle.std.proofs.lemmas.Bool.{cases_Bool, false≢true}
@@ -9,7 +9,7 @@ use Rattle.std.proofs.lemmas.List.{length-append, length-replicate}
 use Rattle.dm_link.specs.declared.Link.{Link}
 use Rattle.dm_link.specs.declared.Pid.{Pid}
 use Rattle.dm_link.specs.Names.{pid_eq}
-use Rattle.dm_link.specs.Plain.{PlainLink, plain_link}
+use Rattle.dm_link.specs.Plain.{plain_link}
 use Rattle.dm_message.specs.declared.MsgId.{MsgId}
 use Rattle.dm_onekernel.specs.declared.boot.BootImage.{BootImage}
 use Rattle.dm_onekernel.specs.declared.boot.BootProcess.{BootProcess}
@@ -23,8 +23,8 @@ use Rattle.dm_onekernel.specs.Start.{start, begun, memory_of, first_life, life_a
 use Rattle.dm_onekernel.specs.Step as kernel
 use Rattle.dm_laws.proofs.Equal.{pid_eq-same}
 use Rattle.dm_laws.proofs.Sound.{Sound}
-use Rattle.dm_rulelaws.specs.Fits.{Each, Lives, has_bytes, is_server, gives_no_right, LinkFits, ProcessFits, KernelFits}
-use Rattle.dm_rulelaws.proofs.FitsRises.{both, two, Each-on}
+use Rattle.dm_rulelaws.specs.Fits.{Each, has_bytes, gives_no_right, LinkFits, ProcessFits, KernelFits}
+use Rattle.dm_rulelaws.proofs.FitsRises.{both, Each-on}
 use Rattle.dm_rulelaws.proofs.FitsCreates.{begun_fits, created_step, no_space_step}
 use Rattle.dm_rulelaws.proofs.FitsServes.{served_step, dropped_step, gone_step}
 use Rattle.dm_rulelaws.proofs.FitsServers.{took_step}

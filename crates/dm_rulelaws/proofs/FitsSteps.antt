@@ -1,6 +1,5 @@
 -- Each label of a process keeps that all fits.
-use Rattle.std.proofs.Common.{◌≡◌, ℕ, ◌+◌, ◌≤◌, ◌==◌, ◌&&◌, Bool, true, false, List, [], ◌∷◌, length, refl, ap, ◌∙◌, sym, subst, nat_le, arith}
-use Rattle.std.specs.Prelude.{⊤, if◌then◌else◌}
+use Rattle.std.proofs.Common.{◌≡◌, ℕ, ◌+◌, ◌==◌, ◌&&◌, Bool, true, length, ap, ◌∙◌, sym, subst, nat_le, arith}
 use Rattle.std.specs.declared.option.Option.{Option}
 use Rattle.std.specs.declared.option.Option.TheVariants.{None, Some}
 use Rattle.std.proofs.lemmas.Bool.Decides.{nat_tests}
@@ -9,7 +8,6 @@ use Rattle.dm_message.specs.declared.MsgId.{MsgId}
 use Rattle.dm_message.specs.Ids.{id_eq}
 use Rattle.dm_message.specs.Plain as what
 use Rattle.dm_message.specs.Plain.{PlainMessage, PlainWhat}
-use Rattle.dm_onekernel.specs.declared.label.Label.{Label}
 use Rattle.dm_onekernel.specs.declared.label.Label.TheVariants as label
 use Rattle.dm_onekernel.specs.declared.label.Reply.{Reply}
 use Rattle.dm_onekernel.specs.declared.label.Why.{Why}
@@ -24,10 +22,10 @@ use Rattle.dm_onekernel.specs.Service.{without_message}
 use Rattle.dm_onekernel.specs.Step as kernel
 use Rattle.dm_laws.proofs.Counted.{pending_of}
 use Rattle.dm_laws.proofs.Steps.{bind-is, when-is, Nexts, nexts}
-use Rattle.dm_rulelaws.specs.Fits.{Each, Lives, has_bytes, LinkFits, SlotFits, move_fits, ProcessFits, status_awaits, awaits, WhatFits, KernelFits}
-use Rattle.dm_rulelaws.proofs.FitsRises.{Rises, Each-on, link_on, users_on, move_on, what_on, Becomes, set_fits, set_at, set_rises, out_fits, put_fits, end_fits}
-use Rattle.dm_rulelaws.proofs.FitsCalls.{Goes, SentFits, Requests}
-use Rattle.dm_rulelaws.proofs.FitsReceives.{GoesOn, NextFits, NextIs, next_is, running_is, steps_length, Completing, completing_is}
+use Rattle.dm_rulelaws.specs.Fits.{Lives, has_bytes, LinkFits, ProcessFits, status_awaits, awaits, WhatFits, KernelFits}
+use Rattle.dm_rulelaws.proofs.FitsRises.{Rises, Each-on, link_on, users_on, move_on, Becomes, set_fits, set_at, set_rises, out_fits, put_fits, end_fits}
+use Rattle.dm_rulelaws.proofs.FitsCalls.{Goes, SentFits}
+use Rattle.dm_rulelaws.proofs.FitsReceives.{GoesOn, NextIs, next_is, running_is, steps_length, Completing, completing_is}
 
 -- what a living process becomes, whoever awaits it
 pub becomes : (s : OneKernel) (p : Pid) (x y : PlainProcess) → s.processes p ≡ Some (Alive x) → GoesOn s.processes x y → ((i : MsgId) (m : PlainMessage) → s.bag i ≡ Some m → i.from ≡ p → status_awaits x.status i.n m.what ≡ true → status_awaits y.status i.n m.what ≡ true)

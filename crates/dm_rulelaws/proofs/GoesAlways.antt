@@ -1,6 +1,6 @@
 -- Wherever the rule leads, each directive but a migration has its group.
-use Rattle.std.proofs.Common.{◌≡◌, ◌≢◌, ℕ, ◌+◌, ◌≤◌, ◌==◌, ◌&&◌, Bool, true, false, List, [], ◌∷◌, refl, ap, ◌∙◌, sym, subst, is_some, nat_le, arith}
-use Rattle.std.specs.Prelude.{⊤, if◌then◌else◌, slice_get}
+use Rattle.std.proofs.Common.{◌≡◌, ◌≢◌, ℕ, ◌+◌, ◌≤◌, Bool, true, false, List, [], ◌∷◌, refl, ap, ◌∙◌, sym, subst, is_some, nat_le, arith}
+use Rattle.std.specs.Prelude.{if◌then◌else◌, slice_get}
 use Rattle.std.specs.declared.option.Option.{Option}
 use Rattle.std.specs.declared.option.Option.TheVariants.{None, Some}
 use Rattle.std.proofs.lemmas.Bool.{false≢true}
@@ -15,7 +15,7 @@ use Rattle.dm_schedule.specs.declared.Step.{Step}
 use Rattle.dm_schedule.specs.declared.Step.TheVariants as directive
 use Rattle.dm_rule.specs.declared.line.Line.TheVariants as line
 use Rattle.dm_rule.specs.Point.{Point, first_point, moved}
-use Rattle.dm_rule.specs.Parts.{Part, Says, Spelled}
+use Rattle.dm_rule.specs.Parts.{Says, Spelled}
 use Rattle.dm_rule.specs.Rule as rule
 use Rattle.dm_rule.specs.Rule.{group_of}
 use Rattle.dm_rule.specs.Spots.{Spot, Queue, Held, Inbox, Untaken, times, standing, StandsAsBag}
@@ -79,16 +79,18 @@ front b m o i is box h =
     let all : all_stand o.kernel h.e m (i ∷ is) ≡ true = sym (ap (all_stand o.kernel h.e m) box) ∙ h.home.lists.inbox m in
     let one = both (stands o.kernel h.e m i) (all_stand o.kernel h.e m is) all in
     let here : is_for_home m (Some x) ≡ true = sym (ap (is_for_home m) there) ∙ (both (nat_le 1 (h.e i)) (is_for_home m (o.kernel.bag i)) one.0).1 in
-    let (t, told) = told_of (o.view.told i) x.to (h.state.stands.told i x there) in
-    (x, record {
-      there = there;
-      home = (let f : x.to.home ≡ m = grind (arith, nat_tests) in f);
-      told = t;
-      told_is = told;
-      unqueued = λ n p. StandsAsBag-elsewhere (o.kernel.bag i) (standing o.view i) (Inbox m) (Queue n p) first (queue_apart m n p) kept;
-      drops = λ q. queue_drops b m h.acting o q h.state.stands.kept h.seen;
-      seen = seen_turn b h.acting m o h.seen;
-    })
+    let (t, told) = told_of (o.view.told i) x.to (h.state.stands.told i x there) in (
+      x,
+      record {
+        there = there;
+        home = (let f : x.to.home ≡ m = grind (arith, nat_tests) in f);
+        told = t;
+        told_is = told;
+        unqueued = λ n p. StandsAsBag-elsewhere (o.kernel.bag i) (standing o.view i) (Inbox m) (Queue n p) first (queue_apart m n p) kept;
+        drops = λ q. queue_drops b m h.acting o q h.state.stands.kept h.seen;
+        seen = seen_turn b h.acting m o h.seen;
+      },
+    )
 
 can_turn_by : (b : Boot) (m : ℕ) (o : Point) (box : List MsgId) → o.view.inbox m ≡ box → Run b o → Can b m (begun o m) (rule.turns b o m box)
 can_turn_by b m o [] is h = can_turn b m o (begun o m) refl (h.home.rings.ring m) (λ q. queue_drops b m h.acting o q h.state.stands.kept h.seen) (seen_turn b h.acting m o h.seen)

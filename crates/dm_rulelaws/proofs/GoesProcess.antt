@@ -1,5 +1,5 @@
 -- A message for a process at the front of the inbox can be handled.
-use Rattle.std.proofs.Common.{◌≡◌, ℕ, ◌+◌, ◌≤◌, ◌==◌, ◌&&◌, ◌||◌, Bool, true, false, List, [], ◌∷◌, length, refl, ap, ◌∙◌, sym, subst, is_some, nat_le, nat_lt, arith}
+use Rattle.std.proofs.Common.{◌≡◌, ℕ, ◌+◌, ◌≤◌, ◌==◌, ◌&&◌, ◌||◌, Bool, true, false, List, [], ◌∷◌, length, refl, ap, ◌∙◌, sym, subst, is_some, nat_le, arith}
 use Rattle.std.specs.Prelude.{if◌then◌else◌}
 use Rattle.std.specs.declared.option.Option.{Option}
 use Rattle.std.specs.declared.option.Option.TheVariants.{None, Some}
@@ -18,10 +18,6 @@ use Rattle.dm_onekernel.specs.Options.{bind}
 use Rattle.dm_onekernel.specs.Kernel.{Life, Alive, Ended, OneKernel, with_sent}
 use Rattle.dm_onekernel.specs.Pieces.{answer_id, answer_to}
 use Rattle.dm_onekernel.specs.Step as kernel
-use Rattle.dm_laws.proofs.Entered.{Made}
-use Rattle.dm_laws.proofs.Equal.{id_eq-same, pid_eq-same}
-use Rattle.dm_laws.proofs.Movers.{sent_at}
-use Rattle.dm_schedule.specs.declared.Step.TheVariants as directive
 use Rattle.dm_rule.specs.declared.line.Line.TheVariants as line
 use Rattle.dm_rule.specs.Point.{Point, moved}
 use Rattle.dm_rule.specs.Parts.{Part, Routes}
@@ -32,42 +28,32 @@ use Rattle.dm_rule.specs.View as view
 use Rattle.dm_rulelaws.specs.Fits.{has_bytes, is_server, awaits, WhatFits}
 use Rattle.dm_rulelaws.proofs.SeenPoint.{Seen}
 use Rattle.dm_rulelaws.proofs.SeenParts.{Does, does_nothing, does_route}
-use Rattle.dm_rulelaws.proofs.GoesTurns.{Droppable}
-use Rattle.std.specs.Prelude.{slice_get, take, drop, ◌-◌}
-use Rattle.std.proofs.Common.{inl, inr}
-use Rattle.std.proofs.lemmas.Bool.{cases_Bool}
-use Rattle.dm_link.specs.Names.{pid_of}
-use Rattle.dm_message.specs.declared.kind.MessageKind.TheVariants as kind
+use Rattle.std.specs.Prelude.{take, drop}
 use Rattle.dm_process.specs.declared.process.Direction.{Direction}
 use Rattle.dm_process.specs.declared.process.Direction.TheVariants as direction
-use Rattle.dm_onekernel.specs.declared.boot.BootImage.{BootImage}
 use Rattle.dm_onekernel.specs.declared.label.Label.TheVariants as label
 use Rattle.dm_onekernel.specs.declared.label.Reply.TheVariants as reply
 use Rattle.dm_onekernel.specs.declared.label.Why.{Why}
 use Rattle.dm_onekernel.specs.declared.label.Why.TheVariants as why
-use Rattle.dm_onekernel.specs.Boot.{first_number}
 use Rattle.dm_onekernel.specs.Options.{when}
 use Rattle.dm_onekernel.specs.PlainProcess.{PlainProcess, PlainStatus, Ready, Waiting, Moving}
-use Rattle.dm_onekernel.specs.Kernel.{Pending, with_process}
+use Rattle.dm_onekernel.specs.Kernel.{with_process}
 use Rattle.dm_onekernel.specs.Pieces as pieces
-use Rattle.dm_onekernel.specs.Switchboard as board
-use Rattle.dm_onekernel.specs.Manager as manage
 use Rattle.dm_onekernel.specs.Service as service
 use Rattle.dm_onekernel.specs.Service.{without_message, is_dropped, is_of_memory}
 use Rattle.dm_laws.proofs.Equal.{id_eq-is}
 use Rattle.dm_laws.proofs.Movers.{out_off}
 use Rattle.dm_rule.specs.Parts.{Says}
 use Rattle.dm_rule.specs.View.{Known}
-use Rattle.dm_rulelaws.specs.Fits.{status_awaits, move_fits, piece_fits, IsPending}
-use Rattle.dm_rulelaws.specs.KnownStands.{KnownStands, known_of, known_of_life}
+use Rattle.dm_rulelaws.specs.Fits.{status_awaits, move_fits, piece_fits}
+use Rattle.dm_rulelaws.specs.KnownStands.{KnownStands, known_of_life}
 use Rattle.dm_rulelaws.proofs.FitsRises.{both, set_at}
-use Rattle.dm_rulelaws.proofs.FitsCreates.{fresh_child}
-use Rattle.dm_rulelaws.proofs.SeenLives.{SameLives, goes_lives, lives_refl}
+use Rattle.dm_rulelaws.proofs.SeenLives.{SameLives, goes_lives}
 use Rattle.dm_rulelaws.proofs.SeenPoint.{is_user, seen_queued}
 use Rattle.dm_rulelaws.proofs.SeenParts.{does_label, does_line}
-use Rattle.dm_rulelaws.proofs.SeenLabels.{seen_took, seen_gone, seen_no_space, seen_dropped, seen_served, seen_created, handled_known, killed_known, made_no_server}
+use Rattle.dm_rulelaws.proofs.SeenLabels.{seen_gone, seen_dropped, seen_served, handled_known, killed_known}
 use Rattle.dm_rulelaws.proofs.GoesTurns.{Can, droppable_on, does_drops, dropped_is}
-use Rattle.dm_rulelaws.proofs.GoesFront.{begun, Front, name_of, fits_of, served_is, ForOthers, ForWhom, ForProcess, ForOther, for_whom, process_not_kernel, process_not_board, process_not_manager, is_manager, answer_there, does_routes, sent_there}
+use Rattle.dm_rulelaws.proofs.GoesFront.{begun, Front, name_of, served_is, ForOthers, ForWhom, ForProcess, ForOther, for_whom, is_manager, answer_there, sent_there}
 
 -- a label and then parts
 pub can_say : (b : Boot) (m : ℕ) (pt : Point) (l : _) (t : OneKernel) (ps : List Part) → kernel.step pt.kernel l ≡ Some t → Does b m (moved pt (line.Label l) t) ps → Can b m pt (Some (rule.says l ∷ ps))
@@ -311,6 +297,7 @@ can_life b m o i x None is num server other f = absurd (none_for (for_whom o.ker
     others_no what.Gone h = absurd h
     others_no (what.Move z1) h = absurd h
     others_no (what.Moved z1) h = absurd h
+
     none_for : ForWhom o.kernel x x.what → ⊥
     none_for (ForProcess made) = false≢true (sym (ap is_some is) ∙ made)
     none_for (ForOther h) = false≢true (others_no x.what h)

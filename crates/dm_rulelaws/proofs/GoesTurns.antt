@@ -3,7 +3,7 @@ use Rattle.std.proofs.Common.{◌≡◌, ℕ, zero, suc, ◌+◌, ◌≤◌, ◌
 use Rattle.std.specs.Prelude.{⊤, if◌then◌else◌}
 use Rattle.std.specs.declared.option.Option.{Option}
 use Rattle.std.specs.declared.option.Option.TheVariants.{None, Some}
-use Rattle.std.proofs.lemmas.Bool.{cases_Bool, false≢true}
+use Rattle.std.proofs.lemmas.Bool.{cases_Bool}
 use Rattle.std.proofs.lemmas.Bool.Decides.{nat_tests}
 use Rattle.dm_link.specs.declared.Pid.{Pid}
 use Rattle.dm_link.specs.Names.{pid_eq}
@@ -12,14 +12,13 @@ use Rattle.dm_message.specs.Ids.{id_eq}
 use Rattle.dm_message.specs.Plain as what
 use Rattle.dm_message.specs.Plain.{PlainMessage, PlainWhat}
 use Rattle.dm_process.specs.Mail.{on_mask}
-use Rattle.dm_regs.specs.declared.registers.Fault.{Fault}
 use Rattle.dm_regs.specs.Instructions.{instruction}
 use Rattle.dm_onekernel.specs.declared.boot.Boot.{Boot}
 use Rattle.dm_onekernel.specs.declared.label.Label.TheVariants as label
 use Rattle.dm_onekernel.specs.declared.label.Reply.{Reply}
 use Rattle.dm_onekernel.specs.declared.label.Why.{Why}
 use Rattle.dm_onekernel.specs.declared.label.Why.TheVariants as why
-use Rattle.dm_onekernel.specs.Codes.{reply_eq, reply_code, why_eq, why_code}
+use Rattle.dm_onekernel.specs.Codes.{reply_eq, reply_code, why_code}
 use Rattle.dm_onekernel.specs.Options.{bind, when}
 use Rattle.dm_onekernel.specs.PlainProcess.{PlainProcess, PlainStatus, Ready, Waiting, Moving}
 use Rattle.dm_onekernel.specs.Kernel.{Life, Alive, Ended, OneKernel, with_process, with_sent}
@@ -27,7 +26,7 @@ use Rattle.dm_onekernel.specs.Calls as calls
 use Rattle.dm_onekernel.specs.Receiving as receiving
 use Rattle.dm_onekernel.specs.Service.{without_message, is_dropped}
 use Rattle.dm_onekernel.specs.Step as kernel
-use Rattle.dm_laws.proofs.Equal.{id_eq-is, id_eq-same, pid_eq-is, pid_eq-same}
+use Rattle.dm_laws.proofs.Equal.{id_eq-is, id_eq-same, pid_eq-same}
 use Rattle.dm_laws.proofs.Movers.{sent_at, out_off}
 use Rattle.dm_laws.proofs.Steps.{bind-is, alive-is}
 use Rattle.dm_rule.specs.declared.line.Line.TheVariants as line
@@ -38,7 +37,7 @@ use Rattle.dm_rule.specs.Spots.{Spot, Queue, times, standing, StandsAsBag}
 use Rattle.dm_rule.specs.Homes.{are_home}
 use Rattle.dm_rule.proofs.Standing.{StandsAsBag-one}
 use Rattle.dm_rulelaws.proofs.FitsRises.{set_at, both}
-use Rattle.dm_rulelaws.proofs.SeenPoint.{is_user, IsQueued, Seen}
+use Rattle.dm_rulelaws.proofs.SeenPoint.{is_user, Seen}
 use Rattle.dm_rulelaws.proofs.SeenParts.{Does, does_nothing, does_label, does_line, does_route}
 use Rattle.dm_rulelaws.proofs.SeenPoint.{seen_line}
 use Rattle.dm_rulelaws.proofs.SeenLabels.{seen_ran, seen_refuse, seen_receive, seen_call, seen_wait, seen_out, seen_send, seen_end, seen_dropped}

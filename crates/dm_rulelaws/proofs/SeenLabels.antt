@@ -1,39 +1,34 @@
 -- Each label keeps that the lines agree with the kernel without machines.
-use Rattle.std.proofs.Common.{◌≡◌, ℕ, ◌+◌, ◌≤◌, ◌==◌, ◌&&◌, ◌||◌, Bool, true, false, List, [], ◌∷◌, ◌++◌, refl, ap, ◌∙◌, sym, subst, nat_le, is_some, inl, inr, arith}
+use Rattle.std.proofs.Common.{◌≡◌, ℕ, ◌+◌, ◌≤◌, ◌==◌, ◌&&◌, ◌||◌, Bool, true, false, List, [], ◌∷◌, ◌++◌, refl, ap, ◌∙◌, sym, subst, arith}
 use Rattle.std.specs.Prelude.{if◌then◌else◌}
 use Rattle.std.specs.declared.option.Option.{Option}
 use Rattle.std.specs.declared.option.Option.TheVariants.{None, Some}
-use Rattle.std.proofs.lemmas.Bool.{cases_Bool}
-use Rattle.std.proofs.lemmas.Bool.Decides.{nat_tests}
 use Rattle.dm_link.specs.declared.Pid.{Pid}
 use Rattle.dm_link.specs.Names.{pid_eq}
 use Rattle.dm_message.specs.declared.MsgId.{MsgId}
 use Rattle.dm_message.specs.Ids.{id_eq}
-use Rattle.dm_message.specs.declared.kind.MessageKind.TheVariants as kind
 use Rattle.dm_message.specs.Plain.{PlainMessage}
 use Rattle.dm_onekernel.specs.declared.boot.Boot.{Boot}
-use Rattle.dm_onekernel.specs.declared.label.Label.{Label}
 use Rattle.dm_onekernel.specs.declared.label.Label.TheVariants as label
 use Rattle.dm_onekernel.specs.declared.label.Reply.{Reply}
 use Rattle.dm_onekernel.specs.declared.label.Why.{Why}
-use Rattle.dm_onekernel.specs.Boot.{switchboard, manager}
+use Rattle.dm_onekernel.specs.Boot.{manager}
 use Rattle.dm_onekernel.specs.PlainProcess.{PlainProcess}
 use Rattle.dm_onekernel.specs.Kernel.{Life, Alive, Ended, OneKernel, with_process, with_sent}
 use Rattle.dm_onekernel.specs.Service.{without_message}
 use Rattle.dm_onekernel.specs.Step as kernel
 use Rattle.dm_laws.proofs.Entered.{Made}
-use Rattle.dm_laws.proofs.Equal.{pid_eq-same}
 use Rattle.dm_laws.proofs.Sound.{not_server}
 use Rattle.dm_rule.specs.declared.line.Line.TheVariants as line
 use Rattle.dm_rule.specs.Point.{Point, moved}
-use Rattle.dm_rule.specs.Sets.{at_machine, at_record, without, moved_back, without_id, without_front}
+use Rattle.dm_rule.specs.Sets.{without, moved_back, without_id, without_front}
 use Rattle.dm_rule.specs.Spots.{times}
 use Rattle.dm_rule.specs.View.{View, Told, after_label, handled}
 use Rattle.dm_rule.specs.View as view
 use Rattle.dm_rule.proofs.Turns.{served_keeps}
 use Rattle.dm_rulelaws.specs.Fits.{is_server}
-use Rattle.dm_rulelaws.specs.KnownStands.{known_of_life, known_of, rings, is_alive, KnownStands}
-use Rattle.dm_rulelaws.proofs.SeenLives.{one_if, SameLives, known_same, goes_lives, lives_refl, set_known, set_ring, rings_without, rings_others, back_self, back_others, last_self, last_others}
+use Rattle.dm_rulelaws.specs.KnownStands.{known_of_life, rings, is_alive, KnownStands}
+use Rattle.dm_rulelaws.proofs.SeenLives.{one_if, SameLives, known_same, goes_lives, set_known, set_ring, rings_without, rings_others, back_self, back_others, last_self, last_others}
 use Rattle.dm_rulelaws.proofs.SeenPoint.{Seen, Quieter, seen_label, queue_at}
 
 -- a process is no server

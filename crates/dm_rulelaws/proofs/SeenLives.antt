@@ -1,13 +1,13 @@
 -- What machines know of processes, as processes are made, go on and end.
-use Rattle.std.proofs.Common.{◌≡◌, ℕ, ◌+◌, ◌==◌, ◌&&◌, Bool, true, false, not, List, [], ◌∷◌, ◌++◌, refl, ap, ◌∙◌, sym, subst, filter, inl, inr, arith}
+use Rattle.std.proofs.Common.{◌≡◌, ℕ, ◌+◌, ◌==◌, ◌&&◌, Bool, true, false, not, List, [], ◌∷◌, ◌++◌, refl, ap, ◌∙◌, sym, inl, inr, arith}
 use Rattle.std.specs.Prelude.{if◌then◌else◌}
 use Rattle.std.specs.declared.option.Option.{Option}
-use Rattle.std.specs.declared.option.Option.TheVariants.{None, Some}
+use Rattle.std.specs.declared.option.Option.TheVariants.{Some}
 use Rattle.std.proofs.lemmas.Bool.{cases_Bool}
 use Rattle.std.proofs.lemmas.Bool.Decides.{nat_tests}
 use Rattle.dm_link.specs.declared.Pid.{Pid}
 use Rattle.dm_link.specs.Names.{pid_eq}
-use Rattle.dm_onekernel.specs.Kernel.{Life, Alive, Ended, OneKernel, with_process}
+use Rattle.dm_onekernel.specs.Kernel.{Life, Alive, OneKernel, with_process}
 use Rattle.dm_laws.proofs.Equal.{pid_eq-is, pid_eq-same, pid_eq-swap}
 use Rattle.dm_rule.specs.Sets.{at_machine, at_record, without, moved_back}
 use Rattle.dm_rule.specs.View.{View, Known}
@@ -138,6 +138,7 @@ set_known s v p life k a is server home h m q = elim (cases_Bool (pid_eq p q)) [
     never : (c : Bool) (x : Known) → (if c && false then k else x) ≡ x
     never true x = refl
     never false x = refl
+
     by_home : (c : Bool) (x y : Known) → x ≡ (if c then y else view.Unknown) → (if c && true then k else x) ≡ (if c then k else view.Unknown)
     by_home true x y e = refl
     by_home false x y e = e

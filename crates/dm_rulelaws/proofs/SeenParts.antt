@@ -1,9 +1,8 @@
 -- Parts that can be said where the lines so far agree with the kernel without machines, and that they do so behind them.
-use Rattle.std.proofs.Common.{◌≡◌, ℕ, zero, suc, ◌+◌, ◌≤◌, ◌==◌, ◌&&◌, Bool, true, false, not, filter, List, [], ◌∷◌, ◌++◌, length, refl, ap, ◌∙◌, sym, subst, inl, inr, arith}
-use Rattle.std.specs.Prelude.{⊤, if◌then◌else◌}
+use Rattle.std.proofs.Common.{◌≡◌, ℕ, ◌+◌, ◌==◌, Bool, true, false, not, filter, List, [], ◌∷◌, length, refl, ap, ◌∙◌}
+use Rattle.std.specs.Prelude.{if◌then◌else◌}
 use Rattle.std.specs.declared.option.Option.{Option}
 use Rattle.std.specs.declared.option.Option.TheVariants.{None, Some}
-use Rattle.dm_link.specs.declared.Pid.{Pid}
 use Rattle.dm_message.specs.declared.MsgId.{MsgId}
 use Rattle.dm_message.specs.Kinds.{plain_kind}
 use Rattle.dm_message.specs.Plain.{PlainMessage}
@@ -25,7 +24,7 @@ use Rattle.dm_rule.specs.Rule as rule
 use Rattle.dm_rule.specs.Rule.{group_of, outcome, headed}
 use Rattle.dm_rule.specs.View.{View, Pair, actor, begins, marked, NothingElse}
 use Rattle.dm_rule.specs.View as view
-use Rattle.dm_rule.proofs.Groups.{IsNetLine, IsNetPart, IsNet}
+use Rattle.dm_rule.proofs.Groups.{IsNetLine, IsNet}
 use Rattle.dm_rulelaws.specs.KnownStands.{KnownStands}
 use Rattle.dm_rulelaws.proofs.SeenPoint.{Seen, Quieter, seen_line, seen_put}
 
@@ -140,19 +139,43 @@ does_net b m (Transmits a c l ∷ ps) pt is h =
 -- the head of a group
 pub seen_turn : (b : Boot) (n m : ℕ) (pt : Point) → Seen b n pt → Seen b m (moved pt (line.Head (directive.Turn m)) pt.kernel)
 seen_turn b n m pt h = record {
-  r = h.r; e = h.e; sound = h.sound; fits = h.fits; images = h.images; acting = refl; untold = h.untold; tells = h.tells; queued = h.queued;
+  r = h.r;
+  e = h.e;
+  sound = h.sound;
+  fits = h.fits;
+  images = h.images;
+  acting = refl;
+  untold = h.untold;
+  tells = h.tells;
+  queued = h.queued;
   known = record { known = h.known.known; ring = h.known.ring };
 }
 
 pub seen_tick : (b : Boot) (n m : ℕ) (pt : Point) → Seen b n pt → Seen b m (moved pt (line.Head (directive.Tick m)) pt.kernel)
 seen_tick b n m pt h = record {
-  r = h.r; e = h.e; sound = h.sound; fits = h.fits; images = h.images; acting = refl; untold = h.untold; tells = h.tells; queued = h.queued;
+  r = h.r;
+  e = h.e;
+  sound = h.sound;
+  fits = h.fits;
+  images = h.images;
+  acting = refl;
+  untold = h.untold;
+  tells = h.tells;
+  queued = h.queued;
   known = record { known = h.known.known; ring = h.known.ring };
 }
 
 pub seen_deliver : (b : Boot) (n a c k : ℕ) (pt : Point) → Seen b n pt → Seen b c (moved pt (line.Head (directive.Deliver a c k)) pt.kernel)
 seen_deliver b n a c k pt h = record {
-  r = h.r; e = h.e; sound = h.sound; fits = h.fits; images = h.images; acting = refl; untold = h.untold; tells = h.tells; queued = h.queued;
+  r = h.r;
+  e = h.e;
+  sound = h.sound;
+  fits = h.fits;
+  images = h.images;
+  acting = refl;
+  untold = h.untold;
+  tells = h.tells;
+  queued = h.queued;
   known = record { known = h.known.known; ring = h.known.ring };
 }
 

@@ -1,14 +1,13 @@
 -- What the lines have said agrees with the kernel without machines; each line keeps it.
-use Rattle.std.proofs.Common.{◌≡◌, ℕ, zero, suc, ◌+◌, ◌≤◌, ◌==◌, ◌&&◌, Bool, true, false, not, filter, List, [], ◌∷◌, ◌++◌, length, refl, ap, ◌∙◌, sym, subst, is_some, is_none, inl, inr, arith}
-use Rattle.std.specs.Prelude.{⊤, if◌then◌else◌}
+use Rattle.std.proofs.Common.{◌≡◌, ℕ, zero, suc, ◌+◌, ◌≤◌, ◌==◌, ◌&&◌, Bool, true, false, List, [], ◌∷◌, ◌++◌, refl, ap, ◌∙◌, sym, subst, is_some, is_none, inl, inr, arith}
+use Rattle.std.specs.Prelude.{if◌then◌else◌}
 use Rattle.std.specs.declared.option.Option.{Option}
 use Rattle.std.specs.declared.option.Option.TheVariants.{None, Some}
-use Rattle.std.proofs.lemmas.Bool.{cases_Bool, false≢true}
+use Rattle.std.proofs.lemmas.Bool.{cases_Bool}
 use Rattle.std.proofs.lemmas.Bool.Decides.{nat_tests}
 use Rattle.dm_link.specs.declared.Pid.{Pid}
 use Rattle.dm_link.specs.Names.{pid_eq}
 use Rattle.dm_message.specs.declared.MsgId.{MsgId}
-use Rattle.dm_message.specs.declared.kind.MessageKind.{MessageKind}
 use Rattle.dm_message.specs.Ids.{id_eq}
 use Rattle.dm_message.specs.Kinds.{plain_kind}
 use Rattle.dm_message.specs.Plain as what
@@ -18,16 +17,15 @@ use Rattle.dm_onekernel.specs.declared.label.Label.{Label}
 use Rattle.dm_onekernel.specs.Kernel.{OneKernel}
 use Rattle.dm_onekernel.specs.Step as kernel
 use Rattle.dm_laws.specs.Laws.{entry, reception, in_bag}
-use Rattle.dm_laws.proofs.Equal.{id_eq-is, id_eq-same, pid_eq-is}
+use Rattle.dm_laws.proofs.Equal.{id_eq-is, pid_eq-is}
 use Rattle.dm_laws.proofs.Runs.{after_step}
 use Rattle.dm_laws.proofs.Sound.{Sound}
 use Rattle.dm_laws.proofs.Steps.{After}
 use Rattle.dm_rule.specs.declared.line.Line.{Line}
 use Rattle.dm_rule.specs.declared.line.Line.TheVariants as line
-use Rattle.dm_rule.specs.declared.line.Load.{Load}
 use Rattle.dm_rule.specs.Point.{Point, moved}
 use Rattle.dm_rule.specs.Spots.{times}
-use Rattle.dm_rule.specs.Sets.{at_record, at_id}
+use Rattle.dm_rule.specs.Sets.{at_record}
 use Rattle.dm_rule.specs.View.{View, Pair, Told, after_label, after_put, handled}
 use Rattle.dm_rule.specs.View as view
 use Rattle.dm_rule.proofs.Standing.{times-append}
@@ -164,6 +162,7 @@ queue_at f a n p q xs T here there = picked ((a == n) && pid_eq p q) (λ e. here
     two_of : (c d : Bool) → (c && d) ≡ true → (c ≡ true) × (d ≡ true)
     two_of true d e = (refl, e)
     two_of false d e = cc
+
     picked : (c : Bool) → (c ≡ true → T xs) → T (if c then xs else f n q)
     picked true h = h refl
     picked false h = there

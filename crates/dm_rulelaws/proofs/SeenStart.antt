@@ -1,6 +1,6 @@
 -- The view before the first line agrees with the kernel without machines.
-use Rattle.std.proofs.Common.{◌≡◌, ℕ, ◌+◌, ◌≤◌, ◌==◌, ◌&&◌, ◌||◌, Bool, true, false, List, [], ◌∷◌, ◌++◌, length, map, refl, ap, ◌∙◌, sym, subst, is_some, nat_le, nat_lt, inl, inr, arith}
-use Rattle.std.specs.Prelude.{⊤, if◌then◌else◌, slice_get, option_map}
+use Rattle.std.proofs.Common.{◌≡◌, ℕ, ◌+◌, ◌≤◌, ◌==◌, ◌&&◌, ◌||◌, Bool, true, false, List, [], ◌∷◌, ◌++◌, length, map, refl, ap, ◌∙◌, sym, is_some, nat_le, nat_lt, inl, inr, arith}
+use Rattle.std.specs.Prelude.{if◌then◌else◌, slice_get, option_map}
 use Rattle.std.specs.declared.option.Option.{Option}
 use Rattle.std.specs.declared.option.Option.TheVariants.{None, Some}
 use Rattle.std.proofs.lemmas.Bool.{cases_Bool, false≢true}
@@ -8,20 +8,19 @@ use Rattle.std.proofs.lemmas.Bool.Decides.{nat_tests}
 use Rattle.dm_link.specs.declared.Pid.{Pid}
 use Rattle.dm_link.specs.Names.{pid_eq}
 use Rattle.dm_link.specs.Plain.{plain_link}
-use Rattle.dm_message.specs.declared.MsgId.{MsgId}
 use Rattle.dm_onekernel.specs.declared.boot.BootImage.{BootImage}
 use Rattle.dm_onekernel.specs.declared.boot.BootProcess.{BootProcess}
 use Rattle.dm_onekernel.specs.declared.boot.Boot.{Boot}
 use Rattle.dm_onekernel.specs.Boot.{IsValid, switchboard, manager, starting_at, slots_of, links_are_valid, processes_are_valid, process_is_valid}
-use Rattle.dm_onekernel.specs.Kernel.{Life, Alive, OneKernel}
-use Rattle.dm_onekernel.specs.Start.{start, begun, first_life, life_at}
+use Rattle.dm_onekernel.specs.Kernel.{Life, Alive}
+use Rattle.dm_onekernel.specs.Start.{begun, first_life, life_at}
 use Rattle.dm_laws.proofs.Equal.{pid_eq-is, pid_eq-same, pid_eq-swap}
 use Rattle.dm_laws.proofs.Runs.{start-sound}
 use Rattle.dm_rule.specs.Point.{first_point}
 use Rattle.dm_rule.specs.View.{Known, known_at, ring_at, first_view}
 use Rattle.dm_rule.specs.View as view
 use Rattle.dm_rulelaws.specs.Fits.{is_server}
-use Rattle.dm_rulelaws.specs.KnownStands.{known_of_life, rings, is_alive, KnownStands}
+use Rattle.dm_rulelaws.specs.KnownStands.{known_of_life, rings, is_alive}
 use Rattle.dm_rulelaws.proofs.FitsRises.{both}
 use Rattle.dm_rulelaws.proofs.FitsStart.{get_some, start_fits}
 use Rattle.dm_rulelaws.proofs.SeenLives.{one_if}
@@ -89,6 +88,7 @@ server_home q m true e =
     home_of : (c : Bool) → pid_eq q switchboard ≡ c → (c || pid_eq q manager) ≡ true → q.home ≡ 0
     home_of true f g = grind (arith, nat_tests)
     home_of false f g = grind (arith, nat_tests)
+
     pick : (c : Bool) → (if c && true then view.Here else view.Unknown) ≡ (if c then view.Here else view.Unknown)
     pick true = refl
     pick false = refl
