@@ -17,3 +17,4 @@ pub mod GoesProcess
 pub mod GoesServers
 pub mod SeenStart
 pub mod GoesAlways
+pub mod Decided

@@ -1,5 +1,5 @@
 //! What holds wherever the rule leads, whoever ran by it.
-ghost use Rattle.dm_rulelaws.specs.Laws.{FitsAlways, GoesOnAlways, KnownAlways};
+ghost use Rattle.dm_rulelaws.specs.Laws.{FitsAlways, GoesOnAlways, KnownAlways, RuleDecides, ShorterBegins};
 
 /// Wherever the rule leads from a boot file, each directive but a migration has its group.
 pub fn goes_on_always()
@@ -16,4 +16,16 @@ pub fn fits_always()
 /// has them, and its ring has each living one of them once.
 pub fn known_always()
     ensures { KnownAlways }
+{}
+
+/// The rule decides what is printed: from one place, with the same left to do, two runs of as many groups say the same and
+/// come to the same.
+pub fn rule_decides()
+    ensures { RuleDecides }
+{}
+
+/// Of two runs from one place, with the same left to do, the one with fewer groups is the beginning of the other, which
+/// goes on from there.
+pub fn shorter_begins()
+    ensures { ShorterBegins }
 {}
