@@ -18,3 +18,8 @@ pub mod GoesServers
 pub mod SeenStart
 pub mod GoesAlways
 pub mod Decided
+pub mod OrderLists
+pub mod OrderLines
+pub mod OrderMoves
+pub mod OrderPuts
+pub mod OrderTakes
