@@ -82,6 +82,8 @@ front b m o i is box h =
     let (t, told) = told_of (o.view.told i) x.to (h.state.stands.told i x there) in (
       x,
       record {
+        rest = is;
+        box = box;
         there = there;
         home = (let f : x.to.home ≡ m = grind (arith, nat_tests) in f);
         told = t;

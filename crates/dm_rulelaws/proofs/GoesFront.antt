@@ -1,4 +1,5 @@
 -- The message at the front of the inbox: what it is for whom.
+use Rattle.std.proofs.Common.{List, ◌∷◌}
 use Rattle.std.proofs.Common.{◌≡◌, ℕ, ◌+◌, ◌==◌, ◌||◌, Bool, true, false, length, refl, ap, ◌∙◌, sym, subst, is_some, arith}
 use Rattle.std.specs.declared.option.Option.{Option}
 use Rattle.std.specs.declared.option.Option.TheVariants.{None, Some}
@@ -26,6 +27,7 @@ use Rattle.dm_rule.specs.View.{View, Told, handled}
 use Rattle.dm_rule.specs.View as view
 use Rattle.dm_rulelaws.specs.Fits.{has_bytes, is_server, awaits, WhatFits}
 use Rattle.dm_rulelaws.proofs.SeenPoint.{Seen}
+use Rattle.dm_rulelaws.proofs.OrderMoves.{Last}
 use Rattle.dm_rulelaws.proofs.SeenParts.{Does, does_nothing, does_route}
 use Rattle.dm_rulelaws.proofs.GoesTurns.{Droppable}
 
@@ -34,6 +36,8 @@ abbrev pub begun : Point → ℕ → Point
 begun o m = moved o (line.Head (directive.Turn m)) o.kernel
 
 pub record Front (b : Boot) (m : ℕ) (o : Point) (i : MsgId) (x : PlainMessage) : Type 0 where
+  pub rest : List MsgId
+  pub box : o.view.inbox m ≡ i ∷ rest
   pub there : o.kernel.bag i ≡ Some x
   pub home : x.to.home ≡ m
   pub told : Told
@@ -123,9 +127,9 @@ pub answer_there : (u : OneKernel) (i : MsgId) (x : PlainMessage) (w : PlainWhat
 answer_there u i x w name = sent_at u (answer_to x w) (answer_id i) (ap (λ (j : MsgId). id_eq (answer_id j) (answer_id i)) name ∙ id_eq-same (answer_id i))
 
 -- a server's message, if there is one
-pub does_routes : (b : Boot) (m : ℕ) (pt : Point) (k : Option PlainMessage) → ((x : PlainMessage) → k ≡ Some x → pt.kernel.bag x.id ≡ Some x) → Seen b m pt → Does b m pt (rule.routes k)
-does_routes b m pt None there h = does_nothing b m pt h
-does_routes b m pt (Some x) there h = does_route b m pt x.id x (there x refl) h
+pub does_routes : (b : Boot) (m : ℕ) (pt : Point) (k : Option PlainMessage) → ((x : PlainMessage) → k ≡ Some x → pt.kernel.bag x.id ≡ Some x) → ((x : PlainMessage) → k ≡ Some x → Last pt.kernel pt.view x.id) → Seen b m pt → Does b m pt (rule.routes k)
+does_routes b m pt None there last h = does_nothing b m pt h
+does_routes b m pt (Some x) there last h = does_route b m pt x.id x (there x refl) (λ user. last x refl) h
 
 pub sent_there : (u : OneKernel) (k : Option PlainMessage) (x : PlainMessage) → k ≡ Some x → (with_sent u k).bag x.id ≡ Some x
 sent_there u None x e = cc

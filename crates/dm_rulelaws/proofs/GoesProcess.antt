@@ -51,13 +51,17 @@ use Rattle.dm_rulelaws.proofs.FitsRises.{both, set_at}
 use Rattle.dm_rulelaws.proofs.SeenLives.{SameLives, goes_lives}
 use Rattle.dm_rulelaws.proofs.SeenPoint.{is_user, seen_queued}
 use Rattle.dm_rulelaws.proofs.SeenParts.{does_label, does_line}
+use Rattle.dm_laws.proofs.Services.{LandsSo, lands-is}
+use Rattle.dm_rulelaws.proofs.OrderLines.{Which, Ord}
+use Rattle.dm_rulelaws.proofs.OrderTakes.{ord_queued}
+use Rattle.dm_rulelaws.proofs.OrderMoves.{Last}
 use Rattle.dm_rulelaws.proofs.SeenLabels.{seen_gone, seen_dropped, seen_served, handled_known, killed_known}
 use Rattle.dm_rulelaws.proofs.GoesTurns.{Can, droppable_on, does_drops, dropped_is}
 use Rattle.dm_rulelaws.proofs.GoesFront.{begun, Front, name_of, served_is, ForOthers, ForWhom, ForProcess, ForOther, for_whom, is_manager, answer_there, sent_there}
 
 -- a label and then parts
-pub can_say : (b : Boot) (m : ℕ) (pt : Point) (l : _) (t : OneKernel) (ps : List Part) → kernel.step pt.kernel l ≡ Some t → Does b m (moved pt (line.Label l) t) ps → Can b m pt (Some (rule.says l ∷ ps))
-can_say b m pt l t ps is d = record { ps = rule.says l ∷ ps; is = refl; does = does_label b m pt l t ps is d }
+pub can_say : (b : Boot) (m : ℕ) (pt : Point) (l : _) (t : OneKernel) (ps : List Part) → kernel.step pt.kernel l ≡ Some t → Seen b m pt → Does b m (moved pt (line.Label l) t) ps → Can b m pt (Some (rule.says l ∷ ps))
+can_say b m pt l t ps is h d = record { ps = rule.says l ∷ ps; is = refl; does = does_label b m pt l t ps is h d }
 
 -- a served message's step
 served_step_is : (s : OneKernel) (i : MsgId) (x : PlainMessage) (y : PlainProcess) (w : PlainWhat) (t : OneKernel) → s.bag i ≡ Some x → s.processes x.to ≡ Some (Alive y) → x.what ≡ w → service.serves s i x y w ≡ Some t → kernel.step s (label.Served i) ≡ Some t
@@ -87,17 +91,17 @@ can_set : (b : Boot) (m : ℕ) (o : Point) (i : MsgId) (x : PlainMessage) (y z :
 can_set b m o i x y z w is alive f serves quiet =
     let t = service.changed o.kernel i x z in
     let step = served_step_is o.kernel i x y w t f.there alive is serves in
-    can_say b m (begun o m) (label.Served i) t [] step (does_nothing b m (moved (begun o m) (line.Label (label.Served i)) t) (served_seen b m o i x w t is f step refl (changed_lives o.kernel i x y z alive) quiet))
+    can_say b m (begun o m) (label.Served i) t [] step f.seen (does_nothing b m (moved (begun o m) (line.Label (label.Served i)) t) (served_seen b m o i x w t is f step refl (changed_lives o.kernel i x y z alive) quiet))
 
 -- a message is served, and another one goes
 can_answer : (b : Boot) (m : ℕ) (o : Point) (i : MsgId) (x : PlainMessage) (y z : PlainProcess) (w : PlainWhat) (k : PlainMessage) (j : MsgId) → x.what ≡ w → o.kernel.processes x.to ≡ Some (Alive y) → Front b m o i x
-    → service.serves o.kernel i x y w ≡ Some (with_sent (service.changed o.kernel i x z) (Some k)) → (with_sent (service.changed o.kernel i x z) (Some k)).bag j ≡ Some k → ((v : View) (p : Pid) → view.kills (plain_kind w) v (Some p) ≡ v)
+    → service.serves o.kernel i x y w ≡ Some (with_sent (service.changed o.kernel i x z) (Some k)) → (with_sent (service.changed o.kernel i x z) (Some k)).bag j ≡ Some k → is_user k.what ≡ false → ((v : View) (p : Pid) → view.kills (plain_kind w) v (Some p) ≡ v)
     → Can b m (begun o m) (Some (rule.says (label.Served i) ∷ Routes j ∷ []))
-can_answer b m o i x y z w k j is alive f serves there quiet =
+can_answer b m o i x y z w k j is alive f serves there other quiet =
     let t = with_sent (service.changed o.kernel i x z) (Some k) in
     let step = served_step_is o.kernel i x y w t f.there alive is serves in
-    can_say b m (begun o m) (label.Served i) t (Routes j ∷ []) step
-    (does_route b m (moved (begun o m) (line.Label (label.Served i)) t) j k there (served_seen b m o i x w t is f step refl (sent_lives o.kernel (service.changed o.kernel i x z) k (changed_lives o.kernel i x y z alive)) quiet))
+    can_say b m (begun o m) (label.Served i) t (Routes j ∷ []) step f.seen
+    (does_route b m (moved (begun o m) (line.Label (label.Served i)) t) j k there (λ user. absurd (false≢true (sym other ∙ user))) (served_seen b m o i x w t is f step refl (sent_lives o.kernel (service.changed o.kernel i x z) k (changed_lives o.kernel i x y z alive)) quiet))
 
 -- a kill takes the queue with it
 can_kill : (b : Boot) (m : ℕ) (o : Point) (i : MsgId) (x : PlainMessage) (y : PlainProcess) → x.what ≡ what.Kill → o.kernel.processes x.to ≡ Some (Alive y) → Front b m o i x → Can b m (begun o m) (Some (rule.says (label.Served i) ∷ rule.drops (o.view.queue m x.to)))
@@ -108,7 +112,7 @@ can_kill b m o i x y is alive f =
     let step = served_step_is s i x y what.Kill t f.there alive is refl in
     let known = killed_known s pt.view i x.to y why.Killed alive (f.home ∙ sym f.seen.acting) f.seen.sound.made f.seen.known in
     let seen = seen_served b m pt i t step refl (subst (KnownStands t) (sym (served_is b m o i x (handled pt.view i) what.Kill is f)) known) f.seen in
-    can_say b m pt (label.Served i) t (rule.drops (o.view.queue m x.to)) step
+    can_say b m pt (label.Served i) t (rule.drops (o.view.queue m x.to)) step f.seen
     (does_drops b m x.to why.Killed (o.view.queue m x.to) (moved pt (line.Label (label.Served i)) t) (set_at (without_message s i) x.to (Ended why.Killed))
     (droppable_on s t x.to (o.view.queue m x.to) (λ j least. out_off s i j (apart j least (id_eq i j) refl)) (f.drops x.to)) seen)
   where
@@ -172,11 +176,27 @@ lands_to b p y x ps n w (Moving dir owner base own left pending) is number waits
       is = ap (λ (d : Bool). if d then pieces.lands_what p y dir owner base own left x.what else None) (ap (λ j. j == pending) number ∙ k.0) ∙ ap (pieces.lands_what p y dir owner base own left) is ∙ lands;
     }
 
+memory_no_user : (w : PlainWhat) → is_of_memory w ≡ true → is_user w ≡ false
+memory_no_user (what.Read base len) e = refl
+memory_no_user (what.Write base bytes) e = refl
+memory_no_user (what.User z1 z2 z3 z4) e = cc
+memory_no_user what.Stop e = cc
+memory_no_user what.Resume e = cc
+memory_no_user what.Kill e = cc
+memory_no_user (what.Block z1) e = cc
+memory_no_user what.Written e = cc
+memory_no_user what.Gone e = cc
+memory_no_user (what.Create z1 z2) e = cc
+memory_no_user (what.Created z1) e = cc
+memory_no_user what.NoRoom e = cc
+memory_no_user (what.Move z1) e = cc
+memory_no_user (what.Moved z1) e = cc
+
 can_land_at : (b : Boot) (m : ℕ) (o : Point) (i : MsgId) (x : PlainMessage) (y : PlainProcess) (w : PlainWhat) (c : pieces.Landed) → x.what ≡ w → o.kernel.processes x.to ≡ Some (Alive y) → Front b m o i x → service.serves o.kernel i x y w ≡ Some (service.landed o.kernel i x c)
-    → ((v : View) (p : Pid) → view.kills (plain_kind w) v (Some p) ≡ v) → Can b m (begun o m) (rule.lands i (Some c))
-can_land_at b m o i x y w (pieces.Next request z) is alive f serves quiet =
-    can_answer b m o i x y z w request request.id is alive f serves (sent_there (service.changed o.kernel i x z) (Some request) request refl) quiet
-can_land_at b m o i x y w (pieces.Done reply z) is alive f serves quiet = can_set b m o i x y z w is alive f serves quiet
+    → LandsSo x.to y c → ((v : View) (p : Pid) → view.kills (plain_kind w) v (Some p) ≡ v) → Can b m (begun o m) (rule.lands i (Some c))
+can_land_at b m o i x y w (pieces.Next request z) is alive f serves so quiet =
+    can_answer b m o i x y z w request request.id is alive f serves (sent_there (service.changed o.kernel i x z) (Some request) request refl) (memory_no_user request.what so.1) quiet
+can_land_at b m o i x y w (pieces.Done reply z) is alive f serves so quiet = can_set b m o i x y z w is alive f serves quiet
 
 pub can_as : (b : Boot) (m : ℕ) (pt : Point) (o q : Option (List Part)) → o ≡ q → Can b m pt q → Can b m pt o
 can_as b m pt o q e c = record { ps = c.ps; is = e ∙ c.is; does = c.does }
@@ -187,7 +207,14 @@ can_land : (b : Boot) (m : ℕ) (o : Point) (i : MsgId) (x : PlainMessage) (y : 
 can_land b m o i x y w is alive f serves off waits quiet =
     let status : status_awaits y.status i.n w ≡ true = sym (ap (λ (l : Option Life). awaits l i.n w) alive) ∙ waits in
     let k = lands_to b x.to y x o.kernel.processes i.n w y.status is (ap (λ (j : MsgId). j.n) (name_of b m o i x f)) status (f.seen.fits.processes x.to y alive).move off in
-    can_as b m (begun o m) (rule.lands i (pieces.lands x.to y x y.status)) (rule.lands i (Some k.c)) (ap (rule.lands i) k.is) (can_land_at b m o i x y w k.c is alive f (serves k.c k.is) quiet)
+    can_as b m (begun o m) (rule.lands i (pieces.lands x.to y x y.status)) (rule.lands i (Some k.c)) (ap (rule.lands i) k.is) (can_land_at b m o i x y w k.c is alive f (serves k.c k.is) (lands-is x.to y x y.status k.c k.is) quiet)
+
+-- a queued message keeps its place
+queued_order : (b : Boot) (m : ℕ) (o : Point) (i : MsgId) (x : PlainMessage) → Front b m o i x → (k : Which) → Ord k o.kernel (begun o m).view → Ord k o.kernel (view.view_after (begun o m).view (line.Queued i))
+queued_order b m o i x f k q =
+    let v = (begun o m).view in
+    let receiver : view.receiver_of (o.view.told i) ≡ Some x.to = ap view.receiver_of f.told_is ∙ ap Some (f.seen.tells i x f.told f.there f.told_is).1 in
+    subst (λ (r : Option Pid). Ord k o.kernel (view.queued_for (handled v i) i r)) (sym receiver) (ord_queued k o.kernel v i f.rest x.to f.box f.home (ap is_some f.told_is) q)
 
 -- a row a kind
 pub can_here : (b : Boot) (m : ℕ) (o : Point) (i : MsgId) (x : PlainMessage) (y : PlainProcess) (w : PlainWhat) → x.what ≡ w → (x.to.num == 0) ≡ false → pid_eq x.to manager ≡ false → o.kernel.processes x.to ≡ Some (Alive y) → Front b m o i x → WhatFits o.kernel i x w
@@ -195,7 +222,7 @@ pub can_here : (b : Boot) (m : ℕ) (o : Point) (i : MsgId) (x : PlainMessage) (
 can_here b m o i x y (what.User code channel body links) is num other alive f h = record {
   ps = Says (line.Queued i) ∷ [];
   is = refl;
-  does = does_line b m (begun o m) (line.Queued i) [] refl (does_nothing b m (moved (begun o m) (line.Queued i) o.kernel)
+  does = does_line b m (begun o m) (line.Queued i) [] refl (λ k q. queued_order b m o i x f k q) (does_nothing b m (moved (begun o m) (line.Queued i) o.kernel)
       (seen_queued b m (begun o m) i x f.there (ap view.receiver_of f.told_is ∙ ap Some (f.seen.tells i x f.told f.there f.told_is).1) (ap is_user is) f.seen));
 }
 can_here b m o i x y what.Stop is num other alive f h = can_set b m o i x y (record y { stopped = true }) what.Stop is alive f refl (λ v p. refl)
@@ -207,7 +234,7 @@ can_here b m o i x y (what.Read base len) is num other alive f h =
     let k = answer_to x (what.Block (take len (drop base y.memory))) in
     let reads : pieces.reads y x base len ≡ Some (record { process = y; answer = k }) = ap (λ (c : Bool). if c then Some (record { process = y; answer = k }) else None) within in
     can_answer b m o i x y y (what.Read base len) k (answer_id i) is alive f (ap (λ (c : Option pieces.Served). bind c (λ (r : pieces.Served). Some (service.answered s i x r))) reads)
-    (answer_there (service.changed s i x y) i x (what.Block (take len (drop base y.memory))) (name_of b m o i x f)) (λ v p. refl)
+    (answer_there (service.changed s i x y) i x (what.Block (take len (drop base y.memory))) (name_of b m o i x f)) refl (λ v p. refl)
 can_here b m o i x y (what.Write base bytes) is num other alive f h =
     let s = o.kernel in
     let within : nat_le (base + length bytes) (length y.memory) ≡ true = sym (ap (has_bytes (base + length bytes)) alive) ∙ h.0 in
@@ -215,7 +242,7 @@ can_here b m o i x y (what.Write base bytes) is num other alive f h =
     let k = answer_to x what.Written in
     let writes : pieces.writes y x base bytes ≡ Some (record { process = z; answer = k }) = ap (λ (c : Bool). if c then Some (record { process = z; answer = k }) else None) within in
     can_answer b m o i x y z (what.Write base bytes) k (answer_id i) is alive f (ap (λ (c : Option pieces.Served). bind c (λ (r : pieces.Served). Some (service.answered s i x r))) writes)
-    (answer_there (service.changed s i x z) i x what.Written (name_of b m o i x f)) (λ v p. refl)
+    (answer_there (service.changed s i x z) i x what.Written (name_of b m o i x f)) refl (λ v p. refl)
 can_here b m o i x y (what.Block bytes) is num other alive f h =
     can_land b m o i x y (what.Block bytes) is alive f (λ c e. ap (λ (o_ : Option pieces.Landed). bind o_ (λ (r : pieces.Landed). Some (service.landed o.kernel i x r))) e) refl (ap (λ p. awaits (o.kernel.processes p) i.n (what.Block bytes)) h.0 ∙ h.1) (λ v p. refl)
 can_here b m o i x y what.Written is num other alive f h =
@@ -245,15 +272,15 @@ can_gone b m o i x y memory ended f =
     let s = o.kernel in
     let t = with_sent (without_message s i) (Some (answer_to x what.Gone)) in
     let step = gone_is s i x y f.there ended memory in
-    can_say b m (begun o m) (label.Gone i) t (Routes (answer_id i) ∷ []) step
-    (does_route b m (moved (begun o m) (line.Label (label.Gone i)) t) (answer_id i) (answer_to x what.Gone) (answer_there (without_message s i) i x what.Gone (name_of b m o i x f)) (seen_gone b m (begun o m) i t step refl (record { known = λ p. refl; alive = λ p. refl }) f.seen))
+    can_say b m (begun o m) (label.Gone i) t (Routes (answer_id i) ∷ []) step f.seen
+    (does_route b m (moved (begun o m) (line.Label (label.Gone i)) t) (answer_id i) (answer_to x what.Gone) (answer_there (without_message s i) i x what.Gone (name_of b m o i x f)) (λ user. absurd (false≢true user)) (seen_gone b m (begun o m) i t step refl (record { known = λ p. refl; alive = λ p. refl }) f.seen))
 
 can_drop : (b : Boot) (m : ℕ) (o : Point) (i : MsgId) (x : PlainMessage) (y : Why) → is_dropped x.what ≡ true → o.kernel.processes x.to ≡ Some (Ended y) → Front b m o i x → Can b m (begun o m) (Some (rule.says (label.Dropped i) ∷ []))
 can_drop b m o i x y drops ended f =
     let s = o.kernel in
     let t = without_message s i in
     let step = dropped_is s i x y f.there ended drops in
-    can_say b m (begun o m) (label.Dropped i) t [] step (does_nothing b m (moved (begun o m) (line.Label (label.Dropped i)) t) (seen_dropped b m (begun o m) i step f.seen))
+    can_say b m (begun o m) (label.Dropped i) t [] step f.seen (does_nothing b m (moved (begun o m) (line.Label (label.Dropped i)) t) (seen_dropped b m (begun o m) i step f.seen))
 
 pub can_ended : (b : Boot) (m : ℕ) (o : Point) (i : MsgId) (x : PlainMessage) (y : Why) (w : PlainWhat) → x.what ≡ w → (x.to.num == 0) ≡ false → pid_eq x.to manager ≡ false → o.kernel.processes x.to ≡ Some (Ended y) → Front b m o i x → WhatFits o.kernel i x w
     → Can b m (begun o m) (rule.ended_handles i w)

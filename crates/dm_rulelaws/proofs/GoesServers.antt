@@ -1,4 +1,6 @@
 -- A message for a kernel or a server at the front of the inbox can be handled.
+use Rattle.dm_rule.specs.View.{handled}
+use Rattle.std.proofs.Common.{subst}
 use Rattle.std.proofs.Common.{◌≡◌, ℕ, ◌+◌, ◌==◌, ◌&&◌, ◌||◌, Bool, true, false, List, [], ◌∷◌, length, refl, ap, ◌∙◌, sym, is_some, nat_lt, arith}
 use Rattle.std.specs.Prelude.{if◌then◌else◌}
 use Rattle.std.specs.declared.option.Option.{Option}
@@ -46,6 +48,10 @@ use Rattle.dm_rulelaws.proofs.SeenPoint.{is_user}
 use Rattle.dm_rulelaws.proofs.SeenLabels.{seen_took, seen_no_space, seen_created}
 use Rattle.dm_rulelaws.proofs.GoesTurns.{Can}
 use Rattle.dm_rulelaws.proofs.GoesFront.{begun, Front, name_of, ForOthers, ForWhom, ForProcess, ForOther, for_whom, process_not_kernel, process_not_board, process_not_manager, answer_there, does_routes, sent_there}
+use Rattle.dm_laws.proofs.Entered.{counts}
+use Rattle.dm_laws.proofs.Servers.{ServerSends, board_takes, manager_takes}
+use Rattle.dm_rulelaws.proofs.OrderMoves.{Last, next_id}
+use Rattle.dm_rulelaws.proofs.GoesTurns.{never_counted}
 use Rattle.dm_rulelaws.proofs.GoesProcess.{can_say, can_as, can_process}
 
 get_is : {X : Type 0} (xs : List X) (k : ℕ) → nat_lt k (length xs) ≡ true → (x : X) × (slice_get xs k ≡ Some x)
@@ -101,8 +107,8 @@ can_created b m o i x image links g is kern found f =
     ∙ ap (λ (c : Bool). when (c && pid_eq child (pid_of x.to.home (first_number + s.made x.to.home))) t) kern ∙ ap (λ (c : Bool). when c t) named in
     let none = fresh_child f.seen.r f.seen.e s child m refl f.seen.sound in
     let server : is_server child ≡ false = not_server_child m (s.made m) in
-    can_say b m (begun o m) (label.Created i child) t (Routes (answer_id i) ∷ []) step
-    (does_route b m (moved (begun o m) (line.Label (label.Created i child)) t) (answer_id i) k (answer_there u i x (what.Created child) (name_of b m o i x f))
+    can_say b m (begun o m) (label.Created i child) t (Routes (answer_id i) ∷ []) step f.seen
+    (does_route b m (moved (begun o m) (line.Label (label.Created i child)) t) (answer_id i) k (answer_there u i x (what.Created child) (name_of b m o i x f)) (λ user. absurd (false≢true user))
     (seen_created b m (begun o m) i child y t step refl (λ q. refl) none server refl f.seen))
   where
     not_server_child : (m n : ℕ) → is_server (pid_of m (first_number + n)) ≡ false
@@ -119,8 +125,8 @@ can_no_space b m o i x image links slots blocks is kern f =
     let t = with_sent (without_message s i) (Some k) in
     let step : kernel.step s (label.NoSpace i slots blocks) ≡ Some t =
     ap (λ (o_ : Option PlainMessage). bind o_ (λ (v : PlainMessage). service.has_no_room s i v v.what)) f.there ∙ ap (service.has_no_room s i x) is ∙ ap (λ (c : Bool). when c t) kern in
-    can_say b m (begun o m) (label.NoSpace i slots blocks) t (Routes (answer_id i) ∷ []) step
-    (does_route b m (moved (begun o m) (line.Label (label.NoSpace i slots blocks)) t) (answer_id i) k (answer_there (without_message s i) i x what.NoRoom (name_of b m o i x f))
+    can_say b m (begun o m) (label.NoSpace i slots blocks) t (Routes (answer_id i) ∷ []) step f.seen
+    (does_route b m (moved (begun o m) (line.Label (label.NoSpace i slots blocks)) t) (answer_id i) k (answer_there (without_message s i) i x what.NoRoom (name_of b m o i x f)) (λ user. absurd (false≢true user))
     (seen_no_space b m (begun o m) i slots blocks t step refl (record { known = λ p. refl; alive = λ p. refl }) f.seen))
 
 can_if : (b : Boot) (m : ℕ) (pt : Point) (c : Bool) (p q : Part) (ps : List Part) → Can b m pt (Some (p ∷ ps)) → Can b m pt (Some (q ∷ ps)) → Can b m pt (Some ((if c then p else q) ∷ ps))
@@ -161,11 +167,51 @@ sent_same : (s u : OneKernel) (o : Option PlainMessage) → SameLives s u → Sa
 sent_same s u None h = h
 sent_same s u (Some m) h = record { known = h.known; alive = h.alive }
 
-can_take : (b : Boot) (m : ℕ) (o : Point) (i : MsgId) (x : PlainMessage) (u : OneKernel) (k : Option PlainMessage) → kernel.step o.kernel (label.Took i) ≡ Some (with_sent u k) → u.images ≡ o.kernel.images → SameLives o.kernel u → Front b m o i x
+-- a server's message is its last, and comes from its home
+record Sends (m : ℕ) (o : Point) (u : OneKernel) (k : Option PlainMessage) : Type 0 where
+  fresh : (y : PlainMessage) → k ≡ Some y → counts o.kernel y.id ≡ false
+  last : (y : PlainMessage) → k ≡ Some y → counts u (next_id y.id) ≡ false
+  home : (y : PlainMessage) → k ≡ Some y → y.id.from.home ≡ m
+
+took_last : (b : Boot) (m : ℕ) (o : Point) (i : MsgId) (x : PlainMessage) (u : OneKernel) (k : Option PlainMessage) (y : PlainMessage) → Sends m o u k → k ≡ Some y → Front b m o i x → Last (with_sent u k) (handled (begun o m).view i) y.id
+took_last b m o i x u k y sends e f = record {
+  home = sends.home y e ∙ sym f.seen.acting;
+  last = subst (λ (v : Option PlainMessage). counts (with_sent u v) (next_id y.id) ≡ false) (sym e) (sends.last y e);
+  untold = never_counted b m (begun o m) y.id f.seen (sends.fresh y e);
+}
+
+can_take : (b : Boot) (m : ℕ) (o : Point) (i : MsgId) (x : PlainMessage) (u : OneKernel) (k : Option PlainMessage) → kernel.step o.kernel (label.Took i) ≡ Some (with_sent u k) → u.images ≡ o.kernel.images → SameLives o.kernel u → Sends m o u k → Front b m o i x
     → Can b m (begun o m) (Some (rule.says (label.Took i) ∷ rule.routes k))
-can_take b m o i x u k step images same f =
-    can_say b m (begun o m) (label.Took i) (with_sent u k) (rule.routes k) step
-    (does_routes b m (moved (begun o m) (line.Label (label.Took i)) (with_sent u k)) k (λ y e. sent_there u k y e) (seen_took b m (begun o m) i (with_sent u k) step (sent_images u k ∙ images) (sent_same o.kernel u k same) f.seen))
+can_take b m o i x u k step images same sends f =
+    can_say b m (begun o m) (label.Took i) (with_sent u k) (rule.routes k) step f.seen
+    (does_routes b m (moved (begun o m) (line.Label (label.Took i)) (with_sent u k)) k (λ y e. sent_there u k y e) (λ y e. took_last b m o i x u k y sends e f) (seen_took b m (begun o m) i (with_sent u k) step (sent_images u k ∙ images) (sent_same o.kernel u k same) f.seen))
+
+-- what the servers send
+board_sends : (m : ℕ) (o : Point) (i : MsgId) (x : PlainMessage) (k : board.Took) → ServerSends switchboard o.kernel.switchboard.sent k.answer k.switchboard.sent → m ≡ 0 → Sends m o (record (without_message o.kernel i) { switchboard = k.switchboard }) k.answer
+board_sends m o i x k sends at = record {
+  fresh = λ y e. (let w = subst (λ (v : Option PlainMessage). ServerSends switchboard o.kernel.switchboard.sent v k.switchboard.sent) e sends in let (name, count, memory, piece) = w in
+  ap (counts o.kernel) name ∙ (let z : nat_lt o.kernel.switchboard.sent o.kernel.switchboard.sent ≡ false = grind (arith, nat_tests) in z));
+  last = λ y e. (let w = subst (λ (v : Option PlainMessage). ServerSends switchboard o.kernel.switchboard.sent v k.switchboard.sent) e sends in let (name, count, memory, piece) = w in
+  ap (λ (j : MsgId). counts (record (without_message o.kernel i) { switchboard = k.switchboard }) (next_id j)) name ∙ (let z : nat_lt (o.kernel.switchboard.sent + 1) k.switchboard.sent ≡ false = grind (arith, nat_tests) in z));
+  home = λ y e. (let w = subst (λ (v : Option PlainMessage). ServerSends switchboard o.kernel.switchboard.sent v k.switchboard.sent) e sends in let (name, count, memory, piece) = w in
+  ap (λ (j : MsgId). j.from.home) name ∙ sym at);
+}
+
+manager_sends : (m : ℕ) (o : Point) (i : MsgId) (x : PlainMessage) (k : manage.Took) → ServerSends manager o.kernel.manager.sent k.message k.manager.sent → m ≡ 0 → Sends m o (record (without_message o.kernel i) { manager = k.manager }) k.message
+manager_sends m o i x k sends at = record {
+  fresh = λ y e. (let w = subst (λ (v : Option PlainMessage). ServerSends manager o.kernel.manager.sent v k.manager.sent) e sends in let (name, count, memory, piece) = w in
+  ap (counts o.kernel) name ∙ (let z : nat_lt o.kernel.manager.sent o.kernel.manager.sent ≡ false = grind (arith, nat_tests) in z));
+  last = λ y e. (let w = subst (λ (v : Option PlainMessage). ServerSends manager o.kernel.manager.sent v k.manager.sent) e sends in let (name, count, memory, piece) = w in
+  ap (λ (j : MsgId). counts (record (without_message o.kernel i) { manager = k.manager }) (next_id j)) name ∙ (let z : nat_lt (o.kernel.manager.sent + 1) k.manager.sent ≡ false = grind (arith, nat_tests) in z));
+  home = λ y e. (let w = subst (λ (v : Option PlainMessage). ServerSends manager o.kernel.manager.sent v k.manager.sent) e sends in let (name, count, memory, piece) = w in
+  ap (λ (j : MsgId). j.from.home) name ∙ sym at);
+}
+
+at_server : (x : PlainMessage) (m : ℕ) → pid_eq x.to switchboard ≡ true → x.to.home ≡ m → m ≡ 0
+at_server x m e home = let z : x.to.home ≡ 0 = grind (arith, nat_tests) in sym home ∙ z
+
+at_manager : (x : PlainMessage) (m : ℕ) → pid_eq x.to manager ≡ true → x.to.home ≡ m → m ≡ 0
+at_manager x m e home = let z : x.to.home ≡ 0 = grind (arith, nat_tests) in sym home ∙ z
 
 -- the switchboard
 others_board : (x : PlainMessage) (w : PlainWhat) → (is_user w ≡ false) → (x.to.num == 0) ≡ false → pid_eq x.to switchboard ≡ true → ForOthers x w → false ≡ true
@@ -198,7 +244,7 @@ can_board b m o i x (what.User code channel body links) is num one f h =
     ap (λ (o_ : Option PlainMessage). bind o_ (service.takes s i)) f.there
     ∙ ap (λ (c : Bool). if c then bind (board.takes s.switchboard x x.what) (λ (t : board.Took). Some (service.switchboard_took s i t)) else if pid_eq x.to manager then bind (manage.takes s.manager s.machines (length s.images) x x.what) (λ (t : manage.Took). Some (service.manager_took s i t)) else None) one
     ∙ ap (λ (v : PlainWhat). bind (board.takes s.switchboard x v) (λ (t : board.Took). Some (service.switchboard_took s i t))) is in
-    can_take b m o i x u k.answer step refl (record { known = λ p. refl; alive = λ p. refl }) f
+    can_take b m o i x u k.answer step refl (record { known = λ p. refl; alive = λ p. refl }) (board_sends m o i x k (board_takes s.switchboard x (what.User code channel body links) k refl).2 (at_server x m one f.home)) f
 can_board b m o i x what.Stop is num one f h = absurd (never_board o.kernel x what.Stop refl num one f.seen.sound.made (for_whom o.kernel i x what.Stop h))
 can_board b m o i x what.Resume is num one f h = absurd (never_board o.kernel x what.Resume refl num one f.seen.sound.made (for_whom o.kernel i x what.Resume h))
 can_board b m o i x what.Kill is num one f h = absurd (never_board o.kernel x what.Kill refl num one f.seen.sound.made (for_whom o.kernel i x what.Kill h))
@@ -252,7 +298,7 @@ can_manage b m o i x w k is one two takes f =
     ∙ ap (λ (v : PlainWhat). bind (manage.takes s.manager s.machines (length s.images) x v) (λ (t : manage.Took). Some (service.manager_took s i t))) is
     ∙ ap (λ (t : Option manage.Took). bind t (λ (t : manage.Took). Some (service.manager_took s i t))) takes in
     can_as b m (begun o m) (rule.manager_took i (manage.takes s.manager s.machines (length s.images) x w)) (rule.manager_took i (Some k)) (ap (rule.manager_took i) takes)
-    (can_take b m o i x u k.message step refl (record { known = λ p. refl; alive = λ p. refl }) f)
+    (can_take b m o i x u k.message step refl (record { known = λ p. refl; alive = λ p. refl }) (manager_sends m o i x k (manager_takes s.manager s.machines (length s.images) x w k takes).2.sends (at_manager x m two f.home)) f)
 
 pending_is : (o : Option Pending) → is_some o ≡ true → (r : Pending) × (o ≡ Some r)
 pending_is None e = cc

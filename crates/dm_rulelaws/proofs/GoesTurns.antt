@@ -36,6 +36,13 @@ use Rattle.dm_rule.specs.Rule as rule
 use Rattle.dm_rule.specs.Spots.{Spot, Queue, times, standing, StandsAsBag}
 use Rattle.dm_rule.specs.Homes.{are_home}
 use Rattle.dm_rule.proofs.Standing.{StandsAsBag-one}
+use Rattle.std.proofs.Common.{nat_lt}
+use Rattle.std.proofs.lemmas.Bool.{false≢true}
+use Rattle.dm_onekernel.specs.Boot.{switchboard, manager}
+use Rattle.dm_laws.proofs.Entered.{counts, is_counted}
+use Rattle.dm_laws.proofs.Sound.{not_server}
+use Rattle.dm_laws.proofs.Steps.{nexts}
+use Rattle.dm_rulelaws.proofs.OrderMoves.{Last, next_id}
 use Rattle.dm_rulelaws.proofs.FitsRises.{set_at, both}
 use Rattle.dm_rulelaws.proofs.SeenPoint.{is_user, Seen}
 use Rattle.dm_rulelaws.proofs.SeenParts.{Does, does_nothing, does_label, does_line, does_route}
@@ -115,7 +122,7 @@ does_drops b m p y (i ∷ is) pt ended h seen =
     let s = pt.kernel in
     let x = h.0.x in
     let step = dropped_is s i x y h.0.there (ap s.processes h.0.to ∙ ended) (user_dropped x.what h.0.user) in
-    does_label b m pt (label.Dropped i) (without_message s i) (rule.drops is) step
+    does_label b m pt (label.Dropped i) (without_message s i) (rule.drops is) step seen
     (does_drops b m p y is (moved pt (line.Label (label.Dropped i)) (without_message s i)) ended
     (droppable_on s (without_message s i) p is (λ j least. out_off s i j (apart j least (id_eq i j) refl)) h.2) (seen_dropped b m pt i step seen))
   where
@@ -151,32 +158,63 @@ eq_same n = grind (arith, nat_tests)
 reply_same : (n : ℕ) (c : Reply) → ((n == n) && reply_eq c c) ≡ true
 reply_same n c = ap (λ (d : Bool). d && reply_eq c c) (eq_same n) ∙ eq_same (reply_code c)
 
+-- what a process has sent is its last
+counts_alive : (t : OneKernel) (p : Pid) (y : PlainProcess) (i : MsgId) → t.processes p ≡ Some (Alive y) → i.from ≡ p → (pid_eq p switchboard ≡ false) × (pid_eq p manager ≡ false) → counts t i ≡ nat_lt i.n y.sent
+counts_alive t p y i is from off =
+    ap (λ (r : Pid). if pid_eq r switchboard then nat_lt i.n t.switchboard.sent else if pid_eq r manager then nat_lt i.n t.manager.sent else is_counted i.n (t.processes r)) from
+    ∙ ap (λ (c : Bool). if c then nat_lt i.n t.switchboard.sent else if pid_eq p manager then nat_lt i.n t.manager.sent else is_counted i.n (t.processes p)) off.0
+    ∙ ap (λ (c : Bool). if c then nat_lt i.n t.manager.sent else is_counted i.n (t.processes p)) off.1 ∙ ap (is_counted i.n) is
+
+pub never_counted : (b : Boot) (m : ℕ) (pt : Point) (i : MsgId) → Seen b m pt → counts pt.kernel i ≡ false → pt.view.told i ≡ None
+never_counted b m pt i h off = h.untold i (zero_of (h.e i) (λ least. false≢true (sym off ∙ h.sound.entered.counted i least)))
+  where
+    zero_of : (n : ℕ) → (1 ≤ n → ⊥) → n ≡ 0
+    zero_of zero f = refl
+    zero_of (suc n) f = absurd (f (omega arith))
+
+sent_last : (b : Boot) (m : ℕ) (pt : Point) (p : Pid) (n : ℕ) (k : PlainMessage) (y : PlainProcess) → kernel.next pt.kernel p ≡ Some (kernel.Calls n (calls.Sends k y)) → p.home ≡ m → Seen b m pt → Last (with_sent (kernel.goes_on pt.kernel p y) (Some k)) pt.view k.id
+sent_last b m pt p n k y next home h =
+    let s = pt.kernel in
+    let w = nexts s p (kernel.Calls n (calls.Sends k y)) next in
+    let (z, sent, pending, counted) = w.counts in
+    let t = with_sent (kernel.goes_on s p y) (Some k) in
+    let off = not_server s p w.x w.is.alive h.sound.made in
+    let from : k.id.from ≡ p = ap (λ (i : MsgId). i.from) counted.id in
+    let number : k.id.n ≡ z.sent = ap (λ (i : MsgId). i.n) counted.id in
+    let count = counted.count in
+    let fresh : counts s k.id ≡ false = counts_alive s p w.x k.id w.is.alive from off ∙ (let e : nat_lt k.id.n w.x.sent ≡ false = grind (arith, nat_tests) in e) in
+    record {
+      home = ap (λ (r : Pid). r.home) from ∙ home ∙ sym h.acting;
+      last = counts_alive t p y (next_id k.id) (set_at s p (Alive y)) from off ∙ (let e : nat_lt (k.id.n + 1) y.sent ≡ false = grind (arith, nat_tests) in e);
+      untold = never_counted b m pt k.id h fresh;
+    }
+
 -- what a call comes to
 does_called : (b : Boot) (m : ℕ) (pt : Point) (p : Pid) (n : ℕ) (queue : List MsgId) (c : calls.Called) (x : PlainProcess) → kernel.next pt.kernel p ≡ Some (kernel.Calls n c) → pt.kernel.processes p ≡ Some (Alive x) → p.home ≡ m → Droppable pt.kernel p queue → Seen b m pt
     → Does b m pt (rule.called p n queue c)
 does_called b m pt p n queue (calls.Replies reply y) x next is home drops h =
     let s = pt.kernel in
     let step : kernel.step s (label.Call p n reply) ≡ Some (kernel.goes_on s p y) = ap (λ (o : Option kernel.Next). bind o (kernel.replies s p n reply)) next ∙ ap (λ (d : Bool). when d (kernel.goes_on s p y)) (reply_same n reply) in
-    does_label b m pt (label.Call p n reply) (kernel.goes_on s p y) [] step (does_nothing b m (moved pt (line.Label (label.Call p n reply)) (kernel.goes_on s p y)) (seen_call b m pt p n reply x y is step h))
+    does_label b m pt (label.Call p n reply) (kernel.goes_on s p y) [] step h (does_nothing b m (moved pt (line.Label (label.Call p n reply)) (kernel.goes_on s p y)) (seen_call b m pt p n reply x y is step h))
 does_called b m pt p n queue (calls.Sends k y) x next is home drops h =
     let s = pt.kernel in
     let t = with_sent (kernel.goes_on s p y) (Some k) in
     let step : kernel.step s (label.Send p k.id) ≡ Some t = ap (λ (o : Option kernel.Next). bind o (kernel.sends s p k.id)) next ∙ ap (λ (d : Bool). when d t) (id_eq-same k.id) in
-    does_label b m pt (label.Send p k.id) t (Routes k.id ∷ []) step
-    (does_route b m (moved pt (line.Label (label.Send p k.id)) t) k.id k (sent_at (kernel.goes_on s p y) k k.id (id_eq-same k.id)) (seen_send b m pt p k.id k x y is step h))
+    does_label b m pt (label.Send p k.id) t (Routes k.id ∷ []) step h
+    (does_route b m (moved pt (line.Label (label.Send p k.id)) t) k.id k (sent_at (kernel.goes_on s p y) k k.id (id_eq-same k.id)) (λ user. sent_last b m pt p n k y next home h) (seen_send b m pt p k.id k x y is step h))
 does_called b m pt p n queue (calls.Waits y) x next is home drops h =
     let s = pt.kernel in
     let step : kernel.step s (label.Wait p) ≡ Some (kernel.goes_on s p y) = ap (λ (o : Option kernel.Next). bind o (kernel.waits s p)) next in
-    does_label b m pt (label.Wait p) (kernel.goes_on s p y) [] step (does_nothing b m (moved pt (line.Label (label.Wait p)) (kernel.goes_on s p y)) (seen_wait b m pt p x y is step h))
+    does_label b m pt (label.Wait p) (kernel.goes_on s p y) [] step h (does_nothing b m (moved pt (line.Label (label.Wait p)) (kernel.goes_on s p y)) (seen_wait b m pt p x y is step h))
 does_called b m pt p n queue (calls.Outputs word y) x next is home drops h =
     let s = pt.kernel in
     let step : kernel.step s (label.Out p word) ≡ Some (kernel.goes_on s p y) = ap (λ (o : Option kernel.Next). bind o (kernel.outputs s p word)) next ∙ ap (λ (d : Bool). when d (kernel.goes_on s p y)) (eq_same word) in
-    does_label b m pt (label.Out p word) (kernel.goes_on s p y) [] step (does_nothing b m (moved pt (line.Label (label.Out p word)) (kernel.goes_on s p y)) (seen_out b m pt p word x y is step h))
+    does_label b m pt (label.Out p word) (kernel.goes_on s p y) [] step h (does_nothing b m (moved pt (line.Label (label.Out p word)) (kernel.goes_on s p y)) (seen_out b m pt p word x y is step h))
 does_called b m pt p n queue (calls.Ends because) x next is home drops h =
     let s = pt.kernel in
     let t = with_process s p (Ended because) in
     let step : kernel.step s (label.End p because) ≡ Some t = ap (λ (o : Option kernel.Next). bind o (kernel.ends s p because)) next ∙ ap (λ (d : Bool). when d t) (eq_same (why_code because)) in
-    does_label b m pt (label.End p because) t (rule.drops queue) step
+    does_label b m pt (label.End p because) t (rule.drops queue) step h
     (does_drops b m p because queue (moved pt (line.Label (label.End p because)) t) (set_at s p (Ended because)) (droppable_on s t p queue (λ i least. refl) drops) (seen_end b m pt p because x is home step h))
 
 does_stops : (b : Boot) (m : ℕ) (pt : Point) (p : Pid) (queue : List MsgId) (o : Option kernel.Next) (x : PlainProcess) → kernel.next pt.kernel p ≡ o → pt.kernel.processes p ≡ Some (Alive x) → p.home ≡ m → Droppable pt.kernel p queue → Seen b m pt
@@ -188,7 +226,7 @@ does_stops b m pt p queue (Some (kernel.Faults fault)) x next is home drops h =
     let because = why.Fault fault in
     let t = with_process s p (Ended because) in
     let step : kernel.step s (label.End p because) ≡ Some t = ap (λ (o : Option kernel.Next). bind o (kernel.ends s p because)) next ∙ ap (λ (d : Bool). when d t) (eq_same (why_code because)) in
-    does_label b m pt (label.End p because) t (rule.drops queue) step
+    does_label b m pt (label.End p because) t (rule.drops queue) step h
     (does_drops b m p because queue (moved pt (line.Label (label.End p because)) t) (set_at s p (Ended because)) (droppable_on s t p queue (λ i least. refl) drops) (seen_end b m pt p because x is home step h))
 
 does_rest : (b : Boot) (m : ℕ) (pt : Point) (c : Bool) (ps : List Part) → Does b m pt ps → Seen b m pt → Does b m pt (if c then [] else ps)
@@ -209,7 +247,7 @@ does_executes b m pt p queue x is going ready home drops h =
     let o = kernel.next_row p y (instruction r.machine.regs r.machine.bytes) in
     let next : kernel.next t p ≡ o = ap (λ (v : Option PlainProcess). bind v (λ (z : PlainProcess). kernel.next_row p z (instruction z.regs z.memory))) (running_of t p y (set_at s p (Alive y)) going ready) in
     let q = moved pt (line.Label (label.Ran p r.count)) t in
-    does_label b m pt (label.Ran p r.count) t (if r.count == b.quantum then [] else rule.stops p queue o) step
+    does_label b m pt (label.Ran p r.count) t (if r.count == b.quantum then [] else rule.stops p queue o) step h
     (does_rest b m q (r.count == b.quantum) (rule.stops p queue o) (does_stops b m q p queue o y next (set_at s p (Alive y)) home (droppable_on s t p queue (λ i least. refl) drops) seen) seen)
 
 -- a waiting process takes a message
@@ -264,12 +302,12 @@ does_completes b m pt p i x (receiving.Receives y) e is home h =
     let s = pt.kernel in
     let t = kernel.goes_on (without_message s i) p y in
     let step : kernel.step s (label.Receive p i) ≡ Some t = ap (λ (o : Option receiving.Completed). bind o (kernel.receives s p i)) e in
-    does_label b m pt (label.Receive p i) t [] step (does_nothing b m (moved pt (line.Label (label.Receive p i)) t) (seen_receive b m pt p i x y is home step h))
+    does_label b m pt (label.Receive p i) t [] step h (does_nothing b m (moved pt (line.Label (label.Receive p i)) t) (seen_receive b m pt p i x y is home step h))
 does_completes b m pt p i x (receiving.Refuses reply y) e is home h =
     let s = pt.kernel in
     let t = kernel.goes_on s p y in
     let step : kernel.step s (label.Refuse p i reply) ≡ Some t = ap (λ (o : Option receiving.Completed). bind o (kernel.refuses s p reply)) e ∙ ap (λ (d : Bool). when d t) (eq_same (reply_code reply)) in
-    does_label b m pt (label.Refuse p i reply) t [] step (does_nothing b m (moved pt (line.Label (label.Refuse p i reply)) t) (seen_refuse b m pt p i reply x y is home step h))
+    does_label b m pt (label.Refuse p i reply) t [] step h (does_nothing b m (moved pt (line.Label (label.Refuse p i reply)) t) (seen_refuse b m pt p i reply x y is home step h))
 
 droppable_to : (s : OneKernel) (p : Pid) (ids : List MsgId) (i : MsgId) (x : PlainMessage) → s.bag i ≡ Some x → 1 ≤ times i ids → Droppable s p ids → x.to ≡ p
 droppable_to s p [] i x there least h = absurd (omega (arith, least))
@@ -342,7 +380,7 @@ pub can_go_round : (b : Boot) (m : ℕ) (o pt : Point) (p : Option Pid) → o.ke
 can_go_round b m o pt None same run drops h = record {
   ps = Says (line.Idle m) ∷ [];
   is = refl;
-  does = does_line b m pt (line.Idle m) [] refl (does_nothing b m (moved pt (line.Idle m) pt.kernel) (seen_line b m pt (line.Idle m) h (record { acting = refl; told = λ i. refl; queue = λ n p i e. e }) h.known));
+  does = does_line b m pt (line.Idle m) [] refl (λ k o_. o_) (does_nothing b m (moved pt (line.Idle m) pt.kernel) (seen_line b m pt (line.Idle m) h (record { acting = refl; told = λ i. refl; queue = λ n p i e. e }) h.known));
 }
 can_go_round b m o pt (Some p) same run drops h =
     let r = run p refl in
