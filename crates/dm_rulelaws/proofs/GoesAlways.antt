@@ -95,7 +95,7 @@ front b m o i is box h =
     )
 
 can_turn_by : (b : Boot) (m : ℕ) (o : Point) (box : List MsgId) → o.view.inbox m ≡ box → Run b o → Can b m (begun o m) (rule.turns b o m box)
-can_turn_by b m o [] is h = can_turn b m o (begun o m) refl (h.home.rings.ring m) (λ q. queue_drops b m h.acting o q h.state.stands.kept h.seen) (seen_turn b h.acting m o h.seen)
+can_turn_by b m o [] is h = can_turn b m o (begun o m) refl (λ q. refl) (h.home.rings.ring m) (λ q. queue_drops b m h.acting o q h.state.stands.kept h.seen) (seen_turn b h.acting m o h.seen)
 can_turn_by b m o (i ∷ is) box h = let (x, f) = front b m o i is box h in can_handle b m o i x f
 
 -- each directive has its group

@@ -52,6 +52,8 @@ use Rattle.dm_rulelaws.proofs.SeenLives.{SameLives, goes_lives}
 use Rattle.dm_rulelaws.proofs.SeenPoint.{is_user, seen_queued}
 use Rattle.dm_rulelaws.proofs.SeenParts.{does_label, does_line}
 use Rattle.dm_laws.proofs.Services.{LandsSo, lands-is}
+use Rattle.dm_rulelaws.proofs.SeenParts.{said}
+use Rattle.dm_rulelaws.proofs.GoesTurns.{no_receive, Shape, Quiet, drops_quiet}
 use Rattle.dm_rulelaws.proofs.OrderLines.{Which, Ord}
 use Rattle.dm_rulelaws.proofs.OrderTakes.{ord_queued}
 use Rattle.dm_rulelaws.proofs.OrderMoves.{Last}
@@ -60,8 +62,8 @@ use Rattle.dm_rulelaws.proofs.GoesTurns.{Can, droppable_on, does_drops, dropped_
 use Rattle.dm_rulelaws.proofs.GoesFront.{begun, Front, name_of, served_is, ForOthers, ForWhom, ForProcess, ForOther, for_whom, is_manager, answer_there, sent_there}
 
 -- a label and then parts
-pub can_say : (b : Boot) (m : ℕ) (pt : Point) (l : _) (t : OneKernel) (ps : List Part) → kernel.step pt.kernel l ≡ Some t → Seen b m pt → Does b m (moved pt (line.Label l) t) ps → Can b m pt (Some (rule.says l ∷ ps))
-can_say b m pt l t ps is h d = record { ps = rule.says l ∷ ps; is = refl; does = does_label b m pt l t ps is h d }
+pub can_say : (b : Boot) (m : ℕ) (pt : Point) (l : _) (t : OneKernel) (ps : List Part) → kernel.step pt.kernel l ≡ Some t → Seen b m pt → no_receive (said (rule.says l ∷ ps)) ≡ true → Does b m (moved pt (line.Label l) t) ps → Can b m pt (Some (rule.says l ∷ ps))
+can_say b m pt l t ps is h quiet d = record { ps = rule.says l ∷ ps; is = refl; does = does_label b m pt l t ps is h d; shape = Quiet quiet }
 
 -- a served message's step
 served_step_is : (s : OneKernel) (i : MsgId) (x : PlainMessage) (y : PlainProcess) (w : PlainWhat) (t : OneKernel) → s.bag i ≡ Some x → s.processes x.to ≡ Some (Alive y) → x.what ≡ w → service.serves s i x y w ≡ Some t → kernel.step s (label.Served i) ≡ Some t
@@ -91,7 +93,7 @@ can_set : (b : Boot) (m : ℕ) (o : Point) (i : MsgId) (x : PlainMessage) (y z :
 can_set b m o i x y z w is alive f serves quiet =
     let t = service.changed o.kernel i x z in
     let step = served_step_is o.kernel i x y w t f.there alive is serves in
-    can_say b m (begun o m) (label.Served i) t [] step f.seen (does_nothing b m (moved (begun o m) (line.Label (label.Served i)) t) (served_seen b m o i x w t is f step refl (changed_lives o.kernel i x y z alive) quiet))
+    can_say b m (begun o m) (label.Served i) t [] step f.seen refl (does_nothing b m (moved (begun o m) (line.Label (label.Served i)) t) (served_seen b m o i x w t is f step refl (changed_lives o.kernel i x y z alive) quiet))
 
 -- a message is served, and another one goes
 can_answer : (b : Boot) (m : ℕ) (o : Point) (i : MsgId) (x : PlainMessage) (y z : PlainProcess) (w : PlainWhat) (k : PlainMessage) (j : MsgId) → x.what ≡ w → o.kernel.processes x.to ≡ Some (Alive y) → Front b m o i x
@@ -100,7 +102,7 @@ can_answer : (b : Boot) (m : ℕ) (o : Point) (i : MsgId) (x : PlainMessage) (y 
 can_answer b m o i x y z w k j is alive f serves there other quiet =
     let t = with_sent (service.changed o.kernel i x z) (Some k) in
     let step = served_step_is o.kernel i x y w t f.there alive is serves in
-    can_say b m (begun o m) (label.Served i) t (Routes j ∷ []) step f.seen
+    can_say b m (begun o m) (label.Served i) t (Routes j ∷ []) step f.seen refl
     (does_route b m (moved (begun o m) (line.Label (label.Served i)) t) j k there (λ user. absurd (false≢true (sym other ∙ user))) (served_seen b m o i x w t is f step refl (sent_lives o.kernel (service.changed o.kernel i x z) k (changed_lives o.kernel i x y z alive)) quiet))
 
 -- a kill takes the queue with it
@@ -112,7 +114,7 @@ can_kill b m o i x y is alive f =
     let step = served_step_is s i x y what.Kill t f.there alive is refl in
     let known = killed_known s pt.view i x.to y why.Killed alive (f.home ∙ sym f.seen.acting) f.seen.sound.made f.seen.known in
     let seen = seen_served b m pt i t step refl (subst (KnownStands t) (sym (served_is b m o i x (handled pt.view i) what.Kill is f)) known) f.seen in
-    can_say b m pt (label.Served i) t (rule.drops (o.view.queue m x.to)) step f.seen
+    can_say b m pt (label.Served i) t (rule.drops (o.view.queue m x.to)) step f.seen (drops_quiet (o.view.queue m x.to))
     (does_drops b m x.to why.Killed (o.view.queue m x.to) (moved pt (line.Label (label.Served i)) t) (set_at (without_message s i) x.to (Ended why.Killed))
     (droppable_on s t x.to (o.view.queue m x.to) (λ j least. out_off s i j (apart j least (id_eq i j) refl)) (f.drops x.to)) seen)
   where
@@ -199,7 +201,7 @@ can_land_at b m o i x y w (pieces.Next request z) is alive f serves so quiet =
 can_land_at b m o i x y w (pieces.Done reply z) is alive f serves so quiet = can_set b m o i x y z w is alive f serves quiet
 
 pub can_as : (b : Boot) (m : ℕ) (pt : Point) (o q : Option (List Part)) → o ≡ q → Can b m pt q → Can b m pt o
-can_as b m pt o q e c = record { ps = c.ps; is = e ∙ c.is; does = c.does }
+can_as b m pt o q e c = record { ps = c.ps; is = e ∙ c.is; does = c.does; shape = c.shape }
 
 can_land : (b : Boot) (m : ℕ) (o : Point) (i : MsgId) (x : PlainMessage) (y : PlainProcess) (w : PlainWhat) → x.what ≡ w → o.kernel.processes x.to ≡ Some (Alive y) → Front b m o i x
     → ((c : pieces.Landed) → pieces.lands x.to y x y.status ≡ Some c → service.serves o.kernel i x y w ≡ Some (service.landed o.kernel i x c)) → is_of_memory w ≡ false → awaits (o.kernel.processes x.to) i.n w ≡ true → ((v : View) (p : Pid) → view.kills (plain_kind w) v (Some p) ≡ v)
@@ -220,6 +222,7 @@ queued_order b m o i x f k q =
 pub can_here : (b : Boot) (m : ℕ) (o : Point) (i : MsgId) (x : PlainMessage) (y : PlainProcess) (w : PlainWhat) → x.what ≡ w → (x.to.num == 0) ≡ false → pid_eq x.to manager ≡ false → o.kernel.processes x.to ≡ Some (Alive y) → Front b m o i x → WhatFits o.kernel i x w
     → Can b m (begun o m) (rule.here_handles o m i x y w)
 can_here b m o i x y (what.User code channel body links) is num other alive f h = record {
+  shape = Quiet refl;
   ps = Says (line.Queued i) ∷ [];
   is = refl;
   does = does_line b m (begun o m) (line.Queued i) [] refl (λ k q. queued_order b m o i x f k q) (does_nothing b m (moved (begun o m) (line.Queued i) o.kernel)
@@ -272,7 +275,7 @@ can_gone b m o i x y memory ended f =
     let s = o.kernel in
     let t = with_sent (without_message s i) (Some (answer_to x what.Gone)) in
     let step = gone_is s i x y f.there ended memory in
-    can_say b m (begun o m) (label.Gone i) t (Routes (answer_id i) ∷ []) step f.seen
+    can_say b m (begun o m) (label.Gone i) t (Routes (answer_id i) ∷ []) step f.seen refl
     (does_route b m (moved (begun o m) (line.Label (label.Gone i)) t) (answer_id i) (answer_to x what.Gone) (answer_there (without_message s i) i x what.Gone (name_of b m o i x f)) (λ user. absurd (false≢true user)) (seen_gone b m (begun o m) i t step refl (record { known = λ p. refl; alive = λ p. refl }) f.seen))
 
 can_drop : (b : Boot) (m : ℕ) (o : Point) (i : MsgId) (x : PlainMessage) (y : Why) → is_dropped x.what ≡ true → o.kernel.processes x.to ≡ Some (Ended y) → Front b m o i x → Can b m (begun o m) (Some (rule.says (label.Dropped i) ∷ []))
@@ -280,7 +283,7 @@ can_drop b m o i x y drops ended f =
     let s = o.kernel in
     let t = without_message s i in
     let step = dropped_is s i x y f.there ended drops in
-    can_say b m (begun o m) (label.Dropped i) t [] step f.seen (does_nothing b m (moved (begun o m) (line.Label (label.Dropped i)) t) (seen_dropped b m (begun o m) i step f.seen))
+    can_say b m (begun o m) (label.Dropped i) t [] step f.seen refl (does_nothing b m (moved (begun o m) (line.Label (label.Dropped i)) t) (seen_dropped b m (begun o m) i step f.seen))
 
 pub can_ended : (b : Boot) (m : ℕ) (o : Point) (i : MsgId) (x : PlainMessage) (y : Why) (w : PlainWhat) → x.what ≡ w → (x.to.num == 0) ≡ false → pid_eq x.to manager ≡ false → o.kernel.processes x.to ≡ Some (Ended y) → Front b m o i x → WhatFits o.kernel i x w
     → Can b m (begun o m) (rule.ended_handles i w)

@@ -51,7 +51,8 @@ use Rattle.dm_rulelaws.proofs.GoesFront.{begun, Front, name_of, ForOthers, ForWh
 use Rattle.dm_laws.proofs.Entered.{counts}
 use Rattle.dm_laws.proofs.Servers.{ServerSends, board_takes, manager_takes}
 use Rattle.dm_rulelaws.proofs.OrderMoves.{Last, next_id}
-use Rattle.dm_rulelaws.proofs.GoesTurns.{never_counted}
+use Rattle.dm_rulelaws.proofs.GoesTurns.{never_counted, no_receive}
+use Rattle.dm_rulelaws.proofs.SeenParts.{said}
 use Rattle.dm_rulelaws.proofs.GoesProcess.{can_say, can_as, can_process}
 
 get_is : {X : Type 0} (xs : List X) (k : ℕ) → nat_lt k (length xs) ≡ true → (x : X) × (slice_get xs k ≡ Some x)
@@ -107,7 +108,7 @@ can_created b m o i x image links g is kern found f =
     ∙ ap (λ (c : Bool). when (c && pid_eq child (pid_of x.to.home (first_number + s.made x.to.home))) t) kern ∙ ap (λ (c : Bool). when c t) named in
     let none = fresh_child f.seen.r f.seen.e s child m refl f.seen.sound in
     let server : is_server child ≡ false = not_server_child m (s.made m) in
-    can_say b m (begun o m) (label.Created i child) t (Routes (answer_id i) ∷ []) step f.seen
+    can_say b m (begun o m) (label.Created i child) t (Routes (answer_id i) ∷ []) step f.seen refl
     (does_route b m (moved (begun o m) (line.Label (label.Created i child)) t) (answer_id i) k (answer_there u i x (what.Created child) (name_of b m o i x f)) (λ user. absurd (false≢true user))
     (seen_created b m (begun o m) i child y t step refl (λ q. refl) none server refl f.seen))
   where
@@ -125,7 +126,7 @@ can_no_space b m o i x image links slots blocks is kern f =
     let t = with_sent (without_message s i) (Some k) in
     let step : kernel.step s (label.NoSpace i slots blocks) ≡ Some t =
     ap (λ (o_ : Option PlainMessage). bind o_ (λ (v : PlainMessage). service.has_no_room s i v v.what)) f.there ∙ ap (service.has_no_room s i x) is ∙ ap (λ (c : Bool). when c t) kern in
-    can_say b m (begun o m) (label.NoSpace i slots blocks) t (Routes (answer_id i) ∷ []) step f.seen
+    can_say b m (begun o m) (label.NoSpace i slots blocks) t (Routes (answer_id i) ∷ []) step f.seen refl
     (does_route b m (moved (begun o m) (line.Label (label.NoSpace i slots blocks)) t) (answer_id i) k (answer_there (without_message s i) i x what.NoRoom (name_of b m o i x f)) (λ user. absurd (false≢true user))
     (seen_no_space b m (begun o m) i slots blocks t step refl (record { known = λ p. refl; alive = λ p. refl }) f.seen))
 
@@ -180,10 +181,14 @@ took_last b m o i x u k y sends e f = record {
   untold = never_counted b m (begun o m) y.id f.seen (sends.fresh y e);
 }
 
+routes_quiet : (k : Option PlainMessage) → no_receive (said (rule.routes k)) ≡ true
+routes_quiet None = refl
+routes_quiet (Some y) = refl
+
 can_take : (b : Boot) (m : ℕ) (o : Point) (i : MsgId) (x : PlainMessage) (u : OneKernel) (k : Option PlainMessage) → kernel.step o.kernel (label.Took i) ≡ Some (with_sent u k) → u.images ≡ o.kernel.images → SameLives o.kernel u → Sends m o u k → Front b m o i x
     → Can b m (begun o m) (Some (rule.says (label.Took i) ∷ rule.routes k))
 can_take b m o i x u k step images same sends f =
-    can_say b m (begun o m) (label.Took i) (with_sent u k) (rule.routes k) step f.seen
+    can_say b m (begun o m) (label.Took i) (with_sent u k) (rule.routes k) step f.seen (routes_quiet k)
     (does_routes b m (moved (begun o m) (line.Label (label.Took i)) (with_sent u k)) k (λ y e. sent_there u k y e) (λ y e. took_last b m o i x u k y sends e f) (seen_took b m (begun o m) i (with_sent u k) step (sent_images u k ∙ images) (sent_same o.kernel u k same) f.seen))
 
 -- what the servers send

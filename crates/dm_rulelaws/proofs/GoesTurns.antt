@@ -45,7 +45,8 @@ use Rattle.dm_laws.proofs.Steps.{nexts}
 use Rattle.dm_rulelaws.proofs.OrderMoves.{Last, next_id}
 use Rattle.dm_rulelaws.proofs.FitsRises.{set_at, both}
 use Rattle.dm_rulelaws.proofs.SeenPoint.{is_user, Seen}
-use Rattle.dm_rulelaws.proofs.SeenParts.{Does, does_nothing, does_label, does_line, does_route}
+use Rattle.dm_onekernel.specs.declared.label.Label.{Label}
+use Rattle.dm_rulelaws.proofs.SeenParts.{said, Does, does_nothing, does_label, does_line, does_route}
 use Rattle.dm_rulelaws.proofs.SeenPoint.{seen_line}
 use Rattle.dm_rulelaws.proofs.SeenLabels.{seen_ran, seen_refuse, seen_receive, seen_call, seen_wait, seen_out, seen_send, seen_end, seen_dropped}
 
@@ -273,11 +274,56 @@ pub first_is : (s : OneKernel) (mask : ℕ) (ids : List MsgId) (i : MsgId) → r
 first_is s mask [] i e = cc
 first_is s mask (j ∷ js) i e = awaited_if s mask j js i (rule.is_awaited mask (s.bag j)) refl e (first_is s mask js i)
 
+-- no label of these is a reception
+abbrev pub not_receive : Label → Bool
+not_receive (label.Receive p i) = false
+not_receive l = true
+
+abbrev pub no_receive : List Label → Bool
+no_receive [] = true
+no_receive (l ∷ ls) = not_receive l && no_receive ls
+
+-- a reception is alone in its group, and takes the first message that was awaited
+pub record Reception (m : ℕ) (pt : Point) (ps : List Part) : Type 0 where
+  pub p : Pid
+  pub i : MsgId
+  pub is : ps ≡ rule.says (label.Receive p i) ∷ []
+  pub home : p.home ≡ m
+  pub mask : ℕ
+  pub first : rule.first_awaited pt.kernel mask (pt.view.queue m p) ≡ Some i
+  pub t : OneKernel
+  pub step : kernel.step pt.kernel (label.Receive p i) ≡ Some t
+
+pub data Shape (m : ℕ) (pt : Point) (ps : List Part) : Type 0 where
+  Quiet : (quiet : no_receive (said ps) ≡ true) → Shape m pt ps
+  Takes : (reception : Reception m pt ps) → Shape m pt ps
+
+pub drops_quiet : (ids : List MsgId) → no_receive (said (rule.drops ids)) ≡ true
+drops_quiet [] = refl
+drops_quiet (i ∷ is) = drops_quiet is
+
+called_quiet : (p : Pid) (n : ℕ) (queue : List MsgId) (c : calls.Called) → no_receive (said (rule.called p n queue c)) ≡ true
+called_quiet p n queue (calls.Replies reply y) = refl
+called_quiet p n queue (calls.Sends k y) = refl
+called_quiet p n queue (calls.Waits y) = refl
+called_quiet p n queue (calls.Outputs word y) = refl
+called_quiet p n queue (calls.Ends because) = drops_quiet queue
+
+stops_quiet : (p : Pid) (queue : List MsgId) (o : Option kernel.Next) → no_receive (said (rule.stops p queue o)) ≡ true
+stops_quiet p queue None = refl
+stops_quiet p queue (Some (kernel.Calls n c)) = called_quiet p n queue c
+stops_quiet p queue (Some (kernel.Faults fault)) = drops_quiet queue
+
+rest_quiet : (c : Bool) (ps : List Part) → no_receive (said ps) ≡ true → no_receive (said (if c then [] else ps)) ≡ true
+rest_quiet true ps h = refl
+rest_quiet false ps h = h
+
 -- the parts that an outcome gives can be said
 pub record Can (b : Boot) (m : ℕ) (pt : Point) (o : Option (List Part)) : Type 0 where
   pub ps : List Part
   pub is : o ≡ Some ps
   pub does : Does b m pt ps
+  pub shape : Shape m pt ps
 
 completes_what : (p : Pid) (x : PlainProcess) (k : PlainMessage) (mask base size : ℕ) (w : PlainWhat) → rule.what_is_awaited mask w ≡ true → k.to ≡ p → (c : receiving.Completed) × (receiving.completes_what p x k mask base size w ≡ Some c)
 completes_what p x k mask base size (what.User code channel body links) e to =
@@ -322,10 +368,23 @@ droppable_to s p (j ∷ js) i x there least h = elim (cases_Bool (id_eq i j)) [
       droppable_to s p js i x there (omega (arith, least, e)) h.2
 ]
 
+completes_shape : (m : ℕ) (pt : Point) (p : Pid) (i : MsgId) (mask : ℕ) (c : receiving.Completed) → p.home ≡ m → rule.first_awaited pt.kernel mask (pt.view.queue m p) ≡ Some i → kernel.completing pt.kernel p i ≡ Some c → Shape m pt (rule.completes p i c)
+completes_shape m pt p i mask (receiving.Receives y) home first e = Takes (record {
+  p = p;
+  i = i;
+  is = refl;
+  home = home;
+  mask = mask;
+  first = first;
+  t = kernel.goes_on (without_message pt.kernel i) p y;
+  step = ap (λ (o : Option receiving.Completed). bind o (kernel.receives pt.kernel p i)) e;
+})
+completes_shape m pt p i mask (receiving.Refuses reply y) home first e = Quiet refl
+
 can_receive : (b : Boot) (m : ℕ) (pt : Point) (p : Pid) (queue : List MsgId) (x : PlainProcess) (mask base size : ℕ) (o : Option MsgId) → x.status ≡ Waiting mask base size → rule.first_awaited pt.kernel mask queue ≡ o → is_some o ≡ true → pt.kernel.processes p ≡ Some (Alive x)
-    → x.stopped ≡ false → p.home ≡ m → Droppable pt.kernel p queue → Seen b m pt → Can b m pt (rule.receives pt.kernel p x o)
-can_receive b m pt p queue x mask base size None status first some is going home drops h = cc
-can_receive b m pt p queue x mask base size (Some i) status first some is going home drops h =
+    → x.stopped ≡ false → p.home ≡ m → queue ≡ pt.view.queue m p → Droppable pt.kernel p queue → Seen b m pt → Can b m pt (rule.receives pt.kernel p x o)
+can_receive b m pt p queue x mask base size None status first some is going home same drops h = cc
+can_receive b m pt p queue x mask base size (Some i) status first some is going home same drops h =
     let s = pt.kernel in
     let a = first_is s mask queue i first in
     let k = a.x in
@@ -338,13 +397,14 @@ can_receive b m pt p queue x mask base size (Some i) status first some is going 
       ps = rule.completes p i c;
       is = ap (λ (o : Option PlainMessage). bind o (λ (v : PlainMessage). bind (receiving.completes_with p x v) (λ (c : receiving.Completed). Some (rule.completes p i c)))) a.there ∙ ap (λ (o : Option receiving.Completed). bind o (λ (c : receiving.Completed). Some (rule.completes p i c))) with_;
       does = does_completes b m pt p i x c completing is home h;
+      shape = completes_shape m pt p i mask c home (ap (λ ids. rule.first_awaited s mask ids) (sym same) ∙ first) completing;
     }
 
-can_serve : (b : Boot) (m : ℕ) (pt : Point) (p : Pid) (queue : List MsgId) (x : PlainProcess) (st : PlainStatus) → x.status ≡ st → rule.status_can_go pt.kernel queue st ≡ true → pt.kernel.processes p ≡ Some (Alive x) → x.stopped ≡ false → p.home ≡ m → Droppable pt.kernel p queue → Seen b m pt
+can_serve : (b : Boot) (m : ℕ) (pt : Point) (p : Pid) (queue : List MsgId) (x : PlainProcess) (st : PlainStatus) → x.status ≡ st → rule.status_can_go pt.kernel queue st ≡ true → pt.kernel.processes p ≡ Some (Alive x) → x.stopped ≡ false → p.home ≡ m → queue ≡ pt.view.queue m p → Droppable pt.kernel p queue → Seen b m pt
     → Can b m pt (rule.serves_status b.quantum pt.kernel p queue x st)
-can_serve b m pt p queue x Ready status go is going home drops h = record { ps = rule.executes b.quantum p queue x (rule.ran b.quantum (kernel.machine_of x)); is = refl; does = does_executes b m pt p queue x is going status home drops h }
-can_serve b m pt p queue x (Waiting mask base size) status go is going home drops h = can_receive b m pt p queue x mask base size (rule.first_awaited pt.kernel mask queue) status refl go is going home drops h
-can_serve b m pt p queue x (Moving dir owner base own left pending) status go is going home drops h = cc
+can_serve b m pt p queue x Ready status go is going home same drops h = record { ps = rule.executes b.quantum p queue x (rule.ran b.quantum (kernel.machine_of x)); is = refl; does = does_executes b m pt p queue x is going status home drops h; shape = Quiet (rest_quiet ((rule.ran b.quantum (kernel.machine_of x)).count == b.quantum) (rule.stops p queue (kernel.next_row p (kernel.with_machine x (rule.ran b.quantum (kernel.machine_of x)).machine) (instruction (rule.ran b.quantum (kernel.machine_of x)).machine.regs (rule.ran b.quantum (kernel.machine_of x)).machine.bytes))) (stops_quiet p queue (kernel.next_row p (kernel.with_machine x (rule.ran b.quantum (kernel.machine_of x)).machine) (instruction (rule.ran b.quantum (kernel.machine_of x)).machine.regs (rule.ran b.quantum (kernel.machine_of x)).machine.bytes)))) }
+can_serve b m pt p queue x (Waiting mask base size) status go is going home same drops h = can_receive b m pt p queue x mask base size (rule.first_awaited pt.kernel mask queue) status refl go is going home same drops h
+can_serve b m pt p queue x (Moving dir owner base own left pending) status go is going home same drops h = cc
 
 -- the first of the ring that can be served
 pub record Runnable (s : OneKernel) (queue : Pid → List MsgId) (m : ℕ) (p : Pid) : Type 0 where
@@ -376,23 +436,25 @@ runnable_is s queue m (p ∷ ps) q home e =
     let first = k.0 in
     runnable_if s queue m p ps q (rule.can_go s (queue p) (kernel.alive (s.processes p))) refl (let f : p.home ≡ m = grind (arith, nat_tests) in f) e (runnable_is s queue m ps q k.1)
 
-pub can_go_round : (b : Boot) (m : ℕ) (o pt : Point) (p : Option Pid) → o.kernel ≡ pt.kernel → ((q : Pid) → p ≡ Some q → Runnable pt.kernel (o.view.queue m) m q) → ((q : Pid) → Droppable pt.kernel q (o.view.queue m q)) → Seen b m pt → Can b m pt (rule.goes_round b o m p)
-can_go_round b m o pt None same run drops h = record {
+pub can_go_round : (b : Boot) (m : ℕ) (o pt : Point) (p : Option Pid) → o.kernel ≡ pt.kernel → ((q : Pid) → o.view.queue m q ≡ pt.view.queue m q) → ((q : Pid) → p ≡ Some q → Runnable pt.kernel (o.view.queue m) m q) → ((q : Pid) → Droppable pt.kernel q (o.view.queue m q)) → Seen b m pt → Can b m pt (rule.goes_round b o m p)
+can_go_round b m o pt None same boxes run drops h = record {
   ps = Says (line.Idle m) ∷ [];
   is = refl;
   does = does_line b m pt (line.Idle m) [] refl (λ k o_. o_) (does_nothing b m (moved pt (line.Idle m) pt.kernel) (seen_line b m pt (line.Idle m) h (record { acting = refl; told = λ i. refl; queue = λ n p i e. e }) h.known));
+  shape = Quiet refl;
 }
-can_go_round b m o pt (Some p) same run drops h =
+can_go_round b m o pt (Some p) same boxes run drops h =
     let r = run p refl in
-    let k = can_serve b m pt p (o.view.queue m p) r.x r.x.status refl r.go r.is r.going r.home (drops p) h in
+    let k = can_serve b m pt p (o.view.queue m p) r.x r.x.status refl r.go r.is r.going r.home (boxes p) (drops p) h in
     record {
       ps = k.ps;
       is = ap (λ (s : OneKernel). bind (kernel.alive (s.processes p)) (λ (x : PlainProcess). rule.serves_status b.quantum s p (o.view.queue m p) x x.status)) same
           ∙ ap (λ (l : Option Life). bind (kernel.alive l) (λ (x : PlainProcess). rule.serves_status b.quantum pt.kernel p (o.view.queue m p) x x.status)) r.is ∙ k.is;
       does = k.does;
+      shape = k.shape;
     }
 
-pub can_turn : (b : Boot) (m : ℕ) (o pt : Point) → o.kernel ≡ pt.kernel → are_home m (o.view.ring m) ≡ true → ((q : Pid) → Droppable pt.kernel q (o.view.queue m q)) → Seen b m pt → Can b m pt (rule.goes_round b o m (rule.first_runnable o.kernel (o.view.queue m) (o.view.ring m)))
-can_turn b m o pt same home drops h =
-    can_go_round b m o pt (rule.first_runnable o.kernel (o.view.queue m) (o.view.ring m)) same
+pub can_turn : (b : Boot) (m : ℕ) (o pt : Point) → o.kernel ≡ pt.kernel → ((q : Pid) → o.view.queue m q ≡ pt.view.queue m q) → are_home m (o.view.ring m) ≡ true → ((q : Pid) → Droppable pt.kernel q (o.view.queue m q)) → Seen b m pt → Can b m pt (rule.goes_round b o m (rule.first_runnable o.kernel (o.view.queue m) (o.view.ring m)))
+can_turn b m o pt same boxes home drops h =
+    can_go_round b m o pt (rule.first_runnable o.kernel (o.view.queue m) (o.view.ring m)) same boxes
     (λ q e. runnable_is pt.kernel (o.view.queue m) m (o.view.ring m) q home (ap (λ (s : OneKernel). rule.first_runnable s (o.view.queue m) (o.view.ring m)) (sym same) ∙ e)) drops h

@@ -17,7 +17,7 @@ use Rattle.dm_rule.specs.declared.line.Line.{Line}
 use Rattle.dm_rule.specs.declared.line.Line.TheVariants as line
 use Rattle.dm_rule.specs.declared.line.Load.{Load}
 use Rattle.dm_rule.specs.declared.line.Load.TheVariants as load
-use Rattle.dm_rule.specs.Point.{Point, label_of, kernel_after, after_line, after, moved}
+use Rattle.dm_rule.specs.Point.{Point, labels, with_label, label_of, kernel_after, after_line, after, moved}
 use Rattle.dm_rule.specs.Parts.{Part, Says, Routes, Transmits, Spelled, lines_of, puts, goes_out, packet_line, behind, spelled}
 use Rattle.dm_rule.specs.Addresses.{Receiver}
 use Rattle.dm_rule.specs.Rule as rule
@@ -35,35 +35,47 @@ use Rattle.dm_rulelaws.proofs.OrderMoves.{Last}
 use Rattle.dm_rulelaws.proofs.OrderPuts.{thin_pair, ord_put}
 use Rattle.dm_rulelaws.proofs.OrderTakes.{ord_taken}
 
+-- the labels that parts say
+abbrev pub part_says : Part → List Label → List Label
+part_says (Says l) ls = with_label (label_of l) ls
+part_says (Routes i) ls = ls
+part_says (Transmits a c l) ls = ls
+
+abbrev pub said : List Part → List Label
+said [] = []
+said (p ∷ ps) = part_says p (said ps)
+
 -- the parts can be said
 pub record Does (b : Boot) (m : ℕ) (pt : Point) (ps : List Part) : Type 0 where
   pub w : Spelled
   pub is : spelled pt ps ≡ Some w
   pub seen : Seen b m w.point
   pub order : (k : Which) → Ord k pt.kernel pt.view → Ord k w.point.kernel w.point.view
+  pub says : labels w.lines ≡ said ps
 
 pub does_nothing : (b : Boot) (m : ℕ) (pt : Point) → Seen b m pt → Does b m pt []
-does_nothing b m pt h = record { w = record { lines = []; point = pt }; is = refl; seen = h; order = λ k o. o }
+does_nothing b m pt h = record { w = record { lines = []; point = pt }; is = refl; seen = h; order = λ k o. o; says = refl }
 
 -- lines, and then parts
-pub does_lines : (b : Boot) (m : ℕ) (pt q : Point) (p : Part) (ls : List Line) (ps : List Part) → lines_of pt p ≡ Some ls → after pt ls ≡ Some q → ((k : Which) → Ord k pt.kernel pt.view → Ord k q.kernel q.view) → Does b m q ps → Does b m pt (p ∷ ps)
-does_lines b m pt q p ls ps lines comes keeps d = record {
+pub does_lines : (b : Boot) (m : ℕ) (pt q : Point) (p : Part) (ls : List Line) (ps : List Part) → lines_of pt p ≡ Some ls → after pt ls ≡ Some q → ((k : Which) → Ord k pt.kernel pt.view → Ord k q.kernel q.view) → ((zs : List Line) → labels (ls ++ zs) ≡ part_says p (labels zs)) → Does b m q ps → Does b m pt (p ∷ ps)
+does_lines b m pt q p ls ps lines comes keeps tells d = record {
   w = behind ls d.w;
   is = ap (λ (o : Option (List Line)). bind o (λ (xs : List Line). bind (after pt xs) (λ (n : Point). bind (spelled n ps) (λ (z : Spelled). Some (behind xs z))))) lines
       ∙ ap (λ (o : Option Point). bind o (λ (n : Point). bind (spelled n ps) (λ (z : Spelled). Some (behind ls z)))) comes
       ∙ ap (λ (o : Option Spelled). bind o (λ (z : Spelled). Some (behind ls z))) d.is;
   seen = d.seen;
   order = λ k o. d.order k (keeps k o);
+  says = tells d.w.lines ∙ ap (part_says p) d.says;
 }
 
 after_one : (pt : Point) (l : Line) (s : OneKernel) → kernel_after pt.kernel (label_of l) ≡ Some s → after pt (l ∷ []) ≡ Some (moved pt l s)
 after_one pt l s e = ap (λ (o : Option OneKernel). bind (bind o (λ (s : OneKernel). Some (moved pt l s))) (λ (n : Point). after n [])) e
 
 pub does_label : (b : Boot) (m : ℕ) (pt : Point) (l : Label) (t : OneKernel) (ps : List Part) → kernel.step pt.kernel l ≡ Some t → Seen b m pt → Does b m (moved pt (line.Label l) t) ps → Does b m pt (rule.says l ∷ ps)
-does_label b m pt l t ps is h d = does_lines b m pt (moved pt (line.Label l) t) (rule.says l) (line.Label l ∷ []) ps refl (after_one pt (line.Label l) t is) (λ k o. ord_label k b m pt l t h is o) d
+does_label b m pt l t ps is h d = does_lines b m pt (moved pt (line.Label l) t) (rule.says l) (line.Label l ∷ []) ps refl (after_one pt (line.Label l) t is) (λ k o. ord_label k b m pt l t h is o) (λ zs. refl) d
 
 pub does_line : (b : Boot) (m : ℕ) (pt : Point) (l : Line) (ps : List Part) → kernel_after pt.kernel (label_of l) ≡ Some pt.kernel → ((k : Which) → Ord k pt.kernel pt.view → Ord k pt.kernel (view.view_after pt.view l)) → Does b m (moved pt l pt.kernel) ps → Does b m pt (Says l ∷ ps)
-does_line b m pt l ps is keeps d = does_lines b m pt (moved pt l pt.kernel) (Says l) (l ∷ []) ps refl (after_one pt l pt.kernel is) keeps d
+does_line b m pt l ps is keeps d = does_lines b m pt (moved pt l pt.kernel) (Says l) (l ∷ []) ps refl (after_one pt l pt.kernel is) keeps (λ zs. refl) d
 
 -- a packet
 seen_packet : (b : Boot) (m : ℕ) (pt : Point) (a c k : ℕ) (l : Load) → Seen b m pt → Seen b m (moved pt (line.Packet a c k l) pt.kernel)
@@ -94,13 +106,21 @@ routed_if b m pt true d k a e l h = record { q = pt; is = refl; seen = h; order 
 routed_if b m pt false false k a e l h = record { q = pt; is = refl; seen = h; order = λ z o. o }
 routed_if b m pt false true k a e l h = record { q = moved pt (line.Packet a e k l) pt.kernel; is = refl; seen = seen_packet b m pt a e k l h; order = λ z o. ord_packet z pt.kernel pt.view a e k l o }
 
+puts_say_if : (c d : Bool) (a e k : ℕ) (l : Load) (zs : List Line) → labels ((if c then [] else if d then line.Packet a e k l ∷ [] else []) ++ zs) ≡ labels zs
+puts_say_if true d a e k l zs = refl
+puts_say_if false true a e k l zs = refl
+puts_say_if false false a e k l zs = refl
+
+puts_say : (v : View) (c : ℕ) (id : MsgId) (x : PlainMessage) (zs : List Line) → labels (puts v c id x ++ zs) ≡ labels zs
+puts_say v c id x zs = puts_say_if (v.acting == c) (goes_out (v.pair v.acting c)) v.acting c (length (v.pair v.acting c).wire) (load.Data (length (v.pair v.acting c).ids)) zs
+
 pub does_route : (b : Boot) (m : ℕ) (pt : Point) (id : MsgId) (x : PlainMessage) → pt.kernel.bag id ≡ Some x → (is_user x.what ≡ true → Last pt.kernel pt.view id) → Seen b m pt → Does b m pt (Routes id ∷ [])
 does_route b m pt id x there last h =
     let c = (pt.addresses (Receiver id)).at in
     let put = line.Put pt.view.acting c id (plain_kind x.what) x.to in
     let mid = moved pt put pt.kernel in
     let rest = routed_if b m mid (pt.view.acting == c) (goes_out (pt.view.pair pt.view.acting c)) (length (pt.view.pair pt.view.acting c).wire) pt.view.acting c (load.Data (length (pt.view.pair pt.view.acting c).ids)) (seen_put b m pt c id x there h) in
-    does_lines b m pt rest.q (Routes id) (puts pt.view c id x) [] (ap (λ (o : Option PlainMessage). bind o (λ (v : PlainMessage). Some (puts pt.view c id v))) there) rest.is (λ k o. rest.order k (ord_put k pt.kernel pt.view c id x there (counted_in b m pt h) last o)) (does_nothing b m rest.q rest.seen)
+    does_lines b m pt rest.q (Routes id) (puts pt.view c id x) [] (ap (λ (o : Option PlainMessage). bind o (λ (v : PlainMessage). Some (puts pt.view c id v))) there) rest.is (λ k o. rest.order k (ord_put k pt.kernel pt.view c id x there (counted_in b m pt h) last o)) (λ zs. puts_say pt.view c id x zs) (does_nothing b m rest.q rest.seen)
 
 -- lines of deliveries and ticks
 taken_quiet : (v : View) (c : ℕ) (o : Option MsgId) → Quieter v (view.taken_id v c o)
@@ -155,7 +175,7 @@ does_net b m (Says l ∷ ps) pt is h =
 does_net b m (Routes i ∷ ps) pt is h = absurd is.0
 does_net b m (Transmits a c l ∷ ps) pt is h =
     let p = packet_line pt.view a c l in
-    does_lines b m pt (moved pt p pt.kernel) (Transmits a c l) (p ∷ []) ps refl refl (λ k o. ord_packet k pt.kernel pt.view a c (length (pt.view.pair a c).wire) l o)
+    does_lines b m pt (moved pt p pt.kernel) (Transmits a c l) (p ∷ []) ps refl refl (λ k o. ord_packet k pt.kernel pt.view a c (length (pt.view.pair a c).wire) l o) (λ zs. refl)
     (does_net b m ps (moved pt p pt.kernel) is.1 (seen_packet b m pt a c (length (pt.view.pair a c).wire) l h))
 
 -- the head of a group
@@ -218,6 +238,11 @@ pub record Goes (b : Boot) (pt : Point) (d : Step) : Type 0 where
   pub is : group_of b pt d ≡ Some w
   pub seen : Seen b (actor d) w.point
   pub order : (k : Which) → Ord k pt.kernel pt.view → Ord k w.point.kernel w.point.view
+  pub parts : List Part
+  pub behind_head : Spelled
+  pub spells : spelled (moved pt (line.Head d) pt.kernel) parts ≡ Some behind_head
+  pub point : w.point ≡ behind_head.point
+  pub says : labels w.lines ≡ said parts
 
 pub goes : (b : Boot) (pt : Point) (d : Step) (ps : List Part) → outcome b pt d ≡ Some ps → Does b (actor d) (moved pt (line.Head d) pt.kernel) ps → Goes b pt d
 goes b pt d ps is does = record {
@@ -226,4 +251,9 @@ goes b pt d ps is does = record {
       ∙ ap (λ (o : Option Spelled). bind o (λ (w : Spelled). Some (headed (line.Head d) w))) does.is;
   seen = does.seen;
   order = λ k o. does.order k (ord_head k pt.kernel pt.view d o);
+  parts = ps;
+  behind_head = does.w;
+  spells = does.is;
+  point = refl;
+  says = does.says;
 }
