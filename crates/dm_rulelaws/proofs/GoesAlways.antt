@@ -33,7 +33,13 @@ use Rattle.dm_rule.proofs.States.{State}
 use Rattle.dm_rulelaws.specs.Laws.{MovesNothing, GoesOnAlways, KnownAlways}
 use Rattle.dm_rulelaws.proofs.FitsRises.{both}
 use Rattle.dm_rulelaws.proofs.SeenPoint.{Seen}
-use Rattle.dm_rulelaws.proofs.SeenParts.{Goes, goes, does_net, seen_turn, seen_tick, seen_deliver}
+use Rattle.dm_onekernel.specs.declared.label.Label.{Label}
+use Rattle.dm_rule.specs.declared.line.Line.{Line}
+use Rattle.dm_rule.specs.Parts.{Part, Routes, Transmits}
+use Rattle.dm_rule.specs.Point.{with_label, label_of}
+use Rattle.dm_rule.proofs.Groups.{IsNetLine, IsNet}
+use Rattle.dm_rulelaws.proofs.GoesTurns.{no_receive, Shape, Quiet}
+use Rattle.dm_rulelaws.proofs.SeenParts.{said, Goes, goes, does_net, seen_turn, seen_tick, seen_deliver}
 use Rattle.dm_rulelaws.proofs.SeenStart.{seen_start}
 use Rattle.dm_rulelaws.proofs.GoesTurns.{Can, can_turn, queue_drops}
 use Rattle.dm_rulelaws.proofs.GoesFront.{begun, Front}
@@ -98,22 +104,64 @@ can_turn_by : (b : Boot) (m : ℕ) (o : Point) (box : List MsgId) → o.view.inb
 can_turn_by b m o [] is h = can_turn b m o (begun o m) refl (λ q. refl) (h.home.rings.ring m) (λ q. queue_drops b m h.acting o q h.state.stands.kept h.seen) (seen_turn b h.acting m o h.seen)
 can_turn_by b m o (i ∷ is) box h = let (x, f) = front b m o i is box h in can_handle b m o i x f
 
+-- lines of deliveries and ticks receive nothing
+net_line_quiet : (l : Line) (ls : List Label) → IsNetLine l → no_receive ls ≡ true → no_receive (with_label (label_of l) ls) ≡ true
+net_line_quiet (line.Taken a c n) ls is h = h
+net_line_quiet (line.Old a c n) ls is h = h
+net_line_quiet (line.Early a c n) ls is h = h
+net_line_quiet (line.Acked a c n) ls is h = h
+net_line_quiet line.Nothing ls is h = h
+net_line_quiet (line.Resent n c) ls is h = h
+net_line_quiet (line.Head d) ls is h = absurd is
+net_line_quiet (line.Idle n) ls is h = absurd is
+net_line_quiet (line.Label l) ls is h = absurd is
+net_line_quiet (line.Put a c i k q) ls is h = absurd is
+net_line_quiet (line.Packet a c k l) ls is h = absurd is
+net_line_quiet (line.Queued i) ls is h = absurd is
+net_line_quiet (line.Held i) ls is h = absurd is
+net_line_quiet (line.Forwarded i n) ls is h = absurd is
+net_line_quiet (line.Updated i n) ls is h = absurd is
+net_line_quiet (line.Migration s p) ls is h = absurd is
+net_line_quiet (line.SentOn p n) ls is h = absurd is
+net_line_quiet (line.Lacks p f c) ls is h = absurd is
+net_line_quiet (line.Stays p) ls is h = absurd is
+net_line_quiet (line.Here i) ls is h = absurd is
+net_line_quiet (line.NoMove i) ls is h = absurd is
+net_line_quiet (line.Proto i) ls is h = absurd is
+net_line_quiet (line.NoChild p) ls is h = absurd is
+net_line_quiet (line.Pinned p) ls is h = absurd is
+net_line_quiet (line.End z) ls is h = absurd is
+
+net_quiet : (ps : List Part) → IsNet ps → no_receive (said ps) ≡ true
+net_quiet [] is = refl
+net_quiet (Says l ∷ ps) is = net_line_quiet l (said ps) is.0 (net_quiet ps is.1)
+net_quiet (Routes i ∷ ps) is = absurd is.0
+net_quiet (Transmits a c l ∷ ps) is = net_quiet ps is.1
+
+-- a group, and whether it receives
+pub record Group (b : Boot) (pt : Point) (d : Step) : Type 0 where
+  pub goes : Goes b pt d
+  pub shape : Shape (view.actor d) (moved pt (line.Head d) pt.kernel) goes.parts
+
 -- each directive has its group
-pub run_goes : (b : Boot) (pt : Point) (d : Step) → MovesNothing d → Run b pt → Goes b pt d
-run_goes b pt (directive.Turn m) still h =
+pub run_group : (b : Boot) (pt : Point) (d : Step) → MovesNothing d → Run b pt → Group b pt d
+run_group b pt (directive.Turn m) still h =
     let k = can_turn_by b m pt (pt.view.inbox m) refl h in
-    goes b pt (directive.Turn m) k.ps k.is k.does
-run_goes b pt (directive.Tick m) still h =
+    record { goes = goes b pt (directive.Turn m) k.ps k.is k.does; shape = k.shape }
+run_group b pt (directive.Tick m) still h =
     let ps = Says (line.Resent m (rule.outstanding pt.view m pt.kernel.machines)) ∷ rule.resends pt.view m pt.kernel.machines in
-    goes b pt (directive.Tick m) ps refl (does_net b m ps (moved pt (line.Head (directive.Tick m)) pt.kernel) (tt, resends_net pt.view m pt.kernel.machines) (seen_tick b h.acting m pt h.seen))
-run_goes b pt (directive.Deliver a c k) still h =
+    record { goes = goes b pt (directive.Tick m) ps refl (does_net b m ps (moved pt (line.Head (directive.Tick m)) pt.kernel) (tt, resends_net pt.view m pt.kernel.machines) (seen_tick b h.acting m pt h.seen)); shape = Quiet (net_quiet ps (tt, resends_net pt.view m pt.kernel.machines)) }
+run_group b pt (directive.Deliver a c k) still h =
     let there = slice_get (pt.view.pair a c).wire k in
     let ps = rule.arrives a c (pt.view.pair a c) (pt.view.pair c a) there in
-    goes b pt (directive.Deliver a c k) ps refl (does_net b c ps (moved pt (line.Head (directive.Deliver a c k)) pt.kernel) (arrives_net a c (pt.view.pair a c) (pt.view.pair c a) there) (seen_deliver b h.acting a c k pt h.seen))
-run_goes b pt (directive.Migrate p m) still h = absurd still
+    record { goes = goes b pt (directive.Deliver a c k) ps refl (does_net b c ps (moved pt (line.Head (directive.Deliver a c k)) pt.kernel) (arrives_net a c (pt.view.pair a c) (pt.view.pair c a) there) (seen_deliver b h.acting a c k pt h.seen)); shape = Quiet (net_quiet ps (arrives_net a c (pt.view.pair a c) (pt.view.pair c a) there)) }
+run_group b pt (directive.Migrate p m) still h = absurd still
+
+pub run_goes : (b : Boot) (pt : Point) (d : Step) → MovesNothing d → Run b pt → Goes b pt d
+run_goes b pt d still h = (run_group b pt d still h).goes
 
 -- a group that there is moves nothing
-moves_nothing : (b : Boot) (pt : Point) (d : Step) (w : Spelled) → group_of b pt d ≡ Some w → MovesNothing d
+pub moves_nothing : (b : Boot) (pt : Point) (d : Step) (w : Spelled) → group_of b pt d ≡ Some w → MovesNothing d
 moves_nothing b pt (directive.Turn m) w e = tt
 moves_nothing b pt (directive.Tick m) w e = tt
 moves_nothing b pt (directive.Deliver a c k) w e = tt

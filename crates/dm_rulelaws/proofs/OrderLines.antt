@@ -149,7 +149,7 @@ counts_of true c n k l k' l' x y p q g h = grind (arith, nat_tests)
 counts_of false true n k l k' l' x y p q g h = grind (arith, nat_tests)
 counts_of false false n k l k' l' x y p q g h = life_counts n x y g h
 
-counts_grown : (s t : OneKernel) → Grown s t → (i : MsgId) → counts s i ≡ true → counts t i ≡ true
+pub counts_grown : (s t : OneKernel) → Grown s t → (i : MsgId) → counts s i ≡ true → counts t i ≡ true
 counts_grown s t g i h =
     counts_of (pid_eq i.from switchboard) (pid_eq i.from manager) i.n s.switchboard.sent s.manager.sent t.switchboard.sent t.manager.sent (s.processes i.from) (t.processes i.from) g.switchboard g.manager (g.lives i.from) h
 
@@ -197,7 +197,7 @@ served_thin q v i =
     let box : w.inbox q.to.home ≡ (handled v i).inbox q.to.home = k.0 (Inbox q.to.home) in
     thin_same q v w (k.0 (Queue q.to.home q.to)) (subst (λ xs. Thins xs (v.inbox q.to.home)) (sym box) (handled_thin v i q.to.home)) (λ a. k.0 (Untaken a q.to.home)) (λ j. k.1 j)
 
-thin_label : (q : Which) (v : View) (l : Label) → ThinFor q v (after_label v l)
+pub thin_label : (q : Which) (v : View) (l : Label) → ThinFor q v (after_label v l)
 thin_label q v (label.Ran p k) = thin_same q v (after_label v (label.Ran p k)) refl (box_same v q.to.home) (λ a. refl) (λ j. refl)
 thin_label q v (label.Call p n c) = thin_same q v v refl (box_same v q.to.home) (λ a. refl) (λ j. refl)
 thin_label q v (label.Send p id) = thin_same q v v refl (box_same v q.to.home) (λ a. refl) (λ j. refl)
@@ -218,7 +218,7 @@ thin_label q v (label.Took id) = thin_handled q v id
 thin_label q v (label.Created id p) = thin_same q v (after_label v (label.Created id p)) refl (handled_thin v id q.to.home) (λ a. refl) (λ j. refl)
 thin_label q v (label.NoSpace id f b) = thin_handled q v id
 
-told_entered : (e : ℕ) (o : Option Told) → (e ≡ 0 → o ≡ None) → is_some o ≡ true → 1 ≤ e
+pub told_entered : (e : ℕ) (o : Option Told) → (e ≡ 0 → o ≡ None) → is_some o ≡ true → 1 ≤ e
 told_entered zero o f h = absurd (false≢true (sym (ap is_some (f refl)) ∙ h))
 told_entered (suc e) o f h = omega arith
 

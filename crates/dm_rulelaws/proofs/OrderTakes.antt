@@ -121,7 +121,7 @@ ord_taken q s v a c n h = elim (cases_Bool (c == q.to.home)) [
 ]
 
 -- queued
-queue_on : (f : ℕ → Pid → List MsgId) (a m : ℕ) (p r : Pid) (xs : List MsgId) → a ≡ m → pid_eq p r ≡ true → at_record f a p xs m r ≡ xs
+pub queue_on : (f : ℕ → Pid → List MsgId) (a m : ℕ) (p r : Pid) (xs : List MsgId) → a ≡ m → pid_eq p r ≡ true → at_record f a p xs m r ≡ xs
 queue_on f a m p r xs e same = let k : (a == m) ≡ true = grind (arith, nat_tests) in ap (λ (c : Bool). if c && pid_eq p r then xs else f m r) k ∙ ap (λ (c : Bool). if c then xs else f m r) same
 
 queue_off : (f : ℕ → Pid → List MsgId) (a m : ℕ) (p r : Pid) (xs : List MsgId) → pid_eq p r ≡ false → at_record f a p xs m r ≡ f m r

@@ -244,7 +244,7 @@ pub record Goes (b : Boot) (pt : Point) (d : Step) : Type 0 where
   pub point : w.point ≡ behind_head.point
   pub says : labels w.lines ≡ said parts
 
-pub goes : (b : Boot) (pt : Point) (d : Step) (ps : List Part) → outcome b pt d ≡ Some ps → Does b (actor d) (moved pt (line.Head d) pt.kernel) ps → Goes b pt d
+abbrev pub goes : (b : Boot) (pt : Point) (d : Step) (ps : List Part) → outcome b pt d ≡ Some ps → Does b (actor d) (moved pt (line.Head d) pt.kernel) ps → Goes b pt d
 goes b pt d ps is does = record {
   w = headed (line.Head d) does.w;
   is = ap (λ (o : Option (List Part)). bind o (λ (xs : List Part). bind (after_line pt (line.Head d)) (λ (begun : Point). bind (spelled begun xs) (λ (w : Spelled). Some (headed (line.Head d) w))))) is
