@@ -23,3 +23,5 @@ pub mod GoesProcess
 pub mod GoesServers
 pub mod GoesAlways
 pub mod Decided
+pub mod OrderFinds
+pub mod OrderAlways

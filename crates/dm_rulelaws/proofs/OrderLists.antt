@@ -15,13 +15,13 @@ ordered g from [] = true
 ordered g from (i ∷ is) = if g i then nat_le from i.n && ordered g (i.n + 1) is else ordered g from is
 
 -- the two ways of a first message
-first_one : (g : MsgId → Bool) (from : ℕ) (i : MsgId) (is : List MsgId) → g i ≡ true → ordered g from (i ∷ is) ≡ true → (from ≤ i.n) × (ordered g (i.n + 1) is ≡ true)
+pub first_one : (g : MsgId → Bool) (from : ℕ) (i : MsgId) (is : List MsgId) → g i ≡ true → ordered g from (i ∷ is) ≡ true → (from ≤ i.n) × (ordered g (i.n + 1) is ≡ true)
 first_one g from i is e h =
     let k = both (nat_le from i.n) (ordered g (i.n + 1) is) (sym (ap (λ (c : Bool). if c then nat_le from i.n && ordered g (i.n + 1) is else ordered g from is) e) ∙ h) in
     let f = k.0 in
     ((let z : from ≤ i.n = grind (arith, nat_tests) in z), k.1)
 
-first_not : (g : MsgId → Bool) (from : ℕ) (i : MsgId) (is : List MsgId) → g i ≡ false → ordered g from (i ∷ is) ≡ true → ordered g from is ≡ true
+pub first_not : (g : MsgId → Bool) (from : ℕ) (i : MsgId) (is : List MsgId) → g i ≡ false → ordered g from (i ∷ is) ≡ true → ordered g from is ≡ true
 first_not g from i is e h = sym (ap (λ (c : Bool). if c then nat_le from i.n && ordered g (i.n + 1) is else ordered g from is) e) ∙ h
 
 put_one : (g : MsgId → Bool) (from : ℕ) (i : MsgId) (is : List MsgId) → g i ≡ true → from ≤ i.n → ordered g (i.n + 1) is ≡ true → ordered g from (i ∷ is) ≡ true

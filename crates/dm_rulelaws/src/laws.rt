@@ -1,4 +1,5 @@
 //! What holds wherever the rule leads, whoever ran by it.
+ghost use Rattle.dm_rulelaws.specs.Order.{ReceivesInOrder};
 ghost use Rattle.dm_rulelaws.specs.Laws.{FitsAlways, GoesOnAlways, KnownAlways, RuleDecides, ShorterBegins};
 
 /// Wherever the rule leads from a boot file, each directive but a migration has its group.
@@ -28,4 +29,10 @@ pub fn rule_decides()
 /// goes on from there.
 pub fn shorter_begins()
     ensures { ShorterBegins }
+{}
+
+/// Wherever the rule leads from a boot file, and nothing moves, of the messages that one process or server sent, those that a
+/// process receives on one channel are received in the order in which they were sent.
+pub fn receives_in_order()
+    ensures { ReceivesInOrder }
 {}
