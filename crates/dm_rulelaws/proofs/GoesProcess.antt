@@ -53,10 +53,9 @@ use Rattle.dm_rulelaws.proofs.SeenPoint.{is_user, seen_queued}
 use Rattle.dm_rulelaws.proofs.SeenParts.{does_label, does_line}
 use Rattle.dm_laws.proofs.Services.{LandsSo, lands-is}
 use Rattle.dm_rulelaws.proofs.SeenParts.{said}
-use Rattle.dm_rulelaws.proofs.GoesTurns.{no_receive, Shape, Quiet, drops_quiet}
+use Rattle.dm_rulelaws.proofs.GoesTurns.{no_receive, Quiet, drops_quiet}
 use Rattle.dm_rulelaws.proofs.OrderLines.{Which, Ord}
 use Rattle.dm_rulelaws.proofs.OrderTakes.{ord_queued}
-use Rattle.dm_rulelaws.proofs.OrderMoves.{Last}
 use Rattle.dm_rulelaws.proofs.SeenLabels.{seen_gone, seen_dropped, seen_served, handled_known, killed_known}
 use Rattle.dm_rulelaws.proofs.GoesTurns.{Can, droppable_on, does_drops, dropped_is}
 use Rattle.dm_rulelaws.proofs.GoesFront.{begun, Front, name_of, served_is, ForOthers, ForWhom, ForProcess, ForOther, for_whom, is_manager, answer_there, sent_there}

@@ -195,21 +195,21 @@ can_take b m o i x u k step images same sends f =
 board_sends : (m : ℕ) (o : Point) (i : MsgId) (x : PlainMessage) (k : board.Took) → ServerSends switchboard o.kernel.switchboard.sent k.answer k.switchboard.sent → m ≡ 0 → Sends m o (record (without_message o.kernel i) { switchboard = k.switchboard }) k.answer
 board_sends m o i x k sends at = record {
   fresh = λ y e. (let w = subst (λ (v : Option PlainMessage). ServerSends switchboard o.kernel.switchboard.sent v k.switchboard.sent) e sends in let (name, count, memory, piece) = w in
-  ap (counts o.kernel) name ∙ (let z : nat_lt o.kernel.switchboard.sent o.kernel.switchboard.sent ≡ false = grind (arith, nat_tests) in z));
+      ap (counts o.kernel) name ∙ (let z : nat_lt o.kernel.switchboard.sent o.kernel.switchboard.sent ≡ false = grind (arith, nat_tests) in z));
   last = λ y e. (let w = subst (λ (v : Option PlainMessage). ServerSends switchboard o.kernel.switchboard.sent v k.switchboard.sent) e sends in let (name, count, memory, piece) = w in
-  ap (λ (j : MsgId). counts (record (without_message o.kernel i) { switchboard = k.switchboard }) (next_id j)) name ∙ (let z : nat_lt (o.kernel.switchboard.sent + 1) k.switchboard.sent ≡ false = grind (arith, nat_tests) in z));
+      ap (λ (j : MsgId). counts (record (without_message o.kernel i) { switchboard = k.switchboard }) (next_id j)) name ∙ (let z : nat_lt (o.kernel.switchboard.sent + 1) k.switchboard.sent ≡ false = grind (arith, nat_tests) in z));
   home = λ y e. (let w = subst (λ (v : Option PlainMessage). ServerSends switchboard o.kernel.switchboard.sent v k.switchboard.sent) e sends in let (name, count, memory, piece) = w in
-  ap (λ (j : MsgId). j.from.home) name ∙ sym at);
+      ap (λ (j : MsgId). j.from.home) name ∙ sym at);
 }
 
 manager_sends : (m : ℕ) (o : Point) (i : MsgId) (x : PlainMessage) (k : manage.Took) → ServerSends manager o.kernel.manager.sent k.message k.manager.sent → m ≡ 0 → Sends m o (record (without_message o.kernel i) { manager = k.manager }) k.message
 manager_sends m o i x k sends at = record {
   fresh = λ y e. (let w = subst (λ (v : Option PlainMessage). ServerSends manager o.kernel.manager.sent v k.manager.sent) e sends in let (name, count, memory, piece) = w in
-  ap (counts o.kernel) name ∙ (let z : nat_lt o.kernel.manager.sent o.kernel.manager.sent ≡ false = grind (arith, nat_tests) in z));
+      ap (counts o.kernel) name ∙ (let z : nat_lt o.kernel.manager.sent o.kernel.manager.sent ≡ false = grind (arith, nat_tests) in z));
   last = λ y e. (let w = subst (λ (v : Option PlainMessage). ServerSends manager o.kernel.manager.sent v k.manager.sent) e sends in let (name, count, memory, piece) = w in
-  ap (λ (j : MsgId). counts (record (without_message o.kernel i) { manager = k.manager }) (next_id j)) name ∙ (let z : nat_lt (o.kernel.manager.sent + 1) k.manager.sent ≡ false = grind (arith, nat_tests) in z));
+      ap (λ (j : MsgId). counts (record (without_message o.kernel i) { manager = k.manager }) (next_id j)) name ∙ (let z : nat_lt (o.kernel.manager.sent + 1) k.manager.sent ≡ false = grind (arith, nat_tests) in z));
   home = λ y e. (let w = subst (λ (v : Option PlainMessage). ServerSends manager o.kernel.manager.sent v k.manager.sent) e sends in let (name, count, memory, piece) = w in
-  ap (λ (j : MsgId). j.from.home) name ∙ sym at);
+      ap (λ (j : MsgId). j.from.home) name ∙ sym at);
 }
 
 at_server : (x : PlainMessage) (m : ℕ) → pid_eq x.to switchboard ≡ true → x.to.home ≡ m → m ≡ 0

@@ -1,6 +1,6 @@
 -- Receptions in a run, and what is behind them.
-use Rattle.std.proofs.Common.{◌≡◌, ℕ, zero, suc, ◌+◌, ◌≤◌, ◌<◌, ◌==◌, ◌&&◌, Bool, true, false, not, List, [], ◌∷◌, ◌++◌, refl, ap, ◌∙◌, sym, subst, is_some, nat_lt, nat_le, inl, inr, arith}
-use Rattle.std.specs.Prelude.{⊤, if◌then◌else◌}
+use Rattle.std.proofs.Common.{◌≡◌, ℕ, suc, ◌+◌, ◌≤◌, ◌==◌, ◌&&◌, Bool, true, false, List, [], ◌∷◌, ◌++◌, refl, ap, ◌∙◌, sym, subst, nat_lt, inl, inr, arith}
+use Rattle.std.specs.Prelude.{if◌then◌else◌}
 use Rattle.std.specs.declared.option.Option.{Option}
 use Rattle.std.specs.declared.option.Option.TheVariants.{None, Some}
 use Rattle.std.proofs.lemmas.Bool.{cases_Bool, false≢true}
@@ -15,10 +15,9 @@ use Rattle.dm_process.specs.Mail.{on_mask}
 use Rattle.dm_onekernel.specs.declared.boot.Boot.{Boot}
 use Rattle.dm_onekernel.specs.declared.label.Label.{Label}
 use Rattle.dm_onekernel.specs.declared.label.Label.TheVariants as label
-use Rattle.dm_onekernel.specs.Boot.{IsValid, switchboard, manager}
+use Rattle.dm_onekernel.specs.Boot.{switchboard, manager}
 use Rattle.dm_onekernel.specs.Kernel.{Life, Alive, Ended, OneKernel}
 use Rattle.dm_onekernel.specs.Options.{bind}
-use Rattle.dm_onekernel.specs.Start.{start}
 use Rattle.dm_onekernel.specs.Step as kernel
 use Rattle.dm_onekernel.specs.Step.{replay}
 use Rattle.dm_laws.specs.Laws.{in_bag}
@@ -26,11 +25,10 @@ use Rattle.dm_laws.proofs.Entered.{counts, is_counted}
 use Rattle.dm_laws.proofs.Equal.{pid_eq-same, id_eq-is, id_eq-same}
 use Rattle.dm_laws.proofs.Runs.{after_step}
 use Rattle.dm_schedule.specs.declared.Step.{Step}
-use Rattle.dm_schedule.specs.declared.Step.TheVariants as directive
 use Rattle.dm_rule.specs.declared.line.Line.{Line}
 use Rattle.dm_rule.specs.declared.line.Line.TheVariants as line
-use Rattle.dm_rule.specs.Parts.{Part, Says, Spelled, lines_of, behind, spelled}
-use Rattle.dm_rule.specs.Point.{Point, first_point, labels, after, after_line, moved}
+use Rattle.dm_rule.specs.Parts.{Spelled, behind, spelled}
+use Rattle.dm_rule.specs.Point.{Point, labels, after, moved}
 use Rattle.dm_rule.specs.Rule as rule
 use Rattle.dm_rule.specs.Rule.{group_of}
 use Rattle.dm_rule.specs.Sets.{without_id}
@@ -38,16 +36,16 @@ use Rattle.dm_rule.specs.Spots.{times, untaken}
 use Rattle.dm_rule.specs.View.{View, first_view, after_label}
 use Rattle.dm_rule.specs.View as view
 use Rattle.dm_rulelaws.specs.Fits.{Each}
-use Rattle.dm_rulelaws.specs.Order.{LeadsBy, channel_in, StandsOn, ReceivesInOrder}
+use Rattle.dm_rulelaws.specs.Order.{LeadsBy, channel_in}
 use Rattle.dm_rulelaws.proofs.FitsRises.{both, two}
-use Rattle.dm_rulelaws.proofs.RunLabels.{labels-append, replay-append, group_replay}
-use Rattle.dm_rulelaws.proofs.SeenPoint.{Seen, is_user, was_there}
-use Rattle.dm_rulelaws.proofs.SeenParts.{Goes, said, ord_head}
-use Rattle.dm_rulelaws.proofs.GoesTurns.{Reception, Shape, Quiet, Takes, not_receive, no_receive, first_is}
-use Rattle.dm_rulelaws.proofs.GoesAlways.{Run, run_start, run_group, run_on, moves_nothing}
-use Rattle.dm_rulelaws.proofs.OrderLists.{ordered, first_one, first_not, drop_one, lower, put_not, Each-both}
-use Rattle.dm_rulelaws.proofs.OrderLines.{Which, on_channel, is_mine, is_one, is_told, awaiting, AllTold, Ord, ord_view, ord_step, thin_label, told_entered, counts_grown}
-use Rattle.dm_rulelaws.proofs.OrderMoves.{One, one_is}
+use Rattle.dm_rulelaws.proofs.RunLabels.{replay-append}
+use Rattle.dm_rulelaws.proofs.SeenPoint.{Seen, was_there}
+use Rattle.dm_rulelaws.proofs.SeenParts.{Goes, ord_head}
+use Rattle.dm_rulelaws.proofs.GoesTurns.{Reception, not_receive, no_receive, first_is}
+use Rattle.dm_rulelaws.proofs.GoesAlways.{Run}
+use Rattle.dm_rulelaws.proofs.OrderLists.{ordered, first_one, first_not, drop_one, put_not}
+use Rattle.dm_rulelaws.proofs.OrderLines.{Which, on_channel, is_mine, is_one, is_told, Ord, ord_view, ord_step, thin_label, told_entered, counts_grown}
+use Rattle.dm_rulelaws.proofs.OrderMoves.{one_is}
 use Rattle.dm_rulelaws.proofs.OrderTakes.{queue_on}
 
 -- messages of one to another on a channel, from a number on

@@ -1,15 +1,14 @@
 -- Messages of one sender to one process on one channel stand in the order in which they were sent: each line keeps it.
-use Rattle.std.proofs.Common.{◌≡◌, ℕ, zero, suc, ◌+◌, ◌≤◌, ◌<◌, ◌==◌, ◌&&◌, Bool, true, false, not, filter, List, [], ◌∷◌, ◌++◌, drop, length, refl, ap, ◌∙◌, sym, subst, is_some, nat_lt, inl, inr, arith}
-use Rattle.std.specs.Prelude.{⊤, if◌then◌else◌, slice_get}
+use Rattle.std.proofs.Common.{◌≡◌, ℕ, zero, suc, ◌≤◌, ◌<◌, ◌==◌, ◌&&◌, Bool, true, false, not, List, [], ◌∷◌, ◌++◌, refl, ap, ◌∙◌, sym, subst, is_some, nat_lt, arith}
+use Rattle.std.specs.Prelude.{if◌then◌else◌}
 use Rattle.std.specs.declared.option.Option.{Option}
 use Rattle.std.specs.declared.option.Option.TheVariants.{None, Some}
-use Rattle.std.proofs.lemmas.Bool.{cases_Bool, false≢true}
+use Rattle.std.proofs.lemmas.Bool.{false≢true}
 use Rattle.std.proofs.lemmas.Bool.Decides.{nat_tests}
 use Rattle.dm_link.specs.declared.Pid.{Pid}
 use Rattle.dm_link.specs.Names.{pid_eq}
 use Rattle.dm_message.specs.declared.MsgId.{MsgId}
-use Rattle.dm_message.specs.declared.kind.MessageKind.{MessageKind}
-use Rattle.dm_message.specs.Ids.{id_eq, id_of}
+use Rattle.dm_message.specs.Ids.{id_of}
 use Rattle.dm_message.specs.Plain as what
 use Rattle.dm_message.specs.Plain.{PlainMessage, PlainWhat}
 use Rattle.dm_onekernel.specs.declared.boot.Boot.{Boot}
@@ -19,19 +18,18 @@ use Rattle.dm_onekernel.specs.Boot.{switchboard, manager}
 use Rattle.dm_onekernel.specs.Kernel.{Life, Alive, Ended, OneKernel}
 use Rattle.dm_onekernel.specs.Step as kernel
 use Rattle.dm_laws.proofs.Entered.{counts, is_counted}
-use Rattle.dm_laws.proofs.Equal.{pid_eq-is, pid_eq-same, id_eq-is, id_eq-same}
-use Rattle.dm_laws.proofs.Grown.{Grown, LifeGrows, AliveGrows}
+use Rattle.dm_laws.proofs.Grown.{Grown, LifeGrows}
 use Rattle.dm_laws.proofs.Runs.{after_step}
-use Rattle.dm_rule.specs.Sets.{at_machine, at_pair, at_record, at_id, without_id, without_front}
-use Rattle.dm_rule.specs.Spots.{untaken, Spot, Queue, Inbox, Untaken, ids_at}
+use Rattle.dm_rule.specs.Sets.{at_machine, at_record, without_id, without_front}
+use Rattle.dm_rule.specs.Spots.{untaken, Queue, Inbox, Untaken}
 use Rattle.dm_rule.specs.View.{View, Pair, Told, after_label, after_put, after_taken, handled}
 use Rattle.dm_rule.specs.View as view
 use Rattle.dm_rule.specs.Point.{Point}
 use Rattle.dm_rule.proofs.Turns.{served_keeps}
 use Rattle.dm_rulelaws.specs.Fits.{Each}
-use Rattle.dm_rulelaws.proofs.FitsRises.{both, two, Each-on}
+use Rattle.dm_rulelaws.proofs.FitsRises.{Each-on}
 use Rattle.dm_rulelaws.proofs.SeenPoint.{is_user, Seen, was_there, queue_at}
-use Rattle.dm_rulelaws.proofs.OrderLists.{ordered, lower, drop_one, context, fewer, put_not, add_last, Each-both, Thins, thins_same, thins_front, thins_without, drop_end}
+use Rattle.dm_rulelaws.proofs.OrderLists.{ordered, context, fewer, Each-both, Thins, thins_same, thins_front, thins_without}
 
 -- messages from one to another on a channel, from a number on
 pub record Which : Type 0 where

@@ -1,7 +1,7 @@
 -- Lists whose messages of one kind ascend.
-use Rattle.std.proofs.Common.{◌≡◌, ℕ, zero, suc, ◌+◌, ◌≤◌, ◌<◌, ◌==◌, ◌&&◌, Bool, true, false, List, [], ◌∷◌, ◌++◌, drop, refl, ap, ◌∙◌, sym, subst, nat_le, ◌⊎◌, inl, inr, arith}
-use Rattle.std.specs.Prelude.{⊤, if◌then◌else◌}
-use Rattle.std.proofs.lemmas.Bool.{cases_Bool, false≢true}
+use Rattle.std.proofs.Common.{◌≡◌, ℕ, zero, suc, ◌+◌, ◌≤◌, ◌<◌, ◌&&◌, Bool, true, false, List, [], ◌∷◌, ◌++◌, drop, refl, ap, ◌∙◌, sym, subst, nat_le, ◌⊎◌, inl, inr, arith}
+use Rattle.std.specs.Prelude.{if◌then◌else◌}
+use Rattle.std.proofs.lemmas.Bool.{cases_Bool}
 use Rattle.std.proofs.lemmas.Bool.Decides.{nat_tests}
 use Rattle.dm_message.specs.declared.MsgId.{MsgId}
 use Rattle.dm_message.specs.Ids.{id_eq}
@@ -98,6 +98,7 @@ thins_front i (x ∷ xs) = record {
     picked_order : (c : Bool) (g : MsgId → Bool) (from : ℕ) (rest : List MsgId) → ordered g from (x ∷ xs ++ rest) ≡ true → ordered g from ((if c then xs else x ∷ xs) ++ rest) ≡ true
     picked_order true g from rest h = drop_one g from x (xs ++ rest) h
     picked_order false g from rest h = h
+
     picked_told : (c : Bool) (g : MsgId → Bool) → Each (λ (i : MsgId). g i ≡ true) (x ∷ xs) → Each (λ (i : MsgId). g i ≡ true) (if c then xs else x ∷ xs)
     picked_told true g h = h.1
     picked_told false g h = h

@@ -26,7 +26,7 @@ use Rattle.dm_rule.specs.View.{View, Pair, actor, begins, marked, NothingElse}
 use Rattle.dm_rule.specs.View as view
 use Rattle.dm_rule.proofs.Groups.{IsNetLine, IsNet}
 use Rattle.dm_rulelaws.specs.KnownStands.{KnownStands}
-use Rattle.std.proofs.Common.{◌≤◌, ◌++◌, arith}
+use Rattle.std.proofs.Common.{◌++◌, arith}
 use Rattle.dm_laws.specs.Laws.{in_bag}
 use Rattle.dm_laws.proofs.Entered.{counts}
 use Rattle.dm_rulelaws.proofs.SeenPoint.{is_user, Seen, Quieter, seen_line, seen_put}
