@@ -44,7 +44,7 @@ eq_refl : (m : ℕ) → (m == m) ≡ true
 eq_refl m = grind (arith, nat_tests)
 
 -- lines of deliveries and ticks
-abbrev IsNetLine : Line → Type 0
+abbrev pub IsNetLine : Line → Type 0
 IsNetLine (line.Taken a b n) = ⊤
 IsNetLine (line.Old a b n) = ⊤
 IsNetLine (line.Early a b n) = ⊤
@@ -53,12 +53,12 @@ IsNetLine line.Nothing = ⊤
 IsNetLine (line.Resent m n) = ⊤
 IsNetLine l = ⊥
 
-abbrev IsNetPart : Part → Type 0
+abbrev pub IsNetPart : Part → Type 0
 IsNetPart (Says l) = IsNetLine l
 IsNetPart (Routes i) = ⊥
 IsNetPart (Transmits a b l) = ⊤
 
-abbrev IsNet : List Part → Type 0
+abbrev pub IsNet : List Part → Type 0
 IsNet [] = ⊤
 IsNet (p ∷ ps) = IsNetPart p × IsNet ps
 
@@ -152,7 +152,7 @@ comes_net : (a b : ℕ) (p q : Pair) (l : Load) → IsNet (rule.comes a b p q l)
 comes_net a b p q (load.Data n) = data_net a b p n (nat_lt n p.taken) (nat_lt p.taken n)
 comes_net a b p q (load.Ack n) = (tt, repeats_net b a (rule.let_go q (rule.more n q.acked)))
 
-arrives_net : (a b : ℕ) (p q : Pair) (o : Option Sent) → IsNet (rule.arrives a b p q o)
+pub arrives_net : (a b : ℕ) (p q : Pair) (o : Option Sent) → IsNet (rule.arrives a b p q o)
 arrives_net a b p q None = (tt, tt)
 arrives_net a b p q (Some s) = comes_net a b p q s.load
 
@@ -160,7 +160,7 @@ if_net : (c : Bool) (ps : List Part) → IsNet ps → IsNet (if c then [] else p
 if_net true ps h = tt
 if_net false ps h = h
 
-resends_net : (v : View) (m b : ℕ) → IsNet (rule.resends v m b)
+pub resends_net : (v : View) (m b : ℕ) → IsNet (rule.resends v m b)
 resends_net v m zero = tt
 resends_net v m (suc b) = net-append (rule.resends v m b) (if m == b then [] else rule.repeats m b (rule.numbers_from (v.pair m b).acked ((v.pair m b).gone - (v.pair m b).acked))) (resends_net v m b) (if_net (m == b) (rule.repeats m b (rule.numbers_from (v.pair m b).acked ((v.pair m b).gone - (v.pair m b).acked))) (repeats_net m b (rule.numbers_from (v.pair m b).acked ((v.pair m b).gone - (v.pair m b).acked))))
 
@@ -258,7 +258,7 @@ fits_by v h a b false is =
     omega (arith, x, y)
 
 -- what the pairs of machines are says that all that was taken was routed
-fits : (v : View) → Pairs v → PairsFit v
+pub fits : (v : View) → Pairs v → PairsFit v
 fits v h = record { within = λ a b. fits_by v h a b (a == b) refl; home = λ a. (pair_home v a h).taken }
 
 run_keeps : (es : List Step) (b : Boot) (pt : Point) (end : Point) → Leads b pt es end → Pairs pt.view → State None pt → State None end

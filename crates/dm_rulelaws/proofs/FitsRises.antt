@@ -1,0 +1,187 @@
+-- What fits goes on fitting as long as processes are only made, end, and keep their memory.
+use Rattle.std.proofs.Common.{◌≡◌, ℕ, ◌+◌, ◌≤◌, ◌&&◌, ◌||◌, Bool, true, false, List, [], ◌∷◌, length, refl, ap, ◌∙◌, sym, subst, nat_le, nat_lt, inl, inr, arith}
+use Rattle.std.specs.Prelude.{if◌then◌else◌}
+use Rattle.std.specs.declared.option.Option.{Option}
+use Rattle.std.specs.declared.option.Option.TheVariants.{None, Some}
+use Rattle.std.proofs.lemmas.Bool.{cases_Bool}
+use Rattle.std.proofs.lemmas.Bool.Decides.{nat_tests}
+use Rattle.dm_link.specs.declared.Pid.{Pid}
+use Rattle.dm_link.specs.Names.{pid_eq}
+use Rattle.dm_link.specs.Plain.{PlainLink}
+use Rattle.dm_message.specs.declared.MsgId.{MsgId}
+use Rattle.dm_message.specs.Plain as what
+use Rattle.dm_message.specs.Plain.{PlainMessage, PlainWhat}
+use Rattle.dm_onekernel.specs.PlainProcess.{PlainProcess, PlainStatus, Ready, Waiting, Moving}
+use Rattle.dm_onekernel.specs.Kernel.{Life, Alive, Ended, NamedLink, Pending, OneKernel, with_process, with_sent}
+use Rattle.dm_onekernel.specs.Service.{without_message}
+use Rattle.dm_laws.proofs.Equal.{pid_eq-is, pid_eq-same}
+use Rattle.dm_laws.proofs.Movers.{stayed, came}
+use Rattle.dm_rulelaws.specs.Fits.{Each, Lives, has_bytes, is_server, takes_users, gives_no_right, LinkFits, SlotFits, move_fits, ProcessFits, awaits, IsPending, WhatFits, KernelFits}
+
+abbrev pub Rises : Lives → Lives → Type 0
+Rises ps qs = (p : Pid) (n : ℕ) → has_bytes n (ps p) ≡ true → has_bytes n (qs p) ≡ true
+
+pub or_on : (a b c : Bool) → (b ≡ true → c ≡ true) → (a || b) ≡ true → (a || c) ≡ true
+or_on true b c f h = refl
+or_on false b c f h = f h
+
+pub both : (b c : Bool) → (b && c) ≡ true → (b ≡ true) × (c ≡ true)
+both true c e = (refl, e)
+both false c e = cc
+
+pub two : (b c : Bool) → b ≡ true → c ≡ true → (b && c) ≡ true
+two true c e f = f
+two false c e f = e
+
+pub Each-on : {X : Type 0} (P Q : X → Type 0) → ((x : X) → P x → Q x) → (xs : List X) → Each P xs → Each Q xs
+Each-on P Q f [] h = tt
+Each-on P Q f (x ∷ xs) h = (f x h.0, Each-on P Q f xs h.1)
+
+pub link_on : (ps qs : Lives) → Rises ps qs → (l : PlainLink) → LinkFits ps l → LinkFits qs l
+link_on ps qs up l h =
+    or_on (is_server l.to && gives_no_right l.area) (has_bytes (l.area.base + l.area.len) (ps l.to)) (has_bytes (l.area.base + l.area.len) (qs l.to)) (up l.to (l.area.base + l.area.len)) h
+
+pub slot_on : (ps qs : Lives) → Rises ps qs → (o : Option PlainLink) → SlotFits ps o → SlotFits qs o
+slot_on ps qs up None h = tt
+slot_on ps qs up (Some l) h = link_on ps qs up l h
+
+pub users_on : (ps qs : Lives) → Rises ps qs → (p : Pid) → takes_users ps p ≡ true → takes_users qs p ≡ true
+users_on ps qs up p h = or_on (is_server p) (has_bytes 0 (ps p)) (has_bytes 0 (qs p)) (up p 0) h
+
+pub move_on : (ps qs : Lives) → Rises ps qs → (x y : PlainProcess) → length x.memory ≤ length y.memory → (st : PlainStatus) → move_fits ps x st ≡ true → move_fits qs y st ≡ true
+move_on ps qs up x y le Ready h = refl
+move_on ps qs up x y le (Waiting mask base size) h = refl
+move_on ps qs up x y le (Moving dir owner base own left pending) h =
+    let k = both (has_bytes (base + left) (ps owner)) (nat_le (own + left) (length x.memory)) h in
+    let own_is = k.1 in
+    two (has_bytes (base + left) (qs owner)) (nat_le (own + left) (length y.memory)) (up owner (base + left) k.0) (let f : nat_le (own + left) (length y.memory) ≡ true = grind (arith, nat_tests) in f)
+
+pub process_on : (ps qs : Lives) → Rises ps qs → (x : PlainProcess) → ProcessFits ps x → ProcessFits qs x
+process_on ps qs up x h = record { slots = Each-on (SlotFits ps) (SlotFits qs) (slot_on ps qs up) x.links h.slots; move = move_on ps qs up x x (omega arith) x.status h.move }
+
+-- kinds that are about children
+abbrev pub of_child : PlainWhat → Bool
+of_child (what.Create image links) = true
+of_child (what.Created child) = true
+of_child what.NoRoom = true
+of_child w = false
+
+-- a message fits on where processes rise, whoever awaits it still does, and its request is still pending
+pub what_on : (s t : OneKernel) (i : MsgId) (m : PlainMessage) (w : PlainWhat) → Rises s.processes t.processes → (awaits (s.processes i.from) i.n w ≡ true → awaits (t.processes i.from) i.n w ≡ true)
+    → (of_child w ≡ true → IsPending s i → IsPending t i) → t.machines ≡ s.machines → t.images ≡ s.images → WhatFits s i m w → WhatFits t i m w
+what_on s t i m (what.User code channel body links) up waits pending machines images h =
+    (users_on s.processes t.processes up m.to h.0, Each-on (LinkFits s.processes) (LinkFits t.processes) (link_on s.processes t.processes up) links h.1)
+what_on s t i m what.Stop up waits pending machines images h = up m.to 0 h
+what_on s t i m what.Resume up waits pending machines images h = up m.to 0 h
+what_on s t i m what.Kill up waits pending machines images h = up m.to 0 h
+what_on s t i m (what.Read base len) up waits pending machines images h = (up m.to (base + len) h.0, waits h.1)
+what_on s t i m (what.Write base bytes) up waits pending machines images h = (up m.to (base + length bytes) h.0, waits h.1)
+what_on s t i m (what.Block bytes) up waits pending machines images h = (h.0, waits h.1)
+what_on s t i m what.Written up waits pending machines images h = (h.0, waits h.1)
+what_on s t i m what.Gone up waits pending machines images h = (h.0, waits h.1)
+what_on s t i m (what.Create image links) up waits pending machines images h =
+    let (kernel, home, numbered, sender, request, is, fits) = h in (
+      kernel,
+      ap (nat_lt m.to.home) machines ∙ home,
+      ap (λ is. nat_lt image (length is)) images ∙ numbered,
+      sender,
+      request,
+      pending refl is,
+      Each-on (LinkFits s.processes) (LinkFits t.processes) (link_on s.processes t.processes up) links fits,
+    )
+what_on s t i m (what.Created child) up waits pending machines images h =
+    let (to, answer, is, made) = h in (to, answer, pending refl is, up child 0 made)
+what_on s t i m what.NoRoom up waits pending machines images h =
+    let (to, answer, is) = h in (to, answer, pending refl is)
+what_on s t i m (what.Move machine) up waits pending machines images h = absurd h
+what_on s t i m (what.Moved outcome) up waits pending machines images h = absurd h
+
+-- a kernel that goes on from another, with no new message
+pub record Carries (s t : OneKernel) : Type 0 where
+  pub rises : Rises s.processes t.processes
+  pub alive : (p : Pid) (x : PlainProcess) → t.processes p ≡ Some (Alive x) → ProcessFits s.processes x
+  pub bag : (i : MsgId) (m : PlainMessage) → t.bag i ≡ Some m → s.bag i ≡ Some m
+  pub waits : (i : MsgId) (m : PlainMessage) → t.bag i ≡ Some m → awaits (s.processes i.from) i.n m.what ≡ true → awaits (t.processes i.from) i.n m.what ≡ true
+  pub pending : (i : MsgId) (m : PlainMessage) → t.bag i ≡ Some m → of_child m.what ≡ true → IsPending s i → IsPending t i
+  pub machines : t.machines ≡ s.machines
+  pub images : t.images ≡ s.images
+  pub names : Each (λ (k : NamedLink). LinkFits s.processes k.link) t.switchboard.names
+  pub answers : Each (λ (r : Pending). LinkFits s.processes r.answer) t.manager.pending
+  pub children : Each (λ (p : Pid). has_bytes 0 (s.processes p) ≡ true) t.manager.children
+
+pub carries : (s t : OneKernel) → Carries s t → KernelFits s → KernelFits t
+carries s t c h = record {
+  processes = λ p x is. process_on s.processes t.processes c.rises x (c.alive p x is);
+  messages = λ i m is. what_on s t i m m.what c.rises (c.waits i m is) (c.pending i m is) c.machines c.images (h.messages i m (c.bag i m is));
+  names = Each-on (λ (k : NamedLink). LinkFits s.processes k.link) (λ (k : NamedLink). LinkFits t.processes k.link) (λ k. link_on s.processes t.processes c.rises k.link) t.switchboard.names c.names;
+  answers = Each-on (λ (r : Pending). LinkFits s.processes r.answer) (λ (r : Pending). LinkFits t.processes r.answer) (λ r. link_on s.processes t.processes c.rises r.answer) t.manager.pending c.answers;
+  children = Each-on (λ (p : Pid). has_bytes 0 (s.processes p) ≡ true) (λ (p : Pid). has_bytes 0 (t.processes p) ≡ true) (λ p. c.rises p 0) t.manager.children c.children;
+}
+
+-- a message goes
+pub out_fits : (s : OneKernel) (id : MsgId) → KernelFits s → KernelFits (without_message s id)
+out_fits s id h = carries s (without_message s id) (record {
+  rises = λ p n e. e;
+  alive = h.processes;
+  bag = λ i m is. stayed s id i m is;
+  waits = λ i m is e. e;
+  pending = λ i m is c e. record { from = e.from; pending = e.pending };
+  machines = refl;
+  images = refl;
+  names = h.names;
+  answers = h.answers;
+  children = h.children;
+}) h
+
+-- a message comes
+pub put_fits : (s : OneKernel) (m : PlainMessage) → WhatFits s m.id m m.what → KernelFits s → KernelFits (with_sent s (Some m))
+put_fits s m fits h = record {
+  processes = h.processes;
+  messages = λ i x is. what_on s (with_sent s (Some m)) i x x.what (λ p n e. e) (λ e. e) (λ c e. record { from = e.from; pending = e.pending }) refl refl (elim (came s m x i is) [
+    | inl new ↦ subst (λ (v : PlainMessage). WhatFits s i v v.what) new.0 (subst (λ (j : MsgId). WhatFits s j m m.what) new.1 fits)
+    | inr old ↦ h.messages i x old
+  ]);
+  names = h.names;
+  answers = h.answers;
+  children = h.children;
+}
+
+-- a process goes on as another, or ends, or is made
+pub record Becomes (s : OneKernel) (p : Pid) (life : Life) : Type 0 where
+  pub bytes : (n : ℕ) → has_bytes n (s.processes p) ≡ true → has_bytes n (Some life) ≡ true
+  pub waits : (i : MsgId) (m : PlainMessage) → s.bag i ≡ Some m → i.from ≡ p → awaits (s.processes p) i.n m.what ≡ true → awaits (Some life) i.n m.what ≡ true
+  pub fits : (x : PlainProcess) → Some life ≡ Some (Alive x) → ProcessFits s.processes x
+
+pub set_if : (T : Option Life → Type 0) (s : OneKernel) (p q : Pid) (life : Life) → (q ≡ p → T (s.processes p) → T (Some life)) → T (s.processes q) → T ((with_process s p life).processes q)
+set_if T s p q life f h = elim (cases_Bool (pid_eq p q)) [
+  | inl same ↦
+      subst T (sym (ap (λ (c : Bool). if c then Some life else s.processes q) same)) (f (sym (pid_eq-is p q same)) (subst (λ (v : Pid). T (s.processes v)) (sym (pid_eq-is p q same)) h))
+  | inr apart ↦ subst T (sym (ap (λ (c : Bool). if c then Some life else s.processes q) apart)) h
+]
+
+pub set_rises : (s : OneKernel) (p : Pid) (life : Life) → ((n : ℕ) → has_bytes n (s.processes p) ≡ true → has_bytes n (Some life) ≡ true) → Rises s.processes (with_process s p life).processes
+set_rises s p life f q n h = set_if (λ (o : Option Life). has_bytes n o ≡ true) s p q life (λ same. f n) h
+
+pub set_at : (s : OneKernel) (p : Pid) (life : Life) → (with_process s p life).processes p ≡ Some life
+set_at s p life = ap (λ (c : Bool). if c then Some life else s.processes p) (pid_eq-same p)
+
+pub set_fits : (s : OneKernel) (p : Pid) (life : Life) → Becomes s p life → KernelFits s → KernelFits (with_process s p life)
+set_fits s p life b h = carries s (with_process s p life) (record {
+  rises = set_rises s p life b.bytes;
+  alive = λ q x is. elim (cases_Bool (pid_eq p q)) [
+    | inl same ↦ b.fits x (sym (ap (λ (c : Bool). if c then Some life else s.processes q) same) ∙ is)
+    | inr apart ↦ h.processes q x (sym (ap (λ (c : Bool). if c then Some life else s.processes q) apart) ∙ is)
+  ];
+  bag = λ i m is. is;
+  waits = λ i m is e. set_if (λ (o : Option Life). awaits o i.n m.what ≡ true) s p i.from life (b.waits i m is) e;
+  pending = λ i m is c e. record { from = e.from; pending = e.pending };
+  machines = refl;
+  images = refl;
+  names = h.names;
+  answers = h.answers;
+  children = h.children;
+}) h
+
+-- a process ends
+pub end_fits : (s : OneKernel) (p : Pid) (y : _) → KernelFits s → KernelFits (with_process s p (Ended y))
+end_fits s p y h = set_fits s p (Ended y) (record { bytes = λ n e. refl; waits = λ i m is from e. refl; fits = λ x is. absurd (let f : Some (Ended y) ≡ Some (Alive x) = is in cc) }) h

@@ -1,0 +1,95 @@
+-- The labels of a run's lines replay as steps of the kernel without machines; so all fits wherever the rule leads.
+use Rattle.std.proofs.Common.{◌≡◌, ℕ, ◌+◌, List, [], ◌∷◌, ◌++◌, refl, ap, ◌∙◌, sym, subst}
+use Rattle.std.specs.declared.option.Option.{Option}
+use Rattle.std.specs.declared.option.Option.TheVariants.{None, Some}
+use Rattle.dm_message.specs.declared.MsgId.{MsgId}
+use Rattle.dm_onekernel.specs.declared.boot.Boot.{Boot}
+use Rattle.dm_onekernel.specs.declared.label.Label.{Label}
+use Rattle.dm_onekernel.specs.Kernel.{OneKernel}
+use Rattle.dm_onekernel.specs.Options.{bind}
+use Rattle.dm_onekernel.specs.Step as kernel
+use Rattle.dm_onekernel.specs.Step.{replay}
+use Rattle.dm_laws.specs.Laws.{entry, reception}
+use Rattle.dm_laws.proofs.Runs.{after_step, start-sound}
+use Rattle.dm_laws.proofs.Sound.{Sound}
+use Rattle.dm_laws.proofs.Steps.{bind-is}
+use Rattle.dm_schedule.specs.declared.Step.{Step}
+use Rattle.dm_rule.specs.declared.line.Line.{Line}
+use Rattle.dm_rule.specs.declared.line.Line.TheVariants as line
+use Rattle.dm_rule.specs.Point.{Point, first_point, label_of, labels, with_label, kernel_after, after_line, after, moved}
+use Rattle.dm_rule.specs.Parts.{Part, Spelled, lines_of, behind, spelled}
+use Rattle.dm_rule.specs.Rule.{group_of, outcome, headed}
+use Rattle.dm_rule.specs.Laws.{Leads}
+use Rattle.dm_rulelaws.specs.Fits.{KernelFits}
+use Rattle.dm_rulelaws.specs.Laws.{FitsAlways}
+use Rattle.dm_rulelaws.proofs.FitsStart.{fits_step, start_fits}
+
+-- one line
+line_replay : (o : Option Label) (ls : List Label) (s t u : OneKernel) → kernel_after s o ≡ Some t → replay t ls ≡ Some u → replay s (with_label o ls) ≡ Some u
+line_replay None ls s t u e f = let g : s ≡ t = cc in ap (λ (v : OneKernel). replay v ls) g ∙ f
+line_replay (Some l) ls s t u e f = ap (λ (o : Option OneKernel). bind o (λ (v : OneKernel). replay v ls)) e ∙ f
+
+pub after_replay : (ls : List Line) (pt q : Point) → after pt ls ≡ Some q → replay pt.kernel (labels ls) ≡ Some q.kernel
+after_replay [] pt q e = let f : pt ≡ q = cc in ap (λ (v : Point). Some v.kernel) f
+after_replay (l ∷ ls) pt q e =
+    let (mid, first, rest) = bind-is (after_line pt l) (λ (next : Point). after next ls) q e in
+    let (s, step, last) = bind-is (kernel_after pt.kernel (label_of l)) (λ (s : OneKernel). Some (moved pt l s)) mid first in
+    let f : moved pt l s ≡ mid = cc in
+    line_replay (label_of l) (labels ls) pt.kernel s q.kernel step (ap (λ (v : Point). replay v.kernel (labels ls)) f ∙ after_replay ls mid q rest)
+
+with_label-append : (o : Option Label) (xs ys : List Label) → with_label o (xs ++ ys) ≡ with_label o xs ++ ys
+with_label-append None xs ys = refl
+with_label-append (Some l) xs ys = refl
+
+pub labels-append : (xs ys : List Line) → labels (xs ++ ys) ≡ labels xs ++ labels ys
+labels-append [] ys = refl
+labels-append (x ∷ xs) ys = ap (with_label (label_of x)) (labels-append xs ys) ∙ with_label-append (label_of x) (labels xs) (labels ys)
+
+pub replay-append : (xs ys : List Label) (s t u : OneKernel) → replay s xs ≡ Some t → replay t ys ≡ Some u → replay s (xs ++ ys) ≡ Some u
+replay-append [] ys s t u e f = let g : s ≡ t = cc in ap (λ (v : OneKernel). replay v ys) g ∙ f
+replay-append (x ∷ xs) ys s t u e f =
+    let (v, first, rest) = bind-is (kernel.step s x) (λ (w : OneKernel). replay w xs) t e in
+    ap (λ (o : Option OneKernel). bind o (λ (w : OneKernel). replay w (xs ++ ys))) first ∙ replay-append xs ys v t u rest f
+
+pub spelled_replay : (ps : List Part) (pt : Point) (w : Spelled) → spelled pt ps ≡ Some w → replay pt.kernel (labels w.lines) ≡ Some w.point.kernel
+spelled_replay [] pt w e =
+    let z : Spelled = record { lines = []; point = pt } in
+    let f : z ≡ w = cc in
+    subst (λ (v : Spelled). replay pt.kernel (labels v.lines) ≡ Some v.point.kernel) f refl
+spelled_replay (p ∷ ps) pt w e =
+    let (ls, lines, rest) = bind-is (lines_of pt p) (λ (xs : List Line). bind (after pt xs) (λ (q : Point). bind (spelled q ps) (λ (z : Spelled). Some (behind xs z)))) w e in
+    let (next, comes, last) = bind-is (after pt ls) (λ (q : Point). bind (spelled q ps) (λ (z : Spelled). Some (behind ls z))) w rest in
+    let (z, more, end) = bind-is (spelled next ps) (λ (y : Spelled). Some (behind ls y)) w last in
+    let f : behind ls z ≡ w = cc in
+    let g : replay pt.kernel (labels ls ++ labels z.lines) ≡ Some z.point.kernel = replay-append (labels ls) (labels z.lines) pt.kernel next.kernel z.point.kernel (after_replay ls pt next comes) (spelled_replay ps next z more) in
+    subst (λ (v : Spelled). replay pt.kernel (labels v.lines) ≡ Some v.point.kernel) f (ap (replay pt.kernel) (labels-append ls z.lines) ∙ g)
+
+-- a group
+pub group_replay : (b : Boot) (pt : Point) (d : Step) (w : Spelled) → group_of b pt d ≡ Some w → replay pt.kernel (labels w.lines) ≡ Some w.point.kernel
+group_replay b pt d w e =
+    let (parts, is, more) = bind-is (outcome b pt d) (λ (parts : List Part). bind (after_line pt (line.Head d)) (λ (begun : Point). bind (spelled begun parts) (λ (w : Spelled). Some (headed (line.Head d) w)))) w e in
+    let (start, head, last) = bind-is (after_line pt (line.Head d)) (λ (begun : Point). bind (spelled begun parts) (λ (w : Spelled). Some (headed (line.Head d) w))) w more in
+    let (rest, told, end) = bind-is (spelled start parts) (λ (w : Spelled). Some (headed (line.Head d) w)) w last in
+    let f : moved pt (line.Head d) pt.kernel ≡ start = cc in
+    let g : headed (line.Head d) rest ≡ w = cc in
+    let same : start.kernel ≡ pt.kernel = sym (ap (λ (v : Point). v.kernel) f) in
+    subst (λ (v : Spelled). replay pt.kernel (labels v.lines) ≡ Some v.point.kernel) g (ap (λ (s : OneKernel). replay s (labels rest.lines)) (sym same) ∙ spelled_replay parts start rest told)
+
+-- all fits wherever a run comes
+pub replay_fits : (ls : List Label) (r e : MsgId → ℕ) (s t : OneKernel) → replay s ls ≡ Some t → Sound r e s → KernelFits s → (r' : MsgId → ℕ) × (e' : MsgId → ℕ) × Sound r' e' t × KernelFits t
+replay_fits [] r e s t is h fits =
+    let f : s ≡ t = cc in
+    (r, e, subst (Sound r e) f h, subst KernelFits f fits)
+replay_fits (l ∷ ls) r e s t is h fits =
+    let (u, first, rest) = bind-is (kernel.step s l) (λ (v : OneKernel). replay v ls) t is in
+    let a = after_step r e s u l first h in
+    replay_fits ls (λ i. r i + reception i l) (λ i. e i + entry i s u) u t rest a.sound (fits_step r e s u l first h fits)
+
+fits_on : (b : Boot) (es : List Step) (pt end : Point) (r e : MsgId → ℕ) → Leads b pt es end → Sound r e pt.kernel → KernelFits pt.kernel → KernelFits end.kernel
+fits_on b [] pt end r e leads h fits = subst (λ (v : Point). KernelFits v.kernel) leads fits
+fits_on b (d ∷ ds) pt end r e (w, fit, is, more) h fits =
+    let (r', e', sound, on) = replay_fits (labels w.lines) r e pt.kernel w.point.kernel (group_replay b pt d w is) h fits in
+    fits_on b ds w.point end r' e' more sound on
+
+pub fits_always : FitsAlways
+fits_always b es pt valid leads = fits_on b es (first_point b) pt (λ i. 0) (λ i. 0) leads (start-sound b valid) (start_fits b valid)

@@ -1,0 +1,4 @@
+pub mod Fits
+pub mod KnownStands
+pub mod Order
+pub mod Laws
