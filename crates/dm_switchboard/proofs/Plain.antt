@@ -104,7 +104,7 @@ plain_answer n l reply.Taken = refl
 plain_answer n l reply.BadLink = refl
 plain_answer n l reply.BadRequest = refl
 
-plain_request : (b : Board) (body : List ℕ) (ls : List Link) (t : Taken) → takes_request b body ls ≡ t → plain_taken t.board t.took ≡ Some (one.takes_request (plain_board b) body (map plain_link ls))
+pub plain_request : (b : Board) (body : List ℕ) (ls : List Link) (t : Taken) → takes_request b body ls ≡ t → plain_taken t.board t.took ≡ Some (one.takes_request (plain_board b) body (map plain_link ls))
 plain_request b body [] t e = ap (λ (t : Taken). plain_taken t.board t.took) (sym e)
 plain_request b body (l ∷ ls) t e =
     let a : Asked = asks b.names body ls in

@@ -1,0 +1,106 @@
+-- The kernel without machines, with places: processes and messages as machines have them, wherever they are; and when
+-- that mirrors a kernel, a view and addresses.
+use Rattle.std.specs.Prelude.{◌≡◌, ℕ, List, [], length, slice_get, option_map}
+use Rattle.std.specs.declared.option.Option.{Option}
+use Rattle.std.specs.declared.option.Option.TheVariants.{None, Some}
+use Rattle.dm_link.specs.declared.Pid.{Pid}
+use Rattle.dm_link.specs.declared.Addr.{Addr}
+use Rattle.dm_link.specs.declared.Link.{Link}
+use Rattle.dm_link.specs.Names.{place_of}
+use Rattle.dm_linktable.specs.Slots.{link_at}
+use Rattle.dm_message.specs.declared.MsgId.{MsgId}
+use Rattle.dm_message.specs.declared.Message.{Message}
+use Rattle.dm_message.specs.declared.What.{What}
+use Rattle.dm_message.specs.declared.What.TheVariants as what
+use Rattle.dm_message.specs.Plain.{plain_message}
+use Rattle.dm_process.specs.declared.process.Process.{Process}
+use Rattle.dm_process.specs.declared.process.Status.{Status}
+use Rattle.dm_process.specs.declared.process.Status.TheVariants as status
+use Rattle.dm_onekernel.specs.Kernel.{OneKernel}
+use Rattle.dm_onekernel.specs.Plain.{plain_process}
+use Rattle.dm_onekernel.specs.Step as kernel
+use Rattle.dm_switchboard.specs.Board.{Board, Named, plain_board}
+use Rattle.dm_procman.specs.declared.pending.Pending.{Pending}
+use Rattle.dm_procman.specs.Managing.{Managing, plain_manager}
+use Rattle.dm_procman.specs.Taking.{child_numbered, pending_numbered}
+use Rattle.dm_rule.specs.View.{View}
+use Rattle.dm_rule.specs.Addresses.{Addresses, Slot, Owner, Receiver, Sender, Enclosed, Child, Name, Answer}
+
+pub record Placed : Type 0 where
+  -- the processes that are alive; whichever messages wait for them
+  pub processes : Pid → Option Process
+  -- the messages that nobody has got yet
+  pub bag : MsgId → Option Message
+  pub board : Board
+  pub manager : Managing
+
+-- the other side of a data move
+abbrev pub owner_at : Status → Option Addr
+owner_at status.Ready = None
+owner_at (status.Waiting mask base size) = None
+owner_at (status.Moving dir owner base own left pending) = Some owner
+
+-- the links that a message encloses
+abbrev pub enclosed : What → List Link
+enclosed (what.User code channel body links) = links.items
+enclosed what.Stop = []
+enclosed what.Resume = []
+enclosed what.Kill = []
+enclosed (what.Read base len) = []
+enclosed (what.Write base bytes) = []
+enclosed (what.Block bytes) = []
+enclosed what.Written = []
+enclosed what.Gone = []
+enclosed (what.Create image links) = links.items
+enclosed (what.Created pid) = []
+enclosed what.NoRoom = []
+enclosed (what.Migrate machine) = []
+enclosed (what.Update about) = []
+enclosed (what.Ask pid blocks moves size asker) = []
+enclosed (what.Refuse pid slots blocks) = []
+enclosed (what.PullState pid chunk) = []
+enclosed (what.State pid chunk last bytes) = []
+enclosed (what.PullBlock pid block) = []
+enclosed (what.Memory pid block bytes) = []
+enclosed (what.AllTaken pid) = []
+enclosed (what.Restart pid) = []
+enclosed (what.Move machine) = []
+enclosed (what.Moved outcome) = []
+enclosed (what.CallOff pid) = []
+enclosed (what.Bury pid) = []
+
+-- a process under its name: as often moved as the lines say, and each of its addresses leads where they say
+pub record MirrorsProcess (v : View) (a : Addresses) (p : Pid) (x : Process) : Type 0 where
+  pub pid : x.pid ≡ p
+  pub moves : x.moves ≡ v.moves p
+  pub slots : (k : ℕ) (w : Link) → link_at x.table k ≡ Some w → a (Slot p k) ≡ place_of w.addr
+  pub owner : (o : Addr) → owner_at x.status ≡ Some o → a (Owner p) ≡ place_of o
+
+-- a message under its name
+pub record MirrorsMessage (a : Addresses) (i : MsgId) (m : Message) : Type 0 where
+  pub id : m.id ≡ i
+  pub receiver : a (Receiver i) ≡ place_of m.to
+  pub sender : a (Sender i) ≡ place_of m.sender
+  pub enclosed : (k : ℕ) (w : Link) → slice_get (enclosed m.what) k ≡ Some w → a (Enclosed i k) ≡ place_of w.addr
+
+-- without places it is the kernel without machines
+pub record MirrorsKernel (s : OneKernel) (l : Placed) : Type 0 where
+  pub processes : (p : Pid) → kernel.alive (s.processes p) ≡ option_map plain_process (l.processes p)
+  pub bag : (i : MsgId) → option_map Some (s.bag i) ≡ option_map plain_message (l.bag i)
+  pub board : plain_board l.board ≡ s.switchboard
+  pub manager : plain_manager l.manager ≡ s.manager
+  pub machines : l.manager.machines ≡ s.machines
+  pub images : l.manager.images ≡ length s.images
+
+-- its places are the addresses
+pub record MirrorsPlaces (v : View) (a : Addresses) (l : Placed) : Type 0 where
+  pub process : (p : Pid) (x : Process) → l.processes p ≡ Some x → MirrorsProcess v a p x
+  pub message : (i : MsgId) (m : Message) → l.bag i ≡ Some m → MirrorsMessage a i m
+  pub name : (n : ℕ) (k : Named) → slice_get l.board.names n ≡ Some k → a (Name n) ≡ place_of k.link.addr
+  -- children count from 1
+  pub child : (n : ℕ) (c : Addr) → child_numbered l.manager.children n ≡ Some c → a (Child n) ≡ place_of c
+  pub answer : (n : ℕ) (r : Pending) → pending_numbered n l.manager.pending ≡ Some r → a (Answer n) ≡ place_of r.answer.addr
+
+pub record Mirrors (s : OneKernel) (v : View) (a : Addresses) (l : Placed) : Type 0 where
+  pub plain : MirrorsKernel s l
+  pub places : MirrorsPlaces v a l
