@@ -1,3 +1,5 @@
 pub mod Keeps
 pub mod Calls
 pub mod Acts
+pub mod Whats
+pub mod Receives
