@@ -3,3 +3,5 @@ pub mod Calls
 pub mod Acts
 pub mod Whats
 pub mod Receives
+pub mod Answers
+pub mod Serves

@@ -236,12 +236,12 @@ gone_if : (p : Pid) (x : PlainProcess) (b : Bool) (dir : Direction) (owner : Pid
 gone_if p x true dir owner base own left w d is e = gone_what p x dir owner base own left d (ap (pieces.lands_what p x dir owner base own left) (sym is) ∙ e)
 gone_if p x false dir owner base own left w d is e = cc
 
-gone_lands : (p : Pid) (x : PlainProcess) (m : PlainMessage) (st : PlainStatus) (d : pieces.Landed) → m.what ≡ what.Gone → pieces.lands p x m st ≡ Some d → NothingNext d
+pub gone_lands : (p : Pid) (x : PlainProcess) (m : PlainMessage) (st : PlainStatus) (d : pieces.Landed) → m.what ≡ what.Gone → pieces.lands p x m st ≡ Some d → NothingNext d
 gone_lands p x m (Moving dir owner base own left pending) d is e = gone_if p x (m.id.n == pending) dir owner base own left m.what d is e
 gone_lands p x m Ready d is e = cc
 gone_lands p x m (Waiting mask base size) d is e = cc
 
-nothing_lands : (v : View) (a : Addresses) (p : Pid) (c : pieces.Landed) → NothingNext c → lands v a p (Some c) ≡ []
+pub nothing_lands : (v : View) (a : Addresses) (p : Pid) (c : pieces.Landed) → NothingNext c → lands v a p (Some c) ≡ []
 nothing_lands v a p (pieces.Done reply y) h = refl
 nothing_lands v a p (pieces.Next n y) h = absurd h
 
