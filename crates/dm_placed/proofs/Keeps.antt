@@ -116,7 +116,7 @@ set_places v a b l p y h off on q x e = elim (cases_Bool (pid_eq p q)) [
 ]
 
 -- messages once one came
-came_places : (a b : Addresses) (l : Placed) (m : Message) → ((i : MsgId) (x : Message) → l.bag i ≡ Some x → MirrorsMessage a i x) → ((i : MsgId) → id_eq m.id i ≡ false → SameMessage a b i) → MirrorsMessage b m.id m
+pub came_places : (a b : Addresses) (l : Placed) (m : Message) → ((i : MsgId) (x : Message) → l.bag i ≡ Some x → MirrorsMessage a i x) → ((i : MsgId) → id_eq m.id i ≡ false → SameMessage a b i) → MirrorsMessage b m.id m
     → (i : MsgId) (x : Message) → (with_sent l (Some m)).bag i ≡ Some x → MirrorsMessage b i x
 came_places a b l m h off on i x e = elim (cases_Bool (id_eq m.id i)) [
   | inl same ↦

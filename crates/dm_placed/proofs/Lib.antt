@@ -5,3 +5,5 @@ pub mod Whats
 pub mod Receives
 pub mod Answers
 pub mod Serves
+pub mod Creates
+pub mod Boards

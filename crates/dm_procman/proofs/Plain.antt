@@ -41,11 +41,11 @@ some_both : {A : Type 0} (b : Bool) (x y : A) → (if b then Some x else Some y)
 some_both true x y = refl
 some_both false x y = refl
 
-plain_push : (rs : List Pending) (r : Pending) → map plain_pending (rs ++ r ∷ []) ≡ map plain_pending rs ++ plain_pending r ∷ []
+pub plain_push : (rs : List Pending) (r : Pending) → map plain_pending (rs ++ r ∷ []) ≡ map plain_pending rs ++ plain_pending r ∷ []
 plain_push [] r = refl
 plain_push (x ∷ rs) r = ap (λ xs. plain_pending x ∷ xs) (plain_push rs r)
 
-plain_bear : (cs : List Addr) (a : Addr) → map plain_child (cs ++ a ∷ []) ≡ map plain_child cs ++ a.pid ∷ []
+pub plain_bear : (cs : List Addr) (a : Addr) → map plain_child (cs ++ a ∷ []) ≡ map plain_child cs ++ a.pid ∷ []
 plain_bear [] a = refl
 plain_bear (x ∷ cs) a = ap (λ xs. x.pid ∷ xs) (plain_bear cs a)
 
@@ -92,7 +92,7 @@ plain_controls g (Some c) [] ls = plain_bad g ls
 plain_controls g (Some c) (a ∷ []) ls = plain_controls_by g c (a == 2) (a == 3) (a == 4) ls
 plain_controls g (Some c) (a ∷ b ∷ bs) ls = plain_bad g ls
 
-plain_numbered : (cs : List Addr) (n : ℕ) → one.child_numbered (map plain_child cs) n ≡ option_map plain_child (child_numbered cs n)
+pub plain_numbered : (cs : List Addr) (n : ℕ) → one.child_numbered (map plain_child cs) n ≡ option_map plain_child (child_numbered cs n)
 plain_numbered cs zero = refl
 plain_numbered cs (suc n) = slice_get-map plain_child cs n
 
@@ -106,7 +106,7 @@ pub plain_pending_numbered : (n : ℕ) (rs : List Pending) → one.pending_numbe
 plain_pending_numbered n [] = refl
 plain_pending_numbered n (r ∷ rs) = sym (both (option_map plain_pending) (r.n == n) (Some r) (pending_numbered n rs) _ _ refl (sym (plain_pending_numbered n rs)))
 
-plain_without : (n : ℕ) (rs : List Pending) → map plain_pending (without_pending n rs) ≡ one.without_pending n (map plain_pending rs)
+pub plain_without : (n : ℕ) (rs : List Pending) → map plain_pending (without_pending n rs) ≡ one.without_pending n (map plain_pending rs)
 plain_without n [] = refl
 plain_without n (r ∷ rs) = both (map plain_pending) (r.n == n) rs (r ∷ without_pending n rs) _ _ refl (ap (λ xs. plain_pending r ∷ xs) (plain_without n rs))
 
