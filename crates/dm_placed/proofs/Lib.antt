@@ -7,3 +7,5 @@ pub mod Answers
 pub mod Serves
 pub mod Creates
 pub mod Boards
+pub mod Pendings
+pub mod Managers
