@@ -9,3 +9,4 @@ pub mod Creates
 pub mod Boards
 pub mod Pendings
 pub mod Managers
+pub mod Takes
