@@ -10,3 +10,6 @@ pub mod Boards
 pub mod Pendings
 pub mod Managers
 pub mod Takes
+pub mod Steps
+pub mod Starts
+pub mod Lines

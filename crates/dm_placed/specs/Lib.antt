@@ -1,3 +1,4 @@
 pub mod Placed
 pub mod PlacedStep
 pub mod PlacedStart
+pub mod Laws
