@@ -13,3 +13,4 @@ pub mod Takes
 pub mod Steps
 pub mod Starts
 pub mod Lines
+pub mod Groups
