@@ -14,3 +14,4 @@ pub mod Steps
 pub mod Starts
 pub mod Lines
 pub mod Groups
+pub mod Worked
