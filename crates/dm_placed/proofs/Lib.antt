@@ -15,3 +15,4 @@ pub mod Starts
 pub mod Lines
 pub mod Groups
 pub mod Worked
+pub mod Frames

@@ -2,3 +2,4 @@ pub mod Placed
 pub mod PlacedStep
 pub mod PlacedStart
 pub mod Laws
+pub mod Changes

@@ -1,4 +1,5 @@
 //! Places follow the printed lines, whoever ran by them.
+ghost use Rattle.dm_placed.specs.Changes.{StepsChangeLittle};
 ghost use Rattle.dm_placed.specs.Laws.{StepsFollow, LinesKeep, StartMirrors, PlacesFollowAlways};
 
 /// Each step of the kernel without machines is one with places, by the functions of the machines' code, and its places are
@@ -6,6 +7,12 @@ ghost use Rattle.dm_placed.specs.Laws.{StepsFollow, LinesKeep, StartMirrors, Pla
 /// where the manager's requests have ascending numbers.
 pub fn steps_follow()
     ensures { StepsFollow }
+{}
+
+/// A step with places leaves all processes but one, all messages but the one that it takes and the one that it sends, and the
+/// servers, unless they take a message.
+pub fn steps_change_little()
+    ensures { StepsChangeLittle }
 {}
 
 /// A line that is neither a step nor of the few that change addresses or counts of moves leaves the kernel with places as
