@@ -16,3 +16,4 @@ pub mod Lines
 pub mod Groups
 pub mod Worked
 pub mod Frames
+pub mod Queues
