@@ -1,6 +1,6 @@
 -- What a process that executes does, with places: plain instructions, calls and faults, a lemma a label.
-use Rattle.std.proofs.Common.{◌≡◌, ℕ, ◌==◌, ◌&&◌, Bool, true, false, refl, ap, ◌∙◌, sym, subst, List, arith}
-use Rattle.std.specs.Prelude.{⊤, if◌then◌else◌}
+use Rattle.std.proofs.Common.{◌≡◌, ℕ, ◌==◌, ◌&&◌, Bool, true, false, refl, ap, ◌∙◌, sym, subst, arith}
+use Rattle.std.specs.Prelude.{if◌then◌else◌}
 use Rattle.std.specs.declared.option.Option.{Option}
 use Rattle.std.specs.declared.option.Option.TheVariants.{None, Some}
 use Rattle.std.proofs.lemmas.Bool.Decides.{nat_tests}
@@ -85,12 +85,13 @@ ran_follows s t v a l p k is h =
     let y = r.y in
     let w = h.places.process p y r.there in
     let steps : kernel.plain_steps k (machine_of y) ≡ Some m = ap (λ (z : PlainProcess). kernel.plain_steps k (kernel.machine_of z)) r.is ∙ plain in
-    let on = with_process l p (Some (with_machine y m)) in
-    (on,
-    ap (λ (o : Option Process). bind o (λ (z : Process). bind (kernel.plain_steps k (machine_of z)) (λ (n : kernel.Machine). Some (with_process l p (Some (with_machine z n)))))) r.runs
-    ∙ ap (λ (o : Option kernel.Machine). bind o (λ (n : kernel.Machine). Some (with_process l p (Some (with_machine y n))))) steps,
-    subst (λ (u : OneKernel). Mirrors u v a on) (ap (λ (z : PlainProcess). kernel.goes_on s p (kernel.with_machine z m)) r.is ∙ f)
-    (goes_mirrors s v a l p (with_machine y m) h (record { pid = w.pid; moves = w.moves; slots = w.slots; owner = w.owner })))
+    let on = with_process l p (Some (with_machine y m)) in (
+      on,
+      ap (λ (o : Option Process). bind o (λ (z : Process). bind (kernel.plain_steps k (machine_of z)) (λ (n : kernel.Machine). Some (with_process l p (Some (with_machine z n)))))) r.runs
+          ∙ ap (λ (o : Option kernel.Machine). bind o (λ (n : kernel.Machine). Some (with_process l p (Some (with_machine y n))))) steps,
+      subst (λ (u : OneKernel). Mirrors u v a on) (ap (λ (z : PlainProcess). kernel.goes_on s p (kernel.with_machine z m)) r.is ∙ f)
+          (goes_mirrors s v a l p (with_machine y m) h (record { pid = w.pid; moves = w.moves; slots = w.slots; owner = w.owner })),
+    )
 
 -- what a call comes to
 record Goes (v : View) (b : Addresses) (p : Pid) (w : Acted) (z : PlainProcess) : Type 0 where
@@ -155,10 +156,12 @@ acts_row v a p x (row.Calls number regs) n w e h =
     let plain : plain_called d.called d.process ≡ Some (one.call p (plain_process (behind x)) number) =
     call_plainly v.acting (behind x) d.process number d.called refl refl ∙ ap (λ (q : Pid). Some (one.call q (plain_process (behind x)) number)) h.pid
     in
-    let base = called_as v a p x (one.call_number number) d.called d.process (one.call p (plain_process (behind x)) number) plain (does_call_kept v a p x (one.call_number number) h) in
-    (after_done (calls v.acting (record x { regs = regs }) number), refl,
-    subst (ActsNext v a p x (after_done (calls v.acting (record x { regs = regs }) number))) g
-    (subst (λ (r : Regs). ActsNext v a p x (after_done (calls v.acting (record x { regs = r }) number)) (kernel.Calls number (one.call p (record (plain_process x) { regs = r }) number))) (sym f) base))
+    let base = called_as v a p x (one.call_number number) d.called d.process (one.call p (plain_process (behind x)) number) plain (does_call_kept v a p x (one.call_number number) h) in (
+      after_done (calls v.acting (record x { regs = regs }) number),
+      refl,
+      subst (ActsNext v a p x (after_done (calls v.acting (record x { regs = regs }) number))) g
+          (subst (λ (r : Regs). ActsNext v a p x (after_done (calls v.acting (record x { regs = r }) number)) (kernel.Calls number (one.call p (record (plain_process x) { regs = r }) number))) (sym f) base),
+    )
 acts_row v a p x (row.Faults fault) n w e h = let g : kernel.Faults fault ≡ n = cc in (ended, refl, subst (ActsNext v a p x ended) g refl)
 
 record ActsOf (s : OneKernel) (v : View) (a : Addresses) (l : Placed) (p : Pid) (n : kernel.Next) : Type 0 where
@@ -196,14 +199,16 @@ reply_row s t v a l p n c (kernel.Calls number (one.Replies d z)) q is h =
     let gs = gives_by v a p x (one.call_number number) d in
     let gs_is : gs ≡ made v a p n c (kernel.running s p) =
     sym (gives_same v a p x (one.call_number number) c d same) ∙ ap (λ (i : ℕ). gives_by v a p x (one.call_number i) c) number_is ∙ sym (made_is v a p n c x) ∙ ap (made v a p n c) (sym q.runs) in
-    let o = only_gives_by v a p x (one.call_number number) d in
-    (with_acted l p q.w, q.acts,
-    mirrors_as (kernel.goes_on s p (plain_process g.y)) t v (given a gs) (given a (made v a p n c (kernel.running s p))) (with_process l p (Some g.y)) (with_acted l p q.w)
-    (ap (kernel.goes_on s p) g.is ∙ k.1) (ap (given a) gs_is) (ap (with_acted l p) (sym g.acted))
-    (record {
-      plain = kernel_process s l p (Alive (plain_process g.y)) (Some g.y) refl h.plain;
-      places = places_process v a (given a gs) l p (Some g.y) h.places o.others (this_process v (given a gs) p g.y g.kept) o.messages o.servers;
-    }))
+    let o = only_gives_by v a p x (one.call_number number) d in (
+      with_acted l p q.w,
+      q.acts,
+      mirrors_as (kernel.goes_on s p (plain_process g.y)) t v (given a gs) (given a (made v a p n c (kernel.running s p))) (with_process l p (Some g.y)) (with_acted l p q.w)
+          (ap (kernel.goes_on s p) g.is ∙ k.1) (ap (given a) gs_is) (ap (with_acted l p) (sym g.acted))
+          (record {
+            plain = kernel_process s l p (Alive (plain_process g.y)) (Some g.y) refl h.plain;
+            places = places_process v a (given a gs) l p (Some g.y) h.places o.others (this_process v (given a gs) p g.y g.kept) o.messages o.servers;
+          }),
+    )
 reply_row s t v a l p n c (kernel.Calls number (one.Sends m y)) q is h = cc
 reply_row s t v a l p n c (kernel.Calls number (one.Waits y)) q is h = cc
 reply_row s t v a l p n c (kernel.Calls number (one.Outputs word y)) q is h = cc
@@ -226,14 +231,16 @@ send_row s t v a l p id (kernel.Calls number (one.Sends m z)) nx q is h =
     let gs = sends_what v a p x m.id m.what in
     let gs_is : gs ≡ gives s v a (label.Send p id) =
     ap (λ (i : MsgId). sends_what v a p x i m.what) name ∙ ap (addresses.sends_next v a p x id) (sym nx) ∙ ap (addresses.sends s v a p id) (sym q.runs) in
-    let o = g.kept in
-    (with_acted l p q.w, q.acts,
-    mirrors_as (kernels.with_sent (kernel.goes_on s p (plain_process g.y)) (Some m)) t v (given a gs) (given a (gives s v a (label.Send p id))) (with_sent (with_process l p (Some g.y)) (Some g.m)) (with_acted l p q.w)
-    (ap (λ (u : PlainProcess). kernels.with_sent (kernel.goes_on s p u) (Some m)) g.is ∙ k.1) (ap (given a) gs_is) (ap (with_acted l p) (sym g.acted))
-    (record {
-      plain = kernel_sent (kernel.goes_on s p (plain_process g.y)) (with_process l p (Some g.y)) m g.m g.says (kernel_process s l p (Alive (plain_process g.y)) (Some g.y) refl h.plain);
-      places = places_sends v a (given a gs) l p (Some g.y) g.m h.places o.others (this_process v (given a gs) p g.y o.process) o.messages o.message o.servers;
-    }))
+    let o = g.kept in (
+      with_acted l p q.w,
+      q.acts,
+      mirrors_as (kernels.with_sent (kernel.goes_on s p (plain_process g.y)) (Some m)) t v (given a gs) (given a (gives s v a (label.Send p id))) (with_sent (with_process l p (Some g.y)) (Some g.m)) (with_acted l p q.w)
+          (ap (λ (u : PlainProcess). kernels.with_sent (kernel.goes_on s p u) (Some m)) g.is ∙ k.1) (ap (given a) gs_is) (ap (with_acted l p) (sym g.acted))
+          (record {
+            plain = kernel_sent (kernel.goes_on s p (plain_process g.y)) (with_process l p (Some g.y)) m g.m g.says (kernel_process s l p (Alive (plain_process g.y)) (Some g.y) refl h.plain);
+            places = places_sends v a (given a gs) l p (Some g.y) g.m h.places o.others (this_process v (given a gs) p g.y o.process) o.messages o.message o.servers;
+          }),
+    )
 send_row s t v a l p id (kernel.Calls number (one.Replies d y)) nx q is h = cc
 send_row s t v a l p id (kernel.Calls number (one.Waits y)) nx q is h = cc
 send_row s t v a l p id (kernel.Calls number (one.Outputs word y)) nx q is h = cc
@@ -247,10 +254,12 @@ send_follows s t v a l p id is h =
 
 -- a process goes on, and nothing is sent or given
 goes_follows : (s t : OneKernel) (v : View) (a : Addresses) (l : Placed) (p : Pid) (w : Acted) (z : PlainProcess) → acts v.acting l p ≡ Some (with_acted l p w) → Goes v a p w z → kernel.goes_on s p z ≡ t → Mirrors s v a l → Follows t v a (acts v.acting l p)
-goes_follows s t v a l p w z is g f h =
-    (with_acted l p w, is,
-    mirrors_as (kernel.goes_on s p (plain_process g.y)) t v a a (with_process l p (Some g.y)) (with_acted l p w) (ap (kernel.goes_on s p) g.is ∙ f) refl (ap (with_acted l p) (sym g.acted))
-    (goes_mirrors s v a l p g.y h g.kept))
+goes_follows s t v a l p w z is g f h = (
+  with_acted l p w,
+  is,
+  mirrors_as (kernel.goes_on s p (plain_process g.y)) t v a a (with_process l p (Some g.y)) (with_acted l p w) (ap (kernel.goes_on s p) g.is ∙ f) refl (ap (with_acted l p) (sym g.acted))
+      (goes_mirrors s v a l p g.y h g.kept),
+)
 
 -- wait
 wait_row : (s t : OneKernel) (v : View) (a : Addresses) (l : Placed) (p : Pid) (next : kernel.Next) → ActsOf s v a l p next → kernel.waits s p next ≡ Some t → Mirrors s v a l → Follows t v a (acts v.acting l p)
@@ -283,9 +292,11 @@ out_follows s t v a l p word is h =
 
 -- end
 ends_follows : (s t : OneKernel) (v : View) (a : Addresses) (l : Placed) (p : Pid) (y : Why) (w : Acted) → acts v.acting l p ≡ Some (with_acted l p w) → w ≡ ended → kernels.with_process s p (Ended y) ≡ t → Mirrors s v a l → Follows t v a (acts v.acting l p)
-ends_follows s t v a l p y w is e f h =
-    (with_acted l p w, is,
-    mirrors_as (kernels.with_process s p (Ended y)) t v a a (with_process l p None) (with_acted l p w) f refl (ap (with_acted l p) (sym e)) (ends_mirrors s v a l p y h))
+ends_follows s t v a l p y w is e f h = (
+  with_acted l p w,
+  is,
+  mirrors_as (kernels.with_process s p (Ended y)) t v a a (with_process l p None) (with_acted l p w) f refl (ap (with_acted l p) (sym e)) (ends_mirrors s v a l p y h),
+)
 
 end_row : (s t : OneKernel) (v : View) (a : Addresses) (l : Placed) (p : Pid) (y : Why) (next : kernel.Next) → ActsOf s v a l p next → kernel.ends s p y next ≡ Some t → Mirrors s v a l → Follows t v a (acts v.acting l p)
 end_row s t v a l p y (kernel.Calls number (one.Ends because)) q is h =

@@ -1,6 +1,6 @@
 -- Messages without links that come in another's place, with places: answers, and what kernels say of ended processes and of
 -- want of room.
-use Rattle.std.proofs.Common.{◌≡◌, ℕ, List, [], ◌∷◌, Bool, true, false, refl, ap, ◌∙◌, sym, subst}
+use Rattle.std.proofs.Common.{◌≡◌, ℕ, List, [], Bool, refl, ap, ◌∙◌, sym, subst}
 use Rattle.std.specs.Prelude.{if◌then◌else◌, slice_get}
 use Rattle.std.specs.declared.option.Option.{Option}
 use Rattle.std.specs.declared.option.Option.TheVariants.{None, Some}
@@ -13,7 +13,6 @@ use Rattle.dm_message.specs.declared.What.TheVariants as what
 use Rattle.dm_message.specs.Plain as said
 use Rattle.dm_message.specs.Plain.{PlainMessage, PlainWhat, plain_message, plain_what, with_what}
 use Rattle.dm_onekernel.specs.declared.label.Label.TheVariants as label
-use Rattle.dm_onekernel.specs.declared.label.Why.{Why}
 use Rattle.dm_onekernel.specs.Options.{bind}
 use Rattle.dm_onekernel.specs.Kernel as kernels
 use Rattle.dm_onekernel.specs.Kernel.{OneKernel}
@@ -79,11 +78,13 @@ gone_follows s t v a l id is h =
     let (m, found, says) = there_of s l id k h.plain there in
     let hm = h.places.message id m found in
     let on = with_sent (without_message l id) (Some (gone_answer v.acting m)) in
-    let count : m.to.moves ≡ (a (Receiver id)).moves = ap (λ (p : Place). p.moves) (sym hm.receiver) in
-    (on, ap (λ (o : Option Message). bind o (λ (n : Message). Some (with_sent (without_message l id) (Some (gone_answer v.acting n))))) found,
-    subst (λ (u : OneKernel). Mirrors u v (given a (gives s v a (label.Gone id))) on) z.1
-    (subst (λ (n : ℕ). Mirrors (kernels.with_sent (service.without_message s id) (Some (answer_to k said.Gone))) v (given a (answers a id (record { at = v.acting; moves = n }))) on) count
-    (answer_mirrors (service.without_message s id) v a (without_message l id) id m k what.Gone said.Gone m.to.moves hm says refl refl (out_mirrors s v a l id h))))
+    let count : m.to.moves ≡ (a (Receiver id)).moves = ap (λ (p : Place). p.moves) (sym hm.receiver) in (
+      on,
+      ap (λ (o : Option Message). bind o (λ (n : Message). Some (with_sent (without_message l id) (Some (gone_answer v.acting n))))) found,
+      subst (λ (u : OneKernel). Mirrors u v (given a (gives s v a (label.Gone id))) on) z.1
+          (subst (λ (n : ℕ). Mirrors (kernels.with_sent (service.without_message s id) (Some (answer_to k said.Gone))) v (given a (answers a id (record { at = v.acting; moves = n }))) on) count
+          (answer_mirrors (service.without_message s id) v a (without_message l id) id m k what.Gone said.Gone m.to.moves hm says refl refl (out_mirrors s v a l id h))),
+    )
 
 -- nospace
 no_room_row : (s t : OneKernel) (v : View) (a : Addresses) (l : Placed) (id : MsgId) (m : Message) (k : PlainMessage) (u : PlainWhat) → service.has_no_room s id k u ≡ Some t → MirrorsMessage a id m → plain_message m ≡ Some k → Mirrors s v a l
@@ -98,7 +99,8 @@ pub no_space_follows : (s t : OneKernel) (v : View) (a : Addresses) (l : Placed)
     → Follows t v (given a (gives s v a (label.NoSpace id f b))) (bind (l.bag id) (λ (m : Message). Some (with_sent (without_message l id) (Some (answer v.acting 0 m what.NoRoom)))))
 no_space_follows s t v a l id f b is h =
     let (k, there, rest) = bind-is (s.bag id) (λ (w : PlainMessage). service.has_no_room s id w w.what) t is in
-    let (m, found, says) = there_of s l id k h.plain there in
-    (with_sent (without_message l id) (Some (answer v.acting 0 m what.NoRoom)),
-    ap (λ (o : Option Message). bind o (λ (n : Message). Some (with_sent (without_message l id) (Some (answer v.acting 0 n what.NoRoom))))) found,
-    no_room_row s t v a l id m k k.what rest (h.places.message id m found) says h)
+    let (m, found, says) = there_of s l id k h.plain there in (
+      with_sent (without_message l id) (Some (answer v.acting 0 m what.NoRoom)),
+      ap (λ (o : Option Message). bind o (λ (n : Message). Some (with_sent (without_message l id) (Some (answer v.acting 0 n what.NoRoom))))) found,
+      no_room_row s t v a l id m k k.what rest (h.places.message id m found) says h,
+    )

@@ -1,5 +1,5 @@
 -- What the switchboard takes, with places: each link that it keeps or hands out has the place that the lines say.
-use Rattle.std.proofs.Common.{◌≡◌, ℕ, zero, suc, ◌+◌, ◌==◌, ◌&&◌, Bool, true, false, List, [], ◌∷◌, ◌++◌, length, refl, ap, ◌∙◌, sym, subst, inl, inr, arith}
+use Rattle.std.proofs.Common.{◌≡◌, ℕ, zero, suc, ◌+◌, ◌==◌, ◌&&◌, Bool, true, false, List, [], ◌∷◌, ◌++◌, refl, ap, ◌∙◌, sym, subst, inl, inr, arith}
 use Rattle.std.specs.Prelude.{if◌then◌else◌, map, slice_get}
 use Rattle.std.specs.declared.option.Option.{Option}
 use Rattle.std.specs.declared.option.Option.TheVariants.{None, Some}
@@ -18,14 +18,13 @@ use Rattle.dm_message.specs.Plain as said
 use Rattle.dm_message.specs.Plain.{PlainMessage, PlainWhat, plain_what}
 use Rattle.dm_onekernel.specs.Boot.{is_general, switchboard}
 use Rattle.dm_onekernel.specs.Options.{bind}
-use Rattle.dm_onekernel.specs.Kernel as kernels
-use Rattle.dm_onekernel.specs.Kernel.{NamedLink, OneKernel, Switchboard}
+use Rattle.dm_onekernel.specs.Kernel.{OneKernel, Switchboard}
 use Rattle.dm_onekernel.specs.Service as service
 use Rattle.dm_onekernel.specs.Switchboard as one
 use Rattle.dm_onekernel.specs.Switchboard.{bytes_eq, is_name}
 use Rattle.dm_switchboard.specs.declared.reply.Reply.{Reply}
 use Rattle.dm_switchboard.specs.declared.reply.Reply.TheVariants as reply
-use Rattle.dm_switchboard.specs.Board.{Board, Named, plain_board, plain_named}
+use Rattle.dm_switchboard.specs.Board.{Named, plain_board, plain_named}
 use Rattle.dm_switchboard.specs.Taking as board
 use Rattle.dm_switchboard.specs.Taking.{Asked}
 use Rattle.dm_switchboard.proofs.Plain.{plain_answer, plain_asks, plain_asked, plain_reply}
@@ -35,12 +34,11 @@ use Rattle.dm_rule.specs.Addresses.{Addresses, gets, given, Receiver, Sender, En
 use Rattle.dm_rule.proofs.HomesRows.{SameProcess, SameMessage}
 use Rattle.dm_rule.proofs.HomesServes.{two, two_off}
 use Rattle.dm_rule.proofs.HomesServers.{get_last}
-use Rattle.dm_placed.specs.Placed.{Placed, Mirrors, MirrorsKernel, MirrorsMessage, MirrorsPlaces, enclosed}
-use Rattle.dm_placed.specs.PlacedStep as placed
-use Rattle.dm_placed.specs.PlacedStep.{board_took, with_sent, without_message}
+use Rattle.dm_placed.specs.Placed.{Placed, Mirrors, MirrorsKernel, MirrorsMessage, enclosed}
+use Rattle.dm_placed.specs.PlacedStep.{board_took, without_message}
 use Rattle.dm_placed.proofs.Keeps.{came_places, kernel_out, kernel_sent, out_mirrors, places_out, process_same}
 use Rattle.dm_placed.proofs.Acts.{Follows}
-use Rattle.dm_placed.proofs.Whats.{UserWhat, user_what}
+use Rattle.dm_placed.proofs.Whats.{user_what}
 
 -- the names and the answer after a request, where b is a with what the request gives
 record AskedKept (a b : Addresses) (sent : MsgId) (k : Asked) : Type 0 where
@@ -219,10 +217,12 @@ board_row s t v a l id m k (said.User code channel bytes ls) says hm at h e =
     let f : service.switchboard_took s id (one.takes_request s.switchboard bytes ls) ≡ t = cc in
     let body = w.body.items in
     let links = w.links.items in
-    let on = board_took (without_message l id) (board.takes_request l.board body links) in
-    (on, ap (λ (x : What). bind (board.takes l.board x) (λ (z : board.Taken). Some (board_took (without_message l id) z))) w.is,
-    subst (λ (q : OneKernel). Mirrors q v (given a (board_takes s v a id (said.User code channel bytes ls))) on) f
-    (subst (λ (bs : List ℕ). Mirrors (service.switchboard_took s id (one.takes_request s.switchboard bs ls)) v (given a (board_takes s v a id (said.User code channel bs ls))) on) w.bytes_are
-    (subst (λ (ks : List PlainLink). Mirrors (service.switchboard_took s id (one.takes_request s.switchboard body ks)) v (given a (board_takes s v a id (said.User code channel body ks))) on) w.links_are
-    (board_request s v a l id code channel body links (λ n x g. hm.enclosed n x (ap (λ (y : What). slice_get (enclosed y) n) w.is ∙ g)) at h))))
+    let on = board_took (without_message l id) (board.takes_request l.board body links) in (
+      on,
+      ap (λ (x : What). bind (board.takes l.board x) (λ (z : board.Taken). Some (board_took (without_message l id) z))) w.is,
+      subst (λ (q : OneKernel). Mirrors q v (given a (board_takes s v a id (said.User code channel bytes ls))) on) f
+          (subst (λ (bs : List ℕ). Mirrors (service.switchboard_took s id (one.takes_request s.switchboard bs ls)) v (given a (board_takes s v a id (said.User code channel bs ls))) on) w.bytes_are
+          (subst (λ (ks : List PlainLink). Mirrors (service.switchboard_took s id (one.takes_request s.switchboard body ks)) v (given a (board_takes s v a id (said.User code channel body ks))) on) w.links_are
+          (board_request s v a l id code channel body links (λ n x g. hm.enclosed n x (ap (λ (y : What). slice_get (enclosed y) n) w.is ∙ g)) at h))),
+    )
 board_row s t v a l id m k u says hm at h e = cc

@@ -1,5 +1,5 @@
 -- What a call leaves of a process with places, and of what it sends: each address that it gives is the one that stands there.
-use Rattle.std.proofs.Common.{◌≡◌, ℕ, zero, suc, ◌+◌, ◌==◌, ◌&&◌, ◌||◌, Bool, true, false, List, [], ◌∷◌, refl, ap, ◌∙◌, sym, subst, inl, inr, arith, nat_lt}
+use Rattle.std.proofs.Common.{◌≡◌, ℕ, zero, suc, ◌==◌, ◌&&◌, ◌||◌, Bool, true, false, List, [], ◌∷◌, refl, ap, ◌∙◌, sym, subst, inl, inr, arith, nat_lt}
 use Rattle.std.specs.Prelude.{⊤, if◌then◌else◌, map, slice_get, slice_set, filter_map}
 use Rattle.std.specs.List.{cons_option}
 use Rattle.std.specs.Option.{is_none}
@@ -7,14 +7,13 @@ use Rattle.std.specs.declared.option.Option.{Option}
 use Rattle.std.specs.declared.option.Option.TheVariants.{None, Some}
 use Rattle.std.proofs.lemmas.Bool.Decides.{nat_tests}
 use Rattle.dm_link.specs.declared.Pid.{Pid}
-use Rattle.dm_link.specs.declared.Addr.{Addr}
 use Rattle.dm_link.specs.declared.Link.{Link}
 use Rattle.dm_link.specs.Names.{Place, place_of, pid_eq}
 use Rattle.dm_link.specs.Plain.{plain_link}
 use Rattle.dm_linktable.specs.Slots.{first_empty, link_at, plain_slot}
 use Rattle.dm_message.specs.declared.MsgId.{MsgId}
 use Rattle.dm_message.specs.declared.Message.{Message}
-use Rattle.dm_message.specs.Ids.{id_eq, id_of}
+use Rattle.dm_message.specs.Ids.{id_eq}
 use Rattle.dm_message.specs.Plain.{PlainMessage, User, Read, Write, plain_message}
 use Rattle.dm_process.specs.declared.process.Process.{Process}
 use Rattle.dm_process.specs.declared.process.Direction.{Direction}
@@ -31,7 +30,6 @@ use Rattle.dm_onekernel.specs.Calls as one
 use Rattle.dm_onekernel.specs.Calls.{CallNumber}
 use Rattle.dm_onekernel.specs.Refusals.{first_failed}
 use Rattle.dm_onekernel.specs.Pieces.{piece_of}
-use Rattle.dm_datamove.specs.declared.Rest.{Rest}
 use Rattle.dm_datamove.specs.Requests.{address_of, moving, request}
 use Rattle.dm_syscall.specs.declared.Called.{Called}
 use Rattle.dm_syscall.specs.declared.Called.TheVariants as called

@@ -12,11 +12,9 @@ use Rattle.dm_link.specs.Plain.{PlainLink, plain_link}
 use Rattle.dm_linktable.specs.Slots.{link_at, plain_slot}
 use Rattle.dm_message.specs.declared.MsgId.{MsgId}
 use Rattle.dm_message.specs.declared.Message.{Message}
-use Rattle.dm_message.specs.declared.What.{What}
 use Rattle.dm_message.specs.declared.What.TheVariants as what
 use Rattle.dm_message.specs.Plain as said
 use Rattle.dm_message.specs.Plain.{PlainMessage, PlainWhat, plain_message, plain_what}
-use Rattle.dm_process.specs.declared.process.Process.{Process}
 use Rattle.dm_process.specs.Begun.{begun}
 use Rattle.dm_onekernel.specs.declared.boot.Format.{Format}
 use Rattle.dm_onekernel.specs.declared.boot.BootImage.{BootImage}
@@ -44,7 +42,7 @@ use Rattle.dm_placed.specs.PlacedStep.{with_child, with_sent, without_message}
 use Rattle.dm_placed.proofs.Keeps.{kernel_out, kernel_process, parts, places_out, places_process, there_of, this_process}
 use Rattle.dm_placed.proofs.Acts.{Follows}
 use Rattle.dm_placed.proofs.Answers.{answer_plainly, two_sends}
-use Rattle.dm_placed.proofs.Whats.{CreateWhat, create_what}
+use Rattle.dm_placed.proofs.Whats.{create_what}
 
 -- the slots of a process as it begins
 pub begun_link : (links : List Link) (n k : ℕ) (w : Link) → link_at (map Some links ++ replicate n None) k ≡ Some w → slice_get links k ≡ Some w
@@ -110,12 +108,13 @@ creates_row s t v a l id m k child (said.Create number ls) u is none hm says h =
     let w = create_what m.what number ls u in
     let links = w.links.items in
     let (image, image_is, last) = bind-is (slice_get s.images number) (service.creates_of s id k child ls) t is in
-    let on = with_sent (with_child (without_message l id) s.format child image links) (Some (answer v.acting 0 m (what.Created child))) in
-    (on,
-    ap (placed.creates v.acting s.format s.images (without_message l id) m child) w.is
-    ∙ ap (λ (o : Option BootImage). bind o (λ (i : BootImage). Some (with_sent (with_child (without_message l id) s.format child i links) (Some (answer v.acting 0 m (what.Created child)))))) image_is,
-    subst (λ (ks : List PlainLink). Mirrors t v (given a (answers a id (unmoved v.acting) ++ child_links a child id 0 ks)) on) w.links_are
-    (created_row s t v a l id m k child image links (ap (λ (ks : List PlainLink). service.creates_of s id k child ks image) w.links_are ∙ last) none hm says (ap enclosed w.is) h))
+    let on = with_sent (with_child (without_message l id) s.format child image links) (Some (answer v.acting 0 m (what.Created child))) in (
+      on,
+      ap (placed.creates v.acting s.format s.images (without_message l id) m child) w.is
+          ∙ ap (λ (o : Option BootImage). bind o (λ (i : BootImage). Some (with_sent (with_child (without_message l id) s.format child i links) (Some (answer v.acting 0 m (what.Created child)))))) image_is,
+      subst (λ (ks : List PlainLink). Mirrors t v (given a (answers a id (unmoved v.acting) ++ child_links a child id 0 ks)) on) w.links_are
+          (created_row s t v a l id m k child image links (ap (λ (ks : List PlainLink). service.creates_of s id k child ks image) w.links_are ∙ last) none hm says (ap enclosed w.is) h),
+    )
 creates_row s t v a l id m k child u says is none hm there h = cc
 
 -- created: a process that is made now hasn't moved yet
@@ -124,6 +123,8 @@ pub created_follows : (s t : OneKernel) (v : View) (a : Addresses) (l : Placed) 
 created_follows s t v a l id child is none h =
     let (k, there, rest) = bind-is (s.bag id) (λ (w : PlainMessage). service.creates s id w child w.what) t is in
     let (m, found, says) = there_of s l id k h.plain there in
-    let (on, step, mirrors) = creates_row s t v a l id m k child k.what (parts m k says).what rest none (h.places.message id m found) says h in
-    (on, ap (λ (o : Option Message). bind o (λ (n : Message). placed.creates v.acting s.format s.images (without_message l id) n child n.what)) found ∙ step,
-    subst (λ (gs : List Gets). Mirrors t v (given a gs) on) (ap (addresses.creates v a id child) (sym there)) mirrors)
+    let (on, step, mirrors) = creates_row s t v a l id m k child k.what (parts m k says).what rest none (h.places.message id m found) says h in (
+      on,
+      ap (λ (o : Option Message). bind o (λ (n : Message). placed.creates v.acting s.format s.images (without_message l id) n child n.what)) found ∙ step,
+      subst (λ (gs : List Gets). Mirrors t v (given a gs) on) (ap (addresses.creates v a id child) (sym there)) mirrors,
+    )

@@ -1,5 +1,5 @@
 -- What a step with places leaves as it is.
-use Rattle.std.proofs.Common.{◌≡◌, ℕ, Bool, true, false, List, refl, ap, ◌∙◌, sym, subst}
+use Rattle.std.proofs.Common.{◌≡◌, ℕ, Bool, true, false, List, refl, ap, sym, subst}
 use Rattle.std.specs.Prelude.{if◌then◌else◌, slice_get}
 use Rattle.std.specs.declared.option.Option.{Option}
 use Rattle.std.specs.declared.option.Option.TheVariants.{None, Some}
@@ -31,7 +31,7 @@ use Rattle.dm_procman.specs.Taking as manage
 use Rattle.dm_laws.proofs.Steps.{bind-is}
 use Rattle.dm_placed.specs.Placed.{Placed}
 use Rattle.dm_placed.specs.PlacedStep.{Acted, acted, acts, after_landing, answers, board_took, completed, creates, lands, machine_of, manager_took, ran, running, serves, takes, with_acted, with_child, with_machine, with_process, with_sent, without_message}
-use Rattle.dm_placed.specs.Changes.{Changes, StepsChangeLittle, changed, is_named, is_took, receiver_in, taken, taken_out}
+use Rattle.dm_placed.specs.Changes.{Changes, StepsChangeLittle, changed, is_named, receiver_in, taken, taken_out}
 
 -- a process set, and a message sent or none
 kept_process : (l : Placed) (p : Pid) (x : Option Process) (o : Option Message) (q : Pid) → pid_eq p q ≡ false → (with_sent (with_process l p x) o).processes q ≡ l.processes q

@@ -17,3 +17,4 @@ pub mod Groups
 pub mod Worked
 pub mod Frames
 pub mod Queues
+pub mod Constants

@@ -1,5 +1,5 @@
 -- Lines that are no steps leave the kernel with places as it is, and a line that is one leads on.
-use Rattle.std.proofs.Common.{◌≡◌, ℕ, refl, ap, ◌∙◌, sym, subst, List, []}
+use Rattle.std.proofs.Common.{◌≡◌, ℕ, refl, ap, ◌∙◌, sym, subst}
 use Rattle.std.specs.declared.option.Option.{Option}
 use Rattle.std.specs.declared.option.Option.TheVariants.{None, Some}
 use Rattle.dm_link.specs.declared.Pid.{Pid}
@@ -17,9 +17,9 @@ use Rattle.dm_rule.specs.declared.line.Stage.TheVariants as stage
 use Rattle.dm_rule.specs.View as view
 use Rattle.dm_rule.specs.View.{View, Told, after_head, after_label, handled, view_after}
 use Rattle.dm_rule.specs.Addresses.{Addresses}
-use Rattle.dm_rule.specs.Point.{Point, moved}
+use Rattle.dm_rule.specs.Point.{Point}
 use Rattle.dm_placed.specs.Placed.{Placed, Mirrors}
-use Rattle.dm_placed.specs.Laws.{KeepsPlaces, LinesKeep}
+use Rattle.dm_placed.specs.Laws.{LinesKeep}
 
 -- another view, in which as many moves are counted
 pub mirrors_view : (s : OneKernel) (v w : View) (a : Addresses) (l : Placed) → w.moves ≡ v.moves → Mirrors s v a l → Mirrors s w a l

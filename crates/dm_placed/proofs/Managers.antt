@@ -1,21 +1,19 @@
 -- What the process manager takes, with places: it tells kernels and children, and answers over links, where the lines say.
-use Rattle.std.proofs.Common.{◌≡◌, ℕ, zero, suc, ◌+◌, ◌*◌, ◌==◌, ◌&&◌, Bool, true, false, List, [], ◌∷◌, ◌++◌, length, refl, ap, ◌∙◌, sym, subst, inl, inr, nat_lt, arith}
+use Rattle.std.proofs.Common.{◌≡◌, ℕ, suc, ◌+◌, ◌*◌, ◌==◌, ◌&&◌, Bool, true, false, List, [], ◌∷◌, length, refl, ap, ◌∙◌, sym, subst, inl, inr, nat_lt, arith}
 use Rattle.std.specs.Prelude.{if◌then◌else◌, map, option_map, slice_get}
 use Rattle.std.specs.declared.option.Option.{Option}
 use Rattle.std.specs.declared.option.Option.TheVariants.{None, Some}
 use Rattle.std.proofs.lemmas.Bool.Decides.{nat_tests}
-use Rattle.std.proofs.lemmas.List.{length-map}
 use Rattle.std.proofs.lemmas.Option.{slice_get-map}
 use Rattle.dm_link.specs.declared.Pid.{Pid}
 use Rattle.dm_link.specs.declared.Addr.{Addr}
 use Rattle.dm_link.specs.declared.Link.{Link}
-use Rattle.dm_link.specs.Names.{Place, pid_eq, place_of}
-use Rattle.dm_link.specs.Plain.{PlainLink, plain_link}
+use Rattle.dm_link.specs.Names.{place_of}
+use Rattle.dm_link.specs.Plain.{plain_link}
 use Rattle.dm_message.specs.declared.MsgId.{MsgId}
-use Rattle.dm_message.specs.declared.Message.{Message}
 use Rattle.dm_message.specs.declared.What.{What}
 use Rattle.dm_message.specs.declared.What.TheVariants as what
-use Rattle.dm_message.specs.Ids.{id_eq, id_of}
+use Rattle.dm_message.specs.Ids.{id_of}
 use Rattle.dm_message.specs.Plain as said
 use Rattle.dm_message.specs.Plain.{PlainMessage, PlainWhat, plain_message, plain_what}
 use Rattle.dm_onekernel.specs.Boot.{manager}
@@ -26,7 +24,7 @@ use Rattle.dm_onekernel.specs.Service as service
 use Rattle.dm_onekernel.specs.Switchboard.{goes_over}
 use Rattle.dm_procman.specs.declared.pending.Pending.{Pending}
 use Rattle.dm_procman.specs.Managing.{Managing, plain_child, plain_manager, plain_pending}
-use Rattle.dm_procman.specs.Making.{answer_over, control_link, kernel, message_to}
+use Rattle.dm_procman.specs.Making.{answer_over, kernel, message_to}
 use Rattle.dm_procman.specs.Taking as take
 use Rattle.dm_procman.specs.Taking.{Taken, child_numbered, pending_numbered}
 use Rattle.dm_procman.proofs.Plain.{plain_numbered, plain_push}
@@ -38,7 +36,7 @@ use Rattle.dm_rule.proofs.HomesRows.{encloses_servers, encloses_process, enclose
 use Rattle.dm_rule.proofs.HomesServes.{two}
 use Rattle.dm_rule.proofs.HomesManager.{enclosed_at}
 use Rattle.dm_placed.specs.Placed.{Placed, Mirrors, MirrorsKernel, enclosed}
-use Rattle.dm_placed.specs.PlacedStep.{manager_took, with_sent, without_message}
+use Rattle.dm_placed.specs.PlacedStep.{manager_took, without_message}
 use Rattle.dm_placed.proofs.Keeps.{came_places, kernel_out, kernel_sent, places_out, process_same}
 use Rattle.dm_placed.proofs.Answers.{two_sends}
 use Rattle.dm_placed.proofs.Pendings.{numbered_below, pending_last}

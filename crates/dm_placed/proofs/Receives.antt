@@ -1,5 +1,5 @@
 -- Receives and refusals, with places: each link of a message goes into the slot that the lines say, with its place.
-use Rattle.std.proofs.Common.{◌≡◌, ℕ, zero, suc, ◌+◌, ◌==◌, ◌&&◌, Bool, true, false, List, [], ◌∷◌, ◌++◌, length, refl, ap, ◌∙◌, sym, subst, inl, inr, arith}
+use Rattle.std.proofs.Common.{◌≡◌, ℕ, suc, ◌+◌, ◌==◌, ◌&&◌, Bool, true, false, List, [], ◌∷◌, ◌++◌, length, refl, ap, ◌∙◌, sym, subst, inl, inr, arith}
 use Rattle.std.specs.Prelude.{if◌then◌else◌, map, slice_get, slice_set}
 use Rattle.std.specs.declared.option.Option.{Option}
 use Rattle.std.specs.declared.option.Option.TheVariants.{None, Some}
@@ -14,7 +14,6 @@ use Rattle.dm_linktable.specs.Slots.{first_empty, link_at, plain_slot}
 use Rattle.dm_message.specs.declared.MsgId.{MsgId}
 use Rattle.dm_message.specs.declared.Message.{Message}
 use Rattle.dm_message.specs.declared.What.{What}
-use Rattle.dm_message.specs.declared.What.TheVariants as what
 use Rattle.dm_message.specs.Plain as said
 use Rattle.dm_message.specs.Plain.{PlainMessage, PlainWhat, plain_message, plain_what}
 use Rattle.dm_process.specs.declared.process.Process.{Process}
@@ -50,7 +49,7 @@ use Rattle.dm_placed.specs.PlacedStep as placed
 use Rattle.dm_placed.specs.PlacedStep.{with_process, without_message}
 use Rattle.dm_placed.proofs.Keeps.{alive_of, there_of, parts, goes_mirrors, kernel_out, kernel_process, places_out, places_process, this_process}
 use Rattle.dm_placed.proofs.Acts.{Follows, mirrors_as}
-use Rattle.dm_placed.proofs.Whats.{UserWhat, user_what}
+use Rattle.dm_placed.proofs.Whats.{user_what}
 
 -- the slots that links go into, and what they get
 abbrev table_after : List (Option Link) → Link → Option ℕ → List (Option Link)
@@ -262,14 +261,16 @@ receive_row s t v a l p id (one.Receives z) w f h =
     let gs_is : gs ≡ gives s v a (label.Receive p id) = ap (addresses.receives a p id (Some (plain_process w.x))) (sym w.there) ∙ ap (λ (o : Option PlainProcess). addresses.receives a p id o (s.bag id)) (sym w.alive) in
     let y = w.e.process in
     let o = w.kept.only in
-    let on = with_process (without_message l id) p (Some y) in
-    (on, ap (λ (q : Option Completion). bind q (λ (e : Completion). Some (with_process (without_message l id) p (Some e.process)))) w.completed,
-    mirrors_as (kernel.goes_on (service.without_message s id) p (plain_process y)) t v (given a gs) (given a (gives s v a (label.Receive p id))) on on
-    (ap (kernel.goes_on (service.without_message s id) p) (received_is w.e.completed y z w.plain) ∙ eq) (ap (given a) gs_is) refl
-    (record {
-      plain = kernel_process (service.without_message s id) (without_message l id) p (Alive (plain_process y)) (Some y) refl (kernel_out s l id h.plain);
-      places = places_process v a (given a gs) (without_message l id) p (Some y) (places_out v a l id h.places) o.others (this_process v (given a gs) p y w.kept.process) o.messages o.servers;
-    }))
+    let on = with_process (without_message l id) p (Some y) in (
+      on,
+      ap (λ (q : Option Completion). bind q (λ (e : Completion). Some (with_process (without_message l id) p (Some e.process)))) w.completed,
+      mirrors_as (kernel.goes_on (service.without_message s id) p (plain_process y)) t v (given a gs) (given a (gives s v a (label.Receive p id))) on on
+          (ap (kernel.goes_on (service.without_message s id) p) (received_is w.e.completed y z w.plain) ∙ eq) (ap (given a) gs_is) refl
+          (record {
+            plain = kernel_process (service.without_message s id) (without_message l id) p (Alive (plain_process y)) (Some y) refl (kernel_out s l id h.plain);
+            places = places_process v a (given a gs) (without_message l id) p (Some y) (places_out v a l id h.places) o.others (this_process v (given a gs) p y w.kept.process) o.messages o.servers;
+          }),
+    )
 receive_row s t v a l p id (one.Refuses c z) w f h = cc
 
 pub receive_follows : (s t : OneKernel) (v : View) (a : Addresses) (l : Placed) (p : Pid) (id : MsgId) → kernel.step s (label.Receive p id) ≡ Some t → Mirrors s v a l
@@ -285,9 +286,11 @@ refuse_row s t v a l p id r (one.Receives z) w f h = cc
 refuse_row s t v a l p id r (one.Refuses c z) w f h =
     let k = when-is (reply_eq r c) (kernel.goes_on s p z) t f in
     let y = w.e.process in
-    let on = with_process l p (Some y) in
-    (on, ap (λ (q : Option Completion). bind q (λ (e : Completion). Some (with_process l p (Some e.process)))) w.completed,
-    subst (λ (u : OneKernel). Mirrors u v a on) (ap (kernel.goes_on s p) (refused_is w.e.completed y c z w.plain) ∙ k.1) (goes_mirrors s v a l p y h w.kept))
+    let on = with_process l p (Some y) in (
+      on,
+      ap (λ (q : Option Completion). bind q (λ (e : Completion). Some (with_process l p (Some e.process)))) w.completed,
+      subst (λ (u : OneKernel). Mirrors u v a on) (ap (kernel.goes_on s p) (refused_is w.e.completed y c z w.plain) ∙ k.1) (goes_mirrors s v a l p y h w.kept),
+    )
 
 pub refuse_follows : (s t : OneKernel) (v : View) (a : Addresses) (l : Placed) (p : Pid) (id : MsgId) (r : Reply) → kernel.step s (label.Refuse p id r) ≡ Some t → Mirrors s v a l
     → Follows t v a (bind (placed.completed l p id) (λ (e : Completion). Some (with_process l p (Some e.process))))

@@ -1,12 +1,12 @@
 -- What is served with places: control messages, pieces of data moves, and their landing.
-use Rattle.std.proofs.Common.{◌≡◌, ℕ, ◌+◌, ◌-◌, ◌==◌, ◌&&◌, Bool, true, false, List, [], ◌∷◌, length, refl, ap, ◌∙◌, sym, subst, nat_le}
+use Rattle.std.proofs.Common.{◌≡◌, ℕ, ◌+◌, ◌-◌, ◌==◌, ◌&&◌, Bool, true, false, List, [], length, refl, ap, ◌∙◌, sym, subst, nat_le}
 use Rattle.std.specs.Prelude.{if◌then◌else◌, take, drop}
 use Rattle.std.specs.declared.option.Option.{Option}
 use Rattle.std.specs.declared.option.Option.TheVariants.{None, Some}
 use Rattle.arrayvec.specs.ArrayVec.{ArrayVec}
 use Rattle.dm_link.specs.declared.Pid.{Pid}
 use Rattle.dm_link.specs.declared.Addr.{Addr}
-use Rattle.dm_link.specs.Names.{Place, place_of}
+use Rattle.dm_link.specs.Names.{place_of}
 use Rattle.dm_message.specs.declared.MsgId.{MsgId}
 use Rattle.dm_message.specs.declared.Message.{Message}
 use Rattle.dm_message.specs.declared.What.{What}
@@ -36,7 +36,6 @@ use Rattle.dm_datamove.specs.declared.Landed.{Landed}
 use Rattle.dm_datamove.specs.declared.Landed.TheVariants as landed
 use Rattle.dm_datamove.specs.Landing as landing
 use Rattle.dm_datamove.specs.Landing.{Landing, plain_landed}
-use Rattle.dm_datamove.specs.Requests.{address_of}
 use Rattle.dm_datamove.specs.Serving.{after_serving, answer, answer_of, answer_with, serving_answer}
 use Rattle.dm_datamove.proofs.Landings.{ends_plainly, goes_on_plainly}
 use Rattle.dm_laws.proofs.Steps.{bind-is}
@@ -51,7 +50,7 @@ use Rattle.dm_placed.proofs.Keeps.{alive_of, ends_mirrors, goes_mirrors, out_mir
 use Rattle.dm_placed.proofs.Calls.{stands_here}
 use Rattle.dm_placed.proofs.Acts.{Follows}
 use Rattle.dm_placed.proofs.Answers.{answer_mirrors, two_sends}
-use Rattle.dm_placed.proofs.Whats.{WriteWhat, BlockWhat, read_what, write_what, block_what, stop_what, resume_what, kill_what, written_what, gone_what}
+use Rattle.dm_placed.proofs.Whats.{read_what, write_what, block_what, stop_what, resume_what, kill_what, written_what, gone_what}
 
 -- a message without places that says this
 abbrev pub plainly : Message → PlainWhat → PlainMessage
@@ -167,11 +166,13 @@ lands_row s t v a l id m x u says hx h e =
     let (c, is, last) = bind-is o (λ (w : pieces.Landed). Some (service.landed s id (plainly m u) w)) t e in
     let k : service.landed s id (plainly m u) c ≡ t = cc in
     let g = lands_of v a m.to.pid x m u x.status c refl says hx is in
-    let on = after_landing (without_message l id) m.to.pid g.d.landed g.d.process in
-    (on, ap (λ (w : Option Landing). bind w (λ (d : Landing). Some (after_landing (without_message l id) m.to.pid d.landed d.process))) g.lands,
-    subst (λ (z : OneKernel). Mirrors z v (given a (lands v a m.to.pid o)) on) k
-    (subst (λ (z : Option pieces.Landed). Mirrors (service.landed s id (plainly m u) c) v (given a (lands v a m.to.pid z)) on) (sym is)
-    (landed_mirrors s v a l id m u g.d.landed g.d.process c g.plain g.kept h)))
+    let on = after_landing (without_message l id) m.to.pid g.d.landed g.d.process in (
+      on,
+      ap (λ (w : Option Landing). bind w (λ (d : Landing). Some (after_landing (without_message l id) m.to.pid d.landed d.process))) g.lands,
+      subst (λ (z : OneKernel). Mirrors z v (given a (lands v a m.to.pid o)) on) k
+          (subst (λ (z : Option pieces.Landed). Mirrors (service.landed s id (plainly m u) c) v (given a (lands v a m.to.pid z)) on) (sym is)
+          (landed_mirrors s v a l id m u g.d.landed g.d.process c g.plain g.kept h)),
+    )
 
 -- where the owner has ended nothing is sent
 gone_row : (s t : OneKernel) (v : View) (a : Addresses) (l : Placed) (id : MsgId) (m : Message) (x : Process) → plain_what m.what ≡ Some said.Gone → MirrorsProcess v a m.to.pid x → Mirrors s v a l
@@ -192,13 +193,14 @@ answers_row s v a l id m x y u r w hm says ws none hx hy h e f =
     let k = plainly m u in
     let t = service.answered s id k (record { process = plain_process y; answer = answer_to k r }) in
     let n = answer v.acting x.moves m w in
-    let on = with_sent (with_process (without_message l id) m.to.pid (Some y)) (Some n) in
-    (on,
-    ap (λ (o : Option Message). bind o (λ (z : Message). Some (with_sent (with_process (without_message l id) m.to.pid (Some (after_serving x m.what))) (Some z)))) e
-    ∙ ap (λ (z : Process). Some (with_sent (with_process (without_message l id) m.to.pid (Some z)) (Some n))) f,
-    subst (λ (c : ℕ). Mirrors t v (given a (answers a id (record { at = v.acting; moves = c }))) on) hx.moves
-    (answer_mirrors (service.changed s id k (plain_process y)) v a (with_process (without_message l id) m.to.pid (Some y)) id m k w r x.moves hm (ap (said.with_what m) says) ws none
-    (goes_mirrors (service.without_message s id) v a (without_message l id) m.to.pid y (out_mirrors s v a l id h) hy)))
+    let on = with_sent (with_process (without_message l id) m.to.pid (Some y)) (Some n) in (
+      on,
+      ap (λ (o : Option Message). bind o (λ (z : Message). Some (with_sent (with_process (without_message l id) m.to.pid (Some (after_serving x m.what))) (Some z)))) e
+          ∙ ap (λ (z : Process). Some (with_sent (with_process (without_message l id) m.to.pid (Some z)) (Some n))) f,
+      subst (λ (c : ℕ). Mirrors t v (given a (answers a id (record { at = v.acting; moves = c }))) on) hx.moves
+          (answer_mirrors (service.changed s id k (plain_process y)) v a (with_process (without_message l id) m.to.pid (Some y)) id m k w r x.moves hm (ap (said.with_what m) says) ws none
+          (goes_mirrors (service.without_message s id) v a (without_message l id) m.to.pid y (out_mirrors s v a l id h) hy)),
+    )
 
 -- a row a kind
 serve_row : (s t : OneKernel) (v : View) (a : Addresses) (l : Placed) (id : MsgId) (m : Message) (x : Process) (u : PlainWhat) → plain_what m.what ≡ Some u → service.serves s id (plainly m u) (plain_process x) u ≡ Some t → MirrorsMessage a id m
@@ -206,20 +208,26 @@ serve_row : (s t : OneKernel) (v : View) (a : Addresses) (l : Placed) (id : MsgI
 serve_row s t v a l id m x said.Stop says is hm hx h =
     let y : Process = record x { stopped = true } in
     let k : service.changed s id (plainly m said.Stop) (plain_process y) ≡ t = cc in
-    let on = with_process (without_message l id) m.to.pid (Some y) in
-    (on, ap (placed.serves v.acting (without_message l id) m x) (stop_what m.what says),
-    subst (λ (z : OneKernel). Mirrors z v a on) k (goes_mirrors (service.without_message s id) v a (without_message l id) m.to.pid y (out_mirrors s v a l id h) (record { pid = hx.pid; moves = hx.moves; slots = hx.slots; owner = hx.owner })))
+    let on = with_process (without_message l id) m.to.pid (Some y) in (
+      on,
+      ap (placed.serves v.acting (without_message l id) m x) (stop_what m.what says),
+      subst (λ (z : OneKernel). Mirrors z v a on) k (goes_mirrors (service.without_message s id) v a (without_message l id) m.to.pid y (out_mirrors s v a l id h) (record { pid = hx.pid; moves = hx.moves; slots = hx.slots; owner = hx.owner })),
+    )
 serve_row s t v a l id m x said.Resume says is hm hx h =
     let y : Process = record x { stopped = false } in
     let k : service.changed s id (plainly m said.Resume) (plain_process y) ≡ t = cc in
-    let on = with_process (without_message l id) m.to.pid (Some y) in
-    (on, ap (placed.serves v.acting (without_message l id) m x) (resume_what m.what says),
-    subst (λ (z : OneKernel). Mirrors z v a on) k (goes_mirrors (service.without_message s id) v a (without_message l id) m.to.pid y (out_mirrors s v a l id h) (record { pid = hx.pid; moves = hx.moves; slots = hx.slots; owner = hx.owner })))
+    let on = with_process (without_message l id) m.to.pid (Some y) in (
+      on,
+      ap (placed.serves v.acting (without_message l id) m x) (resume_what m.what says),
+      subst (λ (z : OneKernel). Mirrors z v a on) k (goes_mirrors (service.without_message s id) v a (without_message l id) m.to.pid y (out_mirrors s v a l id h) (record { pid = hx.pid; moves = hx.moves; slots = hx.slots; owner = hx.owner })),
+    )
 serve_row s t v a l id m x said.Kill says is hm hx h =
     let k : kernels.with_process (service.without_message s id) m.to.pid (Ended why.Killed) ≡ t = cc in
-    let on = with_process (without_message l id) m.to.pid None in
-    (on, ap (placed.serves v.acting (without_message l id) m x) (kill_what m.what says),
-    subst (λ (z : OneKernel). Mirrors z v a on) k (ends_mirrors (service.without_message s id) v a (without_message l id) m.to.pid why.Killed (out_mirrors s v a l id h)))
+    let on = with_process (without_message l id) m.to.pid None in (
+      on,
+      ap (placed.serves v.acting (without_message l id) m x) (kill_what m.what says),
+      subst (λ (z : OneKernel). Mirrors z v a on) k (ends_mirrors (service.without_message s id) v a (without_message l id) m.to.pid why.Killed (out_mirrors s v a l id h)),
+    )
 serve_row s t v a l id m x (said.Read base len) says is hm hx h =
     let k = plainly m (said.Read base len) in
     let bytes = take len (drop base x.memory) in
@@ -229,7 +237,7 @@ serve_row s t v a l id m x (said.Read base len) says is hm hx h =
     let f : service.answered s id k c ≡ t = cc in
     let w = read_what m.what base len says in
     let (on, step, mirrors) = answers_row s v a l id m x x (said.Read base len) (said.Block bytes) (what.Block body) hm says refl refl hx hx h
-        (ap (λ (q : What). answer_with v.acting x m (answer_of x q)) w) (ap (after_serving x) w) in
+    (ap (λ (q : What). answer_with v.acting x m (answer_of x q)) w) (ap (after_serving x) w) in
     (on, ap (placed.serves v.acting (without_message l id) m x) w ∙ step, subst (λ (q : OneKernel). Mirrors q v (given a (answers a id (here v m.to.pid))) on) (ap (service.answered s id k) z ∙ f) mirrors)
 serve_row s t v a l id m x (said.Write base bytes) says is hm hx h =
     let k = plainly m (said.Write base bytes) in
@@ -240,9 +248,11 @@ serve_row s t v a l id m x (said.Write base bytes) says is hm hx h =
     let z = some_is (nat_le (base + length bytes) (length x.memory)) (record { process = record (plain_process x) { memory = written_at x.memory base bytes }; answer = answer_to k said.Written }) c served in
     let f : service.answered s id k c ≡ t = cc in
     let (on, step, mirrors) = answers_row s v a l id m x y (said.Write base bytes) said.Written what.Written hm says refl refl hx (record { pid = hx.pid; moves = hx.moves; slots = hx.slots; owner = hx.owner }) h
-        (ap (λ (q : What). answer_with v.acting x m (answer_of x q)) b.is) (ap (after_serving x) b.is) in
-    (on, ap (placed.serves v.acting (without_message l id) m x) b.is ∙ step,
-    subst (λ (q : OneKernel). Mirrors q v (given a (answers a id (here v m.to.pid))) on) (ap (λ (p : PlainProcess). service.answered s id k (record { process = p; answer = answer_to k said.Written })) y_is ∙ ap (service.answered s id k) z ∙ f) mirrors)
+    (ap (λ (q : What). answer_with v.acting x m (answer_of x q)) b.is) (ap (after_serving x) b.is) in (
+      on,
+      ap (placed.serves v.acting (without_message l id) m x) b.is ∙ step,
+      subst (λ (q : OneKernel). Mirrors q v (given a (answers a id (here v m.to.pid))) on) (ap (λ (p : PlainProcess). service.answered s id k (record { process = p; answer = answer_to k said.Written })) y_is ∙ ap (service.answered s id k) z ∙ f) mirrors,
+    )
 serve_row s t v a l id m x (said.Block bytes) says is hm hx h =
     let (on, step, mirrors) = lands_row s t v a l id m x (said.Block bytes) says hx h is in
     (on, ap (placed.serves v.acting (without_message l id) m x) (block_what m.what bytes says).is ∙ step, mirrors)
@@ -263,12 +273,13 @@ served_follows s t v a l id is h =
     let u = k.what in
     let km = plainly_is m k says in
     let (z, alive, last) = bind-is (kernel.alive (s.processes m.to.pid)) (λ (p : PlainProcess). service.serves s id (plainly m u) p u) t
-        (ap (λ (w : PlainMessage). bind (kernel.alive (s.processes w.to)) (λ (p : PlainProcess). service.serves s id w p w.what)) (sym km) ∙ rest) in
+    (ap (λ (w : PlainMessage). bind (kernel.alive (s.processes w.to)) (λ (p : PlainProcess). service.serves s id w p w.what)) (sym km) ∙ rest) in
     let (x, stands, x_is) = alive_of s l m.to.pid z h.plain alive in
     let gs_is : serves_what v a id (plainly m u) (plain_process x) u ≡ gives s v a (label.Served id) =
     ap (λ (p : PlainProcess). serves_what v a id (plainly m u) p u) x_is ∙ ap (addresses.serves_alive v a id (plainly m u)) (sym alive) ∙ ap (λ (w : PlainMessage). addresses.serves s v a id (Some w)) (sym km) ∙ ap (addresses.serves s v a id) (sym there) in
-    let (on, step, mirrors) = serve_row s t v a l id m x u (parts m k says).what (ap (λ (p : PlainProcess). service.serves s id (plainly m u) p u) x_is ∙ last) (h.places.message id m found) (h.places.process m.to.pid x stands) h in
-    (on,
-    ap (λ (o : Option Message). bind o (λ (n : Message). bind (l.processes n.to.pid) (λ (y : Process). placed.serves v.acting (without_message l id) n y n.what))) found
-    ∙ ap (λ (o : Option Process). bind o (λ (y : Process). placed.serves v.acting (without_message l id) m y m.what)) stands ∙ step,
-    subst (λ (gs : List Gets). Mirrors t v (given a gs) on) gs_is mirrors)
+    let (on, step, mirrors) = serve_row s t v a l id m x u (parts m k says).what (ap (λ (p : PlainProcess). service.serves s id (plainly m u) p u) x_is ∙ last) (h.places.message id m found) (h.places.process m.to.pid x stands) h in (
+      on,
+      ap (λ (o : Option Message). bind o (λ (n : Message). bind (l.processes n.to.pid) (λ (y : Process). placed.serves v.acting (without_message l id) n y n.what))) found
+          ∙ ap (λ (o : Option Process). bind o (λ (y : Process). placed.serves v.acting (without_message l id) m y m.what)) stands ∙ step,
+      subst (λ (gs : List Gets). Mirrors t v (given a gs) on) gs_is mirrors,
+    )

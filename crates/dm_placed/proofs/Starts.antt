@@ -1,5 +1,5 @@
 -- Where a run begins, the boot file's processes with their links mirror the first point.
-use Rattle.std.proofs.Common.{◌≡◌, ℕ, zero, suc, ◌-◌, Bool, true, false, List, [], ◌∷◌, ◌++◌, length, refl, ap, ◌∙◌, sym, subst, inl, inr}
+use Rattle.std.proofs.Common.{◌≡◌, ℕ, zero, suc, ◌-◌, Bool, true, false, List, [], ◌∷◌, length, refl, ap, ◌∙◌, sym, subst, inl, inr}
 use Rattle.std.specs.Prelude.{if◌then◌else◌, map, option_map, slice_get}
 use Rattle.std.specs.declared.option.Option.{Option}
 use Rattle.std.specs.declared.option.Option.TheVariants.{None, Some}
@@ -26,7 +26,7 @@ use Rattle.dm_laws.proofs.Equal.{pid_eq-is}
 use Rattle.dm_rule.specs.View.{first_view}
 use Rattle.dm_rule.specs.Addresses.{first_addresses, home_of, links_at, nth_child, place_in, unmoved}
 use Rattle.dm_placed.specs.Placed.{MirrorsProcess}
-use Rattle.dm_placed.specs.PlacedStart.{placed_start, started, started_at}
+use Rattle.dm_placed.specs.PlacedStart.{started, started_at}
 use Rattle.dm_placed.specs.Laws.{StartMirrors}
 use Rattle.dm_placed.proofs.Creates.{begun_link, begun_plainly}
 

@@ -19,7 +19,6 @@ use Rattle.dm_message.specs.Plain.{PlainMessage, PlainWhat, plain_message, plain
 use Rattle.dm_onekernel.specs.declared.label.Label.TheVariants as label
 use Rattle.dm_onekernel.specs.Boot.{manager, switchboard}
 use Rattle.dm_onekernel.specs.Options.{bind}
-use Rattle.dm_onekernel.specs.Kernel as kernels
 use Rattle.dm_onekernel.specs.Kernel.{Manager, OneKernel}
 use Rattle.dm_onekernel.specs.Manager as one
 use Rattle.dm_onekernel.specs.Service as service
@@ -42,12 +41,12 @@ use Rattle.dm_rule.proofs.HomesRows.{SameProcess, SameMessage}
 use Rattle.dm_placed.specs.Placed.{Placed, Mirrors, MirrorsKernel, MirrorsMessage, enclosed}
 use Rattle.dm_placed.specs.PlacedStep as placed
 use Rattle.dm_placed.specs.PlacedStep.{board_took, manager_took, without_message}
-use Rattle.dm_placed.proofs.Keeps.{came_places, kernel_out, kernel_sent, of_map, parts, places_out, process_same, there_of}
+use Rattle.dm_placed.proofs.Keeps.{came_places, kernel_out, kernel_sent, parts, places_out, process_same, there_of}
 use Rattle.dm_placed.proofs.Acts.{Follows}
 use Rattle.dm_placed.proofs.Boards.{board_row}
 use Rattle.dm_placed.proofs.Pendings.{child_last, still_pending}
 use Rattle.dm_placed.proofs.Managers.{InOrder, user_mirrors}
-use Rattle.dm_placed.proofs.Whats.{UserWhat, user_what, created_what, no_room_what}
+use Rattle.dm_placed.proofs.Whats.{user_what, created_what, no_room_what}
 
 -- the link of an answer about a child, if it carries one
 enclosed_one : (a : Addresses) (sent : MsgId) (pl : Place) (ls : List Link) → ((k : ℕ) (w : Link) → slice_get ls k ≡ Some w → (k ≡ 0) × (pl ≡ place_of w.addr)) → (k : ℕ) (w : Link) → slice_get ls k ≡ Some w
@@ -156,7 +155,7 @@ created_by s v a l id n child (Some r) k is e at order h =
     in
     let t = take.answers g r.answer 0 (w ∷ []) in
     let u = answers_mirrors s v a c l id n r g after 0 (w ∷ []) is at order h (one_link (unmoved v.acting) w (ap unmoved at)) plain_is refl refl refl
-        (λ q. record { slot = λ i. refl; owner = refl }) (λ i. record { receiver = refl; sender = refl; enclosed = λ i. refl }) (λ i. refl) (λ i. refl) children in
+    (λ q. record { slot = λ i. refl; owner = refl }) (λ i. record { receiver = refl; sender = refl; enclosed = λ i. refl }) (λ i. refl) (λ i. refl) children in
     let link_is : one.answers after (plain_link r.answer) 0 (one.control_link (length cs + 1) ∷ []) ≡ k = ap (λ (z : ℕ). one.answers after (plain_link r.answer) 0 (one.control_link (z + 1) ∷ [])) count ∙ f in
     record {
       t = t;
@@ -180,7 +179,7 @@ no_room_by s v a l id n (Some r) k is e at order h =
     let f : one.answers after (plain_link r.answer) 1 [] ≡ k = cc in
     let t = take.answers g r.answer 1 [] in
     let u = answers_mirrors s v a a l id n r g after 1 [] is at order h (λ i x there. absurd (let z : None ≡ Some x = there in cc)) plain_is refl refl refl
-        (λ q. record { slot = λ i. refl; owner = refl }) (λ i. record { receiver = refl; sender = refl; enclosed = λ i. refl }) (λ i. refl) (λ i. refl) h.places.child in
+    (λ q. record { slot = λ i. refl; owner = refl }) (λ i. record { receiver = refl; sender = refl; enclosed = λ i. refl }) (λ i. refl) (λ i. refl) h.places.child in
     record {
       t = t;
       takes = refl;
@@ -203,12 +202,14 @@ manager_row s t v a l id m k (said.User code channel bytes ls) name says hm at o
     let q = λ (bs : List ℕ) (ks : List PlainLink). one.takes_user s.manager s.machines (length s.images) code bs ks in
     let f : service.manager_took s id (q bytes ls) ≡ t = cc in
     let z = take.takes_user l.manager code body links in
-    let on = manager_took (without_message l id) z in
-    (on, ap (manager_step l id m.id.n) w.is,
-    subst (λ (o : OneKernel). Mirrors o v (given a (manager_sends v a k.id code (q bytes ls).message)) on) f
-    (subst (λ (x : one.Took). Mirrors (service.manager_took s id x) v (given a (manager_sends v a k.id code x.message)) on) (λ i. q (w.bytes_are i) (w.links_are i))
-    (user_mirrors s v a l id k.id code body links
-    (λ n x g. ap (λ (i : MsgId). a (Enclosed i n)) (sym name ∙ hm.id) ∙ hm.enclosed n x (ap (λ (y : What). slice_get (enclosed y) n) w.is ∙ g)) at order h)))
+    let on = manager_took (without_message l id) z in (
+      on,
+      ap (manager_step l id m.id.n) w.is,
+      subst (λ (o : OneKernel). Mirrors o v (given a (manager_sends v a k.id code (q bytes ls).message)) on) f
+          (subst (λ (x : one.Took). Mirrors (service.manager_took s id x) v (given a (manager_sends v a k.id code x.message)) on) (λ i. q (w.bytes_are i) (w.links_are i))
+          (user_mirrors s v a l id k.id code body links
+          (λ n x g. ap (λ (i : MsgId). a (Enclosed i n)) (sym name ∙ hm.id) ∙ hm.enclosed n x (ap (λ (y : What). slice_get (enclosed y) n) w.is ∙ g)) at order h)),
+    )
 manager_row s t v a l id m k (said.Created child) name says hm at order h e =
     let n = k.id.n in
     let o = one.takes_created s.manager n child (one.pending_numbered n s.manager.pending) in
@@ -216,11 +217,12 @@ manager_row s t v a l id m k (said.Created child) name says hm at order h e =
     let f : service.manager_took s id z ≡ t = cc in
     let p = pending_numbered n l.manager.pending in
     let r = created_by s v a l id n child p z refl (ap (one.takes_created s.manager n child) (sym (pending_is s l n h.plain.manager)) ∙ took) at order h in
-    let on = manager_took (without_message l id) r.t in
-    (on,
-    (λ i. manager_step l id (name i).n (created_what m.what child says i)) ∙ ap (λ (x : Option Taken). bind x (λ (y : Taken). Some (manager_took (without_message l id) y))) r.takes,
-    subst (λ (x : OneKernel). Mirrors x v (given a (manager_takes s v a k (said.Created child) o)) on) f
-    (subst (λ (x : Option one.Took). Mirrors (service.manager_took s id z) v (given a (manager_takes s v a k (said.Created child) x)) on) (sym took) r.mirrors))
+    let on = manager_took (without_message l id) r.t in (
+      on,
+      (λ i. manager_step l id (name i).n (created_what m.what child says i)) ∙ ap (λ (x : Option Taken). bind x (λ (y : Taken). Some (manager_took (without_message l id) y))) r.takes,
+      subst (λ (x : OneKernel). Mirrors x v (given a (manager_takes s v a k (said.Created child) o)) on) f
+          (subst (λ (x : Option one.Took). Mirrors (service.manager_took s id z) v (given a (manager_takes s v a k (said.Created child) x)) on) (sym took) r.mirrors),
+    )
 manager_row s t v a l id m k said.NoRoom name says hm at order h e =
     let n = k.id.n in
     let o = one.takes_no_room s.manager n (one.pending_numbered n s.manager.pending) in
@@ -228,11 +230,12 @@ manager_row s t v a l id m k said.NoRoom name says hm at order h e =
     let f : service.manager_took s id z ≡ t = cc in
     let p = pending_numbered n l.manager.pending in
     let r = no_room_by s v a l id n p z refl (ap (one.takes_no_room s.manager n) (sym (pending_is s l n h.plain.manager)) ∙ took) at order h in
-    let on = manager_took (without_message l id) r.t in
-    (on,
-    (λ i. manager_step l id (name i).n (no_room_what m.what says i)) ∙ ap (λ (x : Option Taken). bind x (λ (y : Taken). Some (manager_took (without_message l id) y))) r.takes,
-    subst (λ (x : OneKernel). Mirrors x v (given a (manager_takes s v a k said.NoRoom o)) on) f
-    (subst (λ (x : Option one.Took). Mirrors (service.manager_took s id z) v (given a (manager_takes s v a k said.NoRoom x)) on) (sym took) r.mirrors))
+    let on = manager_took (without_message l id) r.t in (
+      on,
+      (λ i. manager_step l id (name i).n (no_room_what m.what says i)) ∙ ap (λ (x : Option Taken). bind x (λ (y : Taken). Some (manager_took (without_message l id) y))) r.takes,
+      subst (λ (x : OneKernel). Mirrors x v (given a (manager_takes s v a k said.NoRoom o)) on) f
+          (subst (λ (x : Option one.Took). Mirrors (service.manager_took s id z) v (given a (manager_takes s v a k said.NoRoom x)) on) (sym took) r.mirrors),
+    )
 manager_row s t v a l id m k u name says hm at order h e = cc
 
 -- what the two take with places
@@ -258,7 +261,8 @@ took_follows s t v a l id is at order h =
     let (k, there, rest) = bind-is (s.bag id) (service.takes s id) t is in
     let (m, found, says) = there_of s l id k h.plain there in
     let g = parts m k says in
-    let (on, step, mirrors) = takes_by s t v a l id m k (pid_eq k.to switchboard) (pid_eq k.to manager) says (h.places.message id m found) at order h rest in
-    (on,
-    ap (λ (o : Option Message). bind o (placed.takes (without_message l id))) found ∙ ap (λ (q : Pid). takes_if (pid_eq q switchboard) (pid_eq q manager) l id m) g.to ∙ step,
-    subst (λ (gs : List Gets). Mirrors t v (given a gs) on) (ap (addresses.takes s v a id) (sym there)) mirrors)
+    let (on, step, mirrors) = takes_by s t v a l id m k (pid_eq k.to switchboard) (pid_eq k.to manager) says (h.places.message id m found) at order h rest in (
+      on,
+      ap (λ (o : Option Message). bind o (placed.takes (without_message l id))) found ∙ ap (λ (q : Pid). takes_if (pid_eq q switchboard) (pid_eq q manager) l id m) g.to ∙ step,
+      subst (λ (gs : List Gets). Mirrors t v (given a gs) on) (ap (addresses.takes s v a id) (sym there)) mirrors,
+    )

@@ -1,7 +1,6 @@
 -- Places follow the lines: each step of the kernel without machines is one with places, and leads to the addresses that the
 -- lines say; so wherever the rule leads, there is a kernel with places.
-use Rattle.std.specs.Prelude.{◌≡◌, ⊤, List}
-use Rattle.std.specs.Prelude.{true}
+use Rattle.std.specs.Prelude.{◌≡◌, ⊤, true, List}
 use Rattle.std.specs.declared.option.Option.TheVariants.{Some}
 use Rattle.dm_onekernel.specs.declared.boot.Boot.{Boot}
 use Rattle.dm_onekernel.specs.declared.label.Label.{Label}
