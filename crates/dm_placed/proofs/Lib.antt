@@ -18,3 +18,4 @@ pub mod Worked
 pub mod Frames
 pub mod Queues
 pub mod Constants
+pub mod Determined

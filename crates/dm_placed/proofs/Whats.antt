@@ -6,6 +6,7 @@ use Rattle.arrayvec.specs.ArrayVec.{ArrayVec}
 use Rattle.dm_link.specs.declared.Pid.{Pid}
 use Rattle.dm_link.specs.declared.Link.{Link}
 use Rattle.dm_link.specs.Plain.{PlainLink, plain_link}
+use Rattle.dm_message.specs.declared.Outcome.{Outcome}
 use Rattle.dm_message.specs.declared.What.{What}
 use Rattle.dm_message.specs.declared.What.TheVariants as what
 use Rattle.dm_message.specs.Plain as plain
@@ -91,3 +92,11 @@ created_what w child e = cc
 pub no_room_what : (w : What) → plain_what w ≡ Some plain.NoRoom → w ≡ what.NoRoom
 no_room_what what.NoRoom e = refl
 no_room_what w e = cc
+
+pub move_what : (w : What) (machine : ℕ) → plain_what w ≡ Some (plain.Move machine) → w ≡ what.Move machine
+move_what (what.Move m) machine e = let f : m ≡ machine = cc in ap what.Move f
+move_what w machine e = cc
+
+pub moved_what : (w : What) (outcome : Outcome) → plain_what w ≡ Some (plain.Moved outcome) → w ≡ what.Moved outcome
+moved_what (what.Moved o) outcome e = let f : o ≡ outcome = cc in ap what.Moved f
+moved_what w outcome e = cc

@@ -2,6 +2,9 @@
 -- lines say; so wherever the rule leads, there is a kernel with places.
 use Rattle.std.specs.Prelude.{◌≡◌, ⊤, true, List}
 use Rattle.std.specs.declared.option.Option.TheVariants.{Some}
+use Rattle.dm_link.specs.declared.Pid.{Pid}
+use Rattle.dm_message.specs.declared.MsgId.{MsgId}
+use Rattle.dm_process.specs.declared.process.Process.{Process}
 use Rattle.dm_onekernel.specs.declared.boot.Boot.{Boot}
 use Rattle.dm_onekernel.specs.declared.label.Label.{Label}
 use Rattle.dm_onekernel.specs.declared.label.Label.TheVariants as label
@@ -87,6 +90,12 @@ LinesKeep =
 -- where a run begins, the boot file's processes with their links mirror the first point
 abbrev pub StartMirrors : Type 0
 StartMirrors = (b : Boot) → Mirrors (first_point b).kernel (first_point b).view (first_point b).addresses (placed_start b)
+
+-- kernels with places that mirror the same point have the same messages, and the same processes but for their queues
+abbrev pub PointDetermines : Type 0
+PointDetermines =
+    (s : OneKernel) (v : View) (a : Addresses) (l m : Placed) → Mirrors s v a l → Mirrors s v a m
+    → ((i : MsgId) → l.bag i ≡ m.bag i) × ((p : Pid) (x y : Process) → l.processes p ≡ Some x → m.processes p ≡ Some y → record x { queue = y.queue } ≡ y)
 
 -- wherever the rule leads without a migration, there is a kernel with places that mirrors the point
 abbrev pub PlacesFollowAlways : Type 0

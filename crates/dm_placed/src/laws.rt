@@ -1,6 +1,6 @@
 //! Places follow the printed lines, whoever ran by them.
 ghost use Rattle.dm_placed.specs.Changes.{StepsChangeLittle};
-ghost use Rattle.dm_placed.specs.Laws.{StepsFollow, LinesKeep, StartMirrors, PlacesFollowAlways};
+ghost use Rattle.dm_placed.specs.Laws.{StepsFollow, LinesKeep, StartMirrors, PointDetermines, PlacesFollowAlways};
 
 /// Each step of the kernel without machines is one with places, by the functions of the machines' code, and its places are
 /// the addresses that the line of the step gives: a process that is made hasn't moved yet, and the servers act on machine 0,
@@ -24,6 +24,12 @@ pub fn lines_keep()
 /// The boot file's processes, with the file's links, mirror the point where a run begins.
 pub fn start_mirrors()
     ensures { StartMirrors }
+{}
+
+/// What mirrors a point has the messages that any other mirror has, and its processes, but for the messages that wait for
+/// them.
+pub fn point_determines()
+    ensures { PointDetermines }
 {}
 
 /// Wherever the rule leads from a boot file, and nothing moves yet, there is a kernel with places that is the kernel without
