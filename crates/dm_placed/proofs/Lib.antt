@@ -19,3 +19,4 @@ pub mod Frames
 pub mod Queues
 pub mod Constants
 pub mod Determined
+pub mod Matches
