@@ -37,7 +37,7 @@ use Rattle.dm_datamove.proofs.Services.{length-written, with_memory}
 abbrev plain : Landing → Option pieces.Landed
 plain l = plain_landed l.landed l.process
 
-ends_plainly : (c : Reply) (p : Process) → plain (done c p) ≡ Some (pieces.done c (plain_process p))
+pub ends_plainly : (c : Reply) (p : Process) → plain (done c p) ≡ Some (pieces.done c (plain_process p))
 ends_plainly c p = refl
 
 asks_way : (here : ℕ) (p : Process) (dir : Direction) (owner : Addr) (base own left : ℕ)
@@ -52,7 +52,7 @@ if_plainly : (b : Bool) (l m : Landing) (x y : pieces.Landed) → plain l ≡ So
 if_plainly true l m x y e f = e
 if_plainly false l m x y e f = f
 
-goes_on_plainly : (here : ℕ) (p : Process) (r : Rest)
+pub goes_on_plainly : (here : ℕ) (p : Process) (r : Rest)
     → plain (goes_on here p r) ≡ Some (pieces.goes_on p.pid (plain_process p) r.dir r.owner.pid r.base r.own r.left (piece_of r.left))
 goes_on_plainly here p r =
     if_plainly (r.left - piece_of r.left == 0) _ _ _ _ (ends_plainly reply.Done p) (asks_plainly here p (behind r))

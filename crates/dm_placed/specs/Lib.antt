@@ -1,3 +1,5 @@
 pub mod Placed
 pub mod PlacedStep
 pub mod PlacedStart
+pub mod Laws
+pub mod Changes

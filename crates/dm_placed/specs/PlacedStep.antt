@@ -1,6 +1,6 @@
 -- The steps of the kernel with places: a row a label, by the functions of the machines' code. Whether a label is a step at
 -- all is the kernel's to say (dm_onekernel); here stands what becomes of processes and messages with places then.
-use Rattle.std.specs.Prelude.{ℕ, true, false, if◌then◌else◌, List}
+use Rattle.std.specs.Prelude.{ℕ, true, false, if◌then◌else◌, List, slice_get}
 use Rattle.std.specs.declared.option.Option.{Option}
 use Rattle.std.specs.declared.option.Option.TheVariants.{None, Some}
 use Rattle.dm_link.specs.declared.Pid.{Pid}
@@ -17,7 +17,6 @@ use Rattle.dm_process.specs.declared.process.Status.TheVariants as status
 use Rattle.dm_process.specs.Begun.{begun}
 use Rattle.dm_regs.specs.Instructions.{Row, instruction}
 use Rattle.dm_regs.specs.Instructions as row
-use Rattle.std.specs.Prelude.{slice_get}
 use Rattle.dm_onekernel.specs.declared.boot.Format.{Format}
 use Rattle.dm_onekernel.specs.declared.boot.BootImage.{BootImage}
 use Rattle.dm_onekernel.specs.declared.label.Label.{Label}
@@ -28,7 +27,7 @@ use Rattle.dm_onekernel.specs.Start.{memory_of, slots_with}
 use Rattle.dm_onekernel.specs.Step.{Machine, plain_steps}
 use Rattle.dm_datamove.specs.declared.Landed.{Landed}
 use Rattle.dm_datamove.specs.declared.Landed.TheVariants as landed
-use Rattle.dm_datamove.specs.Landing.{Landing, landing}
+use Rattle.dm_datamove.specs.Landing.{landing}
 use Rattle.dm_datamove.specs.Serving.{after_serving, answer, gone_answer, serving_answer}
 use Rattle.dm_syscall.specs.declared.Called.{Called}
 use Rattle.dm_syscall.specs.declared.Called.TheVariants as called
@@ -163,7 +162,31 @@ with_child l f child image links = with_process l child (Some (begun child (memo
 abbrev pub creates : ℕ → Format → List BootImage → Placed → Message → Pid → What → Option Placed
 creates here f images l m child (what.Create image links) =
     bind (slice_get images image) (λ i. Some (with_sent (with_child l f child i links.items) (Some (answer here 0 m (what.Created child)))))
-creates here f images l m child w = None
+creates here f images l m child (what.User code channel body links) = None
+creates here f images l m child what.Stop = None
+creates here f images l m child what.Resume = None
+creates here f images l m child what.Kill = None
+creates here f images l m child (what.Read base len) = None
+creates here f images l m child (what.Write base bytes) = None
+creates here f images l m child (what.Block bytes) = None
+creates here f images l m child what.Written = None
+creates here f images l m child what.Gone = None
+creates here f images l m child (what.Created pid) = None
+creates here f images l m child what.NoRoom = None
+creates here f images l m child (what.Migrate machine) = None
+creates here f images l m child (what.Update about) = None
+creates here f images l m child (what.Ask pid blocks moves size asker) = None
+creates here f images l m child (what.Refuse pid slots blocks) = None
+creates here f images l m child (what.PullState pid chunk) = None
+creates here f images l m child (what.State pid chunk last bytes) = None
+creates here f images l m child (what.PullBlock pid block) = None
+creates here f images l m child (what.Memory pid block bytes) = None
+creates here f images l m child (what.AllTaken pid) = None
+creates here f images l m child (what.Restart pid) = None
+creates here f images l m child (what.Move machine) = None
+creates here f images l m child (what.Moved outcome) = None
+creates here f images l m child (what.CallOff pid) = None
+creates here f images l m child (what.Bury pid) = None
 
 -- the kernel of machine `here` acts; what processes are made of is the boot file's
 abbrev pub placed_step : ℕ → Format → List BootImage → Placed → Label → Option Placed

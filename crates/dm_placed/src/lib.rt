@@ -2,3 +2,4 @@
 //! printed lines say.
 #![tactic(auto)]
 
+pub mod laws;

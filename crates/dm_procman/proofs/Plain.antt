@@ -41,11 +41,11 @@ some_both : {A : Type 0} (b : Bool) (x y : A) → (if b then Some x else Some y)
 some_both true x y = refl
 some_both false x y = refl
 
-plain_push : (rs : List Pending) (r : Pending) → map plain_pending (rs ++ r ∷ []) ≡ map plain_pending rs ++ plain_pending r ∷ []
+pub plain_push : (rs : List Pending) (r : Pending) → map plain_pending (rs ++ r ∷ []) ≡ map plain_pending rs ++ plain_pending r ∷ []
 plain_push [] r = refl
 plain_push (x ∷ rs) r = ap (λ xs. plain_pending x ∷ xs) (plain_push rs r)
 
-plain_bear : (cs : List Addr) (a : Addr) → map plain_child (cs ++ a ∷ []) ≡ map plain_child cs ++ a.pid ∷ []
+pub plain_bear : (cs : List Addr) (a : Addr) → map plain_child (cs ++ a ∷ []) ≡ map plain_child cs ++ a.pid ∷ []
 plain_bear [] a = refl
 plain_bear (x ∷ cs) a = ap (λ xs. x.pid ∷ xs) (plain_bear cs a)
 
@@ -92,21 +92,21 @@ plain_controls g (Some c) [] ls = plain_bad g ls
 plain_controls g (Some c) (a ∷ []) ls = plain_controls_by g c (a == 2) (a == 3) (a == 4) ls
 plain_controls g (Some c) (a ∷ b ∷ bs) ls = plain_bad g ls
 
-plain_numbered : (cs : List Addr) (n : ℕ) → one.child_numbered (map plain_child cs) n ≡ option_map plain_child (child_numbered cs n)
+pub plain_numbered : (cs : List Addr) (n : ℕ) → one.child_numbered (map plain_child cs) n ≡ option_map plain_child (child_numbered cs n)
 plain_numbered cs zero = refl
 plain_numbered cs (suc n) = slice_get-map plain_child cs n
 
-plain_user : (g : Managing) (code : ℕ) (body : List ℕ) (ls : List Link) → plainly (takes_user g code body ls) ≡ Some (one.takes_user (plain_manager g) g.machines g.images code body (map plain_link ls))
+pub plain_user : (g : Managing) (code : ℕ) (body : List ℕ) (ls : List Link) → plainly (takes_user g code body ls) ≡ Some (one.takes_user (plain_manager g) g.machines g.images code body (map plain_link ls))
 plain_user g code body ls =
     both plainly (code == 0) (requests g body ls) (controls g (child_numbered g.children code) body ls) _ _ (plain_requests g body ls)
     (plain_controls g (child_numbered g.children code) body ls ∙ ap (λ o. Some (one.controls (plain_manager g) o body (map plain_link ls))) (sym (plain_numbered g.children code)))
     ∙ some_both (code == 0) _ _
 
-plain_pending_numbered : (n : ℕ) (rs : List Pending) → one.pending_numbered n (map plain_pending rs) ≡ option_map plain_pending (pending_numbered n rs)
+pub plain_pending_numbered : (n : ℕ) (rs : List Pending) → one.pending_numbered n (map plain_pending rs) ≡ option_map plain_pending (pending_numbered n rs)
 plain_pending_numbered n [] = refl
 plain_pending_numbered n (r ∷ rs) = sym (both (option_map plain_pending) (r.n == n) (Some r) (pending_numbered n rs) _ _ refl (sym (plain_pending_numbered n rs)))
 
-plain_without : (n : ℕ) (rs : List Pending) → map plain_pending (without_pending n rs) ≡ one.without_pending n (map plain_pending rs)
+pub plain_without : (n : ℕ) (rs : List Pending) → map plain_pending (without_pending n rs) ≡ one.without_pending n (map plain_pending rs)
 plain_without n [] = refl
 plain_without n (r ∷ rs) = both (map plain_pending) (r.n == n) rs (r ∷ without_pending n rs) _ _ refl (ap (λ xs. plain_pending r ∷ xs) (plain_without n rs))
 
@@ -117,7 +117,7 @@ plain_answers cs rs sent l code links = Some (one.answers (record { children = c
 plain_control_link : (n n' : ℕ) → n ≡ n' → plain_link (control_link n) ≡ one.control_link n'
 plain_control_link n n' e = ap one.control_link e
 
-plain_created : (g : Managing) (n : ℕ) (p : Pid) (o : Option Pending) (t : Taken) → takes_created g n p o ≡ Some t → plainly t ≡ one.takes_created (plain_manager g) n p (option_map plain_pending o)
+pub plain_created : (g : Managing) (n : ℕ) (p : Pid) (o : Option Pending) (t : Taken) → takes_created g n p o ≡ Some t → plainly t ≡ one.takes_created (plain_manager g) n p (option_map plain_pending o)
 plain_created g n p None t e = absurd (cc e)
 plain_created g n p (Some r) t e =
     let u : Taken = answers (record (settled g n) { children = g.children ++ at_home p ∷ [] }) r.answer 0 (control_link (length g.children + 1) ∷ []) in
@@ -125,7 +125,7 @@ plain_created g n p (Some r) t e =
     ap plainly (sym same)
     ∙ (λ i. plain_answers (plain_bear g.children (at_home p) i) (plain_without n g.pending i) g.sent r.answer 0 (one.control_link (sym (length-map g.children plain_child) i + 1) ∷ []))
 
-plain_no_room : (g : Managing) (n : ℕ) (o : Option Pending) (t : Taken) → takes_no_room g n o ≡ Some t → plainly t ≡ one.takes_no_room (plain_manager g) n (option_map plain_pending o)
+pub plain_no_room : (g : Managing) (n : ℕ) (o : Option Pending) (t : Taken) → takes_no_room g n o ≡ Some t → plainly t ≡ one.takes_no_room (plain_manager g) n (option_map plain_pending o)
 plain_no_room g n None t e = absurd (cc e)
 plain_no_room g n (Some r) t e =
     let u : Taken = answers (settled g n) r.answer 1 [] in

@@ -72,7 +72,7 @@ HomeCalled v a p x n (Ends because) = ⊤
 regs_home : (a : Addresses) (p : Pid) (x : PlainProcess) (regs : Regs) → HomeProcess a p x → HomeProcess a p (record x { regs = regs })
 regs_home a p x regs h = record { slots = h.slots; owner = h.owner }
 
-no_gives : (v : View) (a : Addresses) (p : Pid) (x : PlainProcess) (n : CallNumber) (c : Reply) → fills_by v a p x n ≡ [] → gives_by v a p x n c ≡ []
+pub no_gives : (v : View) (a : Addresses) (p : Pid) (x : PlainProcess) (n : CallNumber) (c : Reply) → fills_by v a p x n ≡ [] → gives_by v a p x n c ≡ []
 no_gives v a p x n reply.Done e = e
 no_gives v a p x n reply.NoLink e = refl
 no_gives v a p x n reply.TableFull e = refl
@@ -143,11 +143,11 @@ pub record Listed (a : Addresses) (p : Pid) (ss : List ℕ) (k : ℕ) (l : Plain
   pub there : slice_get (map (λ (n : ℕ). a (Slot p n)) ss) k ≡ Some place
   pub is : place ≡ unmoved l.to.home
 
-or-left : (b c : Bool) → (b || c) ≡ false → b ≡ false
+pub or-left : (b c : Bool) → (b || c) ≡ false → b ≡ false
 or-left true c e = cc
 or-left false c e = refl
 
-or-right : (b c : Bool) → (b || c) ≡ false → c ≡ false
+pub or-right : (b c : Bool) → (b || c) ≡ false → c ≡ false
 or-right true c e = cc
 or-right false c e = e
 

@@ -57,7 +57,7 @@ queued_keeps r e pt pt' id at h is =
       acting = acting_queued w id (view.receiver_of (pt.view.told id));
     })
 
-first_keeps : NoneReplaced → (r e : MsgId → ℕ) (pt pt' : Point) (p : Part) (ls : List Line) → FirstGood pt.kernel e pt.view.acting p → Home r e pt → lines_of pt p ≡ Some ls → after pt ls ≡ Some pt' → Kept pt.view.acting pt'
+pub first_keeps : NoneReplaced → (r e : MsgId → ℕ) (pt pt' : Point) (p : Part) (ls : List Line) → FirstGood pt.kernel e pt.view.acting p → Home r e pt → lines_of pt p ≡ Some ls → after pt ls ≡ Some pt' → Kept pt.view.acting pt'
 first_keeps none r e pt pt' p ls good h is next = elim good [
   | inl any ↦ part_keeps none r e pt pt' p ls any h is next
   | inr said ↦ elim said [
@@ -83,7 +83,7 @@ good_keep none (p ∷ ps) r e m pt w acting at h is =
     subst (λ (x : Spelled). Kept m x.point) f (parts_keep none ps k.r k.e m next z (k.acting ∙ acting) at.1 k.home more)
 
 -- the head
-begun_home : (r e : MsgId → ℕ) (pt : Point) (m : ℕ) → Home r e pt → Home r e (record { kernel = pt.kernel; view = begins pt.view m NothingElse; addresses = pt.addresses })
+pub begun_home : (r e : MsgId → ℕ) (pt : Point) (m : ℕ) → Home r e pt → Home r e (record { kernel = pt.kernel; view = begins pt.view m NothingElse; addresses = pt.addresses })
 begun_home r e pt m h = record { sound = h.sound; at = h.at; rings = record { moves = h.rings.moves; ring = h.rings.ring }; lists = record { inbox = h.lists.inbox; queue = h.lists.queue; untaken = h.lists.untaken } }
 
 spells : NoneReplaced → (r e : MsgId → ℕ) (m : ℕ) (begun : Point) (ps : List Part) (d : Step) (w : Spelled) → begun.view.acting ≡ m → PartsGood begun.kernel e m ps → Home r e begun → bind (spelled begun ps) (λ (z : Spelled). Some (headed (line.Head d) z)) ≡ Some w → Kept m w.point
@@ -122,7 +122,7 @@ pub if_parts : (m : ℕ) (c : Bool) (ps qs : List Part) → PartsAnywhere m ps �
 if_parts m true ps qs h k = h
 if_parts m false ps qs h k = k
 
-resends_good : (m n : ℕ) (v : View) (b : ℕ) → PartsAnywhere m (rule.resends v n b)
+pub resends_good : (m n : ℕ) (v : View) (b : ℕ) → PartsAnywhere m (rule.resends v n b)
 resends_good m n v zero = tt
 resends_good m n v (suc b) =
     let ns = rule.numbers_from (v.pair n b).acked ((v.pair n b).gone - (v.pair n b).acked) in
@@ -141,11 +141,11 @@ comes_good m a b p q (load.Data n) =
     (parts_append m (rule.takes a b (n ∷ ns)) (Transmits b a (load.Ack (n + 1 + length ns)) ∷ []) (takes_good m a b (n ∷ ns)) (tt, tt)))
 comes_good m a b p q (load.Ack n) = (tt, repeats_good m b a (rule.let_go q (rule.more n q.acked)))
 
-arrives_good : (m a b : ℕ) (p q : Pair) (o : Option Sent) → PartsAnywhere m (rule.arrives a b p q o)
+pub arrives_good : (m a b : ℕ) (p q : Pair) (o : Option Sent) → PartsAnywhere m (rule.arrives a b p q o)
 arrives_good m a b p q None = (tt, tt)
 arrives_good m a b p q (Some s) = comes_good m a b p q s.load
 
-anywhere_good : (s : OneKernel) (e : MsgId → ℕ) (m : ℕ) (ps : List Part) → PartsAnywhere m ps → PartsGood s e m ps
+pub anywhere_good : (s : OneKernel) (e : MsgId → ℕ) (m : ℕ) (ps : List Part) → PartsAnywhere m ps → PartsGood s e m ps
 anywhere_good s e m [] h = tt
 anywhere_good s e m (p ∷ ps) h = (inl h.0, h.1)
 

@@ -60,7 +60,7 @@ bad_home s v a id mid code (l ∷ ls) en at h =
     let m = board.goes_over manager s.manager.sent l (2 ∷ []) [] in
     two_sends (record (without_message s id) { manager = record s.manager { sent = s.manager.sent + 1 } }) a m (a (Enclosed mid 0)) (unmoved v.acting) (counted s a id h) refl (en 0 l refl) (ap unmoved at)
 
-enclosed_at : (a : Addresses) (id : MsgId) (n : ℕ) (ls : List PlainLink) (k : ℕ) (w : PlainLink) → slice_get ls k ≡ Some w → slice_get (enclosed_from a id n ls) k ≡ Some (a (Enclosed id (n + k)))
+pub enclosed_at : (a : Addresses) (id : MsgId) (n : ℕ) (ls : List PlainLink) (k : ℕ) (w : PlainLink) → slice_get ls k ≡ Some w → slice_get (enclosed_from a id n ls) k ≡ Some (a (Enclosed id (n + k)))
 enclosed_at a id n [] k w e = cc
 enclosed_at a id n (l ∷ ls) zero w e = let f : n ≡ n + 0 = omega arith in ap (λ (i : ℕ). Some (a (Enclosed id i))) f
 enclosed_at a id n (l ∷ ls) (suc k) w e = let f : (n + 1) + k ≡ n + suc k = omega arith in enclosed_at a id (n + 1) ls k w e ∙ ap (λ (i : ℕ). Some (a (Enclosed id i))) f

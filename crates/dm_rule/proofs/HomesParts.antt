@@ -37,7 +37,7 @@ SaidAnywhere m (label.Took id) = ⊥
 SaidAnywhere m (label.Created id child) = ⊥
 SaidAnywhere m (label.NoSpace id f b) = ⊥
 
-said_at : (s : OneKernel) (m : ℕ) (l : Label) → SaidAnywhere m l → SaidAt s m l
+pub said_at : (s : OneKernel) (m : ℕ) (l : Label) → SaidAnywhere m l → SaidAt s m l
 said_at s m (label.Ran p k) h = h
 said_at s m (label.Call p n c) h = h
 said_at s m (label.Send p id) h = h

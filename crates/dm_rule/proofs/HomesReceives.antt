@@ -37,12 +37,12 @@ use Rattle.dm_rule.proofs.HomesRows.{at_home_process, at_home_out, home_goes, al
 use Rattle.dm_rule.proofs.HomesSteps.{OnlySlots, only_none}
 
 -- the lowest empty slot is one, and it is empty
-set_at : {L : Type 0} (slots : List (Option L)) (k : ℕ) (y : Option L) → nat_lt k (length slots) ≡ true → link_at (slice_set slots k y) k ≡ y
+pub set_at : {L : Type 0} (slots : List (Option L)) (k : ℕ) (y : Option L) → nat_lt k (length slots) ≡ true → link_at (slice_set slots k y) k ≡ y
 set_at [] k y e = absurd (let z : nat_lt k 0 ≡ false = grind (arith, nat_tests) in false≢true (sym z ∙ e))
 set_at (x ∷ xs) zero y e = refl
 set_at (x ∷ xs) (suc k) y e = set_at xs k y (let f : nat_lt k (length xs) ≡ true = grind (arith, nat_tests) in f)
 
-set_off : {L : Type 0} (slots : List (Option L)) (k j : ℕ) (y : Option L) → (k == j) ≡ false → link_at (slice_set slots k y) j ≡ link_at slots j
+pub set_off : {L : Type 0} (slots : List (Option L)) (k j : ℕ) (y : Option L) → (k == j) ≡ false → link_at (slice_set slots k y) j ≡ link_at slots j
 set_off [] k j y e = refl
 set_off (x ∷ xs) zero zero y e = absurd (let f : (0 == 0) ≡ false = e in cc)
 set_off (x ∷ xs) zero (suc j) y e = refl
@@ -56,9 +56,9 @@ empty_at (Some x ∷ xs) =
     let next : 1 + position_or_len is_none xs ≡ suc (position_or_len is_none xs) = omega arith in
     ap (λ (n : ℕ). link_at (Some x ∷ xs) n) next ∙ empty_at xs
 
-record IsEmptySlot {L : Type 0} (slots : List (Option L)) (k : ℕ) : Type 0 where
-  within : nat_lt k (length slots) ≡ true
-  empty : link_at slots k ≡ None
+pub record IsEmptySlot {L : Type 0} (slots : List (Option L)) (k : ℕ) : Type 0 where
+  pub within : nat_lt k (length slots) ≡ true
+  pub empty : link_at slots k ≡ None
 
 empty_if : {L : Type 0} (slots : List (Option L)) (n k : ℕ) (b : Bool) → nat_lt n (length slots) ≡ b → link_at slots n ≡ None → cond b (Some n) None ≡ Some k → IsEmptySlot slots k
 empty_if slots n k true within empty e =
@@ -66,7 +66,7 @@ empty_if slots n k true within empty e =
     record { within = sym (ap (λ (i : ℕ). nat_lt i (length slots)) f) ∙ within; empty = sym (ap (λ (i : ℕ). link_at slots i) f) ∙ empty }
 empty_if slots n k false within empty e = cc
 
-is_empty : {L : Type 0} (slots : List (Option L)) (k : ℕ) → first_empty slots ≡ Some k → IsEmptySlot slots k
+pub is_empty : {L : Type 0} (slots : List (Option L)) (k : ℕ) → first_empty slots ≡ Some k → IsEmptySlot slots k
 is_empty slots k e = empty_if slots (position_or_len is_none slots) k (nat_lt (position_or_len is_none slots) (length slots)) refl (empty_at slots) e
 
 -- a link that stands in a slot stays while others are placed
@@ -130,7 +130,7 @@ only_more a p (Some slot) place gs h = record {
   servers = let w = h.servers in record { child = w.child; name = w.name; answer = w.answer };
 }
 
-only_receives : (a : Addresses) (p : Pid) (id : MsgId) (ls : List PlainLink) (n : ℕ) (slots : List (Option PlainLink)) → OnlySlots a (given a (receives_links a p id n slots ls)) p
+pub only_receives : (a : Addresses) (p : Pid) (id : MsgId) (ls : List PlainLink) (n : ℕ) (slots : List (Option PlainLink)) → OnlySlots a (given a (receives_links a p id n slots ls)) p
 only_receives a p id [] n slots = only_none a p
 only_receives a p id (l ∷ ls) n slots =
     only_more a p (first_empty slots) (a (Enclosed id n)) (receives_links a p id (n + 1) (slot_after slots l (first_empty slots)) ls)

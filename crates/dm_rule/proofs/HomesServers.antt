@@ -40,7 +40,7 @@ get_last (x ∷ xs) y (suc n) q e = elim (get_last xs y n q e) [
 ]
 
 -- requests in order
-and-both : (b c : Bool) → (b && c) ≡ true → (b ≡ true) × (c ≡ true)
+pub and-both : (b c : Bool) → (b && c) ≡ true → (b ≡ true) × (c ≡ true)
 and-both true c e = (refl, e)
 and-both false c e = cc
 
@@ -176,14 +176,14 @@ asks_if : (a : Addresses) (id sent : MsgId) (names : List NamedLink) (body : Lis
 asks_if a id sent names body true k l h j = h
 asks_if a id sent names body false k l h j = j
 
-record FoundAt (name : List ℕ) (names : List NamedLink) (n : ℕ) (l : PlainLink) : Type 0 where
-  i : ℕ
-  k : NamedLink
-  there : slice_get names i ≡ Some k
-  link : k.link ≡ l
-  place : place_named name names n ≡ n + i
+pub record FoundAt (name : List ℕ) (names : List NamedLink) (n : ℕ) (l : PlainLink) : Type 0 where
+  pub i : ℕ
+  pub k : NamedLink
+  pub there : slice_get names i ≡ Some k
+  pub link : k.link ≡ l
+  pub place : place_named name names n ≡ n + i
 
-found_at : (name : List ℕ) (names : List NamedLink) (n : ℕ) (l : PlainLink) → board.link_named name names ≡ Some l → FoundAt name names n l
+pub found_at : (name : List ℕ) (names : List NamedLink) (n : ℕ) (l : PlainLink) → board.link_named name names ≡ Some l → FoundAt name names n l
 found_at name [] n l e = cc
 found_at name (k ∷ ks) n l e = elim (cases_Bool (board.bytes_eq k.name name)) [
   | inl same ↦

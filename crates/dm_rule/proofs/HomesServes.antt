@@ -236,12 +236,12 @@ gone_if : (p : Pid) (x : PlainProcess) (b : Bool) (dir : Direction) (owner : Pid
 gone_if p x true dir owner base own left w d is e = gone_what p x dir owner base own left d (ap (pieces.lands_what p x dir owner base own left) (sym is) ∙ e)
 gone_if p x false dir owner base own left w d is e = cc
 
-gone_lands : (p : Pid) (x : PlainProcess) (m : PlainMessage) (st : PlainStatus) (d : pieces.Landed) → m.what ≡ what.Gone → pieces.lands p x m st ≡ Some d → NothingNext d
+pub gone_lands : (p : Pid) (x : PlainProcess) (m : PlainMessage) (st : PlainStatus) (d : pieces.Landed) → m.what ≡ what.Gone → pieces.lands p x m st ≡ Some d → NothingNext d
 gone_lands p x m (Moving dir owner base own left pending) d is e = gone_if p x (m.id.n == pending) dir owner base own left m.what d is e
 gone_lands p x m Ready d is e = cc
 gone_lands p x m (Waiting mask base size) d is e = cc
 
-nothing_lands : (v : View) (a : Addresses) (p : Pid) (c : pieces.Landed) → NothingNext c → lands v a p (Some c) ≡ []
+pub nothing_lands : (v : View) (a : Addresses) (p : Pid) (c : pieces.Landed) → NothingNext c → lands v a p (Some c) ≡ []
 nothing_lands v a p (pieces.Done reply y) h = refl
 nothing_lands v a p (pieces.Next n y) h = absurd h
 
@@ -311,7 +311,7 @@ begun_link [] (suc n) (suc k) l e = begun_link [] n k l e
 begun_link (x ∷ xs) n zero l e = e
 begun_link (x ∷ xs) n (suc k) l e = begun_link xs n k l e
 
-child_at : (a : Addresses) (child : Pid) (id : MsgId) (ls : List PlainLink) (n k j : ℕ) (w : PlainLink) → slice_get ls k ≡ Some w → j ≡ n + k → given a (child_links a child id n ls) (Slot child j) ≡ a (Enclosed id j)
+pub child_at : (a : Addresses) (child : Pid) (id : MsgId) (ls : List PlainLink) (n k j : ℕ) (w : PlainLink) → slice_get ls k ≡ Some w → j ≡ n + k → given a (child_links a child id n ls) (Slot child j) ≡ a (Enclosed id j)
 child_at a child id [] n k j w e f = cc
 child_at a child id (l ∷ ls) n zero j w e f =
     let nj : n ≡ j = omega (arith, f) in
@@ -321,7 +321,7 @@ child_at a child id (l ∷ ls) n (suc k) j w e f =
     let apart : (pid_eq child child && (n == j)) ≡ false = grind (arith, nat_tests) in
     ap (λ (c : Bool). if c then a (Enclosed id n) else given a (child_links a child id (n + 1) ls) (Slot child j)) apart ∙ child_at a child id ls (n + 1) k j w e (omega (arith, f))
 
-only_child : (a : Addresses) (child : Pid) (id : MsgId) (ls : List PlainLink) (n : ℕ) → OnlySlots a (given a (child_links a child id n ls)) child
+pub only_child : (a : Addresses) (child : Pid) (id : MsgId) (ls : List PlainLink) (n : ℕ) → OnlySlots a (given a (child_links a child id n ls)) child
 only_child a child id [] n = only_none a child
 only_child a child id (l ∷ ls) n =
     let h = only_child a child id ls (n + 1) in

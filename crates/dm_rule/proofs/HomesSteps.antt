@@ -43,7 +43,7 @@ ran_home s t v a p k is h =
 is_done : Reply → Bool
 is_done c = reply_code c == 0
 
-made_is : (v : View) (a : Addresses) (p : Pid) (n : ℕ) (c : Reply) (x : PlainProcess) → made v a p n c (Some x) ≡ gives_by v a p x (calls.call_number n) c
+pub made_is : (v : View) (a : Addresses) (p : Pid) (n : ℕ) (c : Reply) (x : PlainProcess) → made v a p n c (Some x) ≡ gives_by v a p x (calls.call_number n) c
 made_is v a p n reply.Done x = refl
 made_is v a p n reply.NoLink x = refl
 made_is v a p n reply.TableFull x = refl
@@ -65,7 +65,7 @@ gives_code v a p x n reply.TooLong = refl
 gives_code v a p x n reply.Gone = refl
 gives_code v a p x n reply.NotCopyable = refl
 
-gives_same : (v : View) (a : Addresses) (p : Pid) (x : PlainProcess) (n : calls.CallNumber) (c d : Reply) → reply_eq c d ≡ true → gives_by v a p x n c ≡ gives_by v a p x n d
+pub gives_same : (v : View) (a : Addresses) (p : Pid) (x : PlainProcess) (n : calls.CallNumber) (c d : Reply) → reply_eq c d ≡ true → gives_by v a p x n c ≡ gives_by v a p x n d
 gives_same v a p x n c d e =
     let k : reply_code c ≡ reply_code d = grind (arith, nat_tests) in
     gives_code v a p x n c ∙ ap (λ (i : ℕ). if i == 0 then fills_by v a p x n else []) k ∙ sym (gives_code v a p x n d)
@@ -111,7 +111,7 @@ only_if : (a : Addresses) (p : Pid) (c : Bool) (gs : List Gets) → OnlySlots a 
 only_if a p true gs h = h
 only_if a p false gs h = only_none a p
 
-only_gives_by : (v : View) (a : Addresses) (p : Pid) (x : PlainProcess) (n : calls.CallNumber) (c : Reply) → OnlySlots a (given a (gives_by v a p x n c)) p
+pub only_gives_by : (v : View) (a : Addresses) (p : Pid) (x : PlainProcess) (n : calls.CallNumber) (c : Reply) → OnlySlots a (given a (gives_by v a p x n c)) p
 only_gives_by v a p x n c =
     subst (λ (gs : List Gets). OnlySlots a (given a gs) p) (sym (gives_code v a p x n c)) (only_if a p (reply_code c == 0) (fills_by v a p x n) (only_fills_by v a p x n))
 

@@ -44,11 +44,11 @@ use Rattle.dm_rule.specs.View.{Known, Unknown, Here, Frozen, Incoming, Forward, 
 use Rattle.dm_rule.proofs.HomesServes.{ReceivedAt}
 use Rattle.dm_rule.proofs.HomesGroups.{PartsGood, group_keeps, if_parts, tick_keeps, deliver_keeps}
 
-abbrev GoodOf : OneKernel → (MsgId → ℕ) → ℕ → Option (List Part) → Type 0
+abbrev pub GoodOf : OneKernel → (MsgId → ℕ) → ℕ → Option (List Part) → Type 0
 GoodOf s e m None = ⊤
 GoodOf s e m (Some ps) = PartsGood s e m ps
 
-good_of : (s : OneKernel) (e : MsgId → ℕ) (m : ℕ) (o : Option (List Part)) (ps : List Part) → GoodOf s e m o → o ≡ Some ps → PartsGood s e m ps
+pub good_of : (s : OneKernel) (e : MsgId → ℕ) (m : ℕ) (o : Option (List Part)) (ps : List Part) → GoodOf s e m o → o ≡ Some ps → PartsGood s e m ps
 good_of s e m None ps h is = cc
 good_of s e m (Some qs) ps h is = let f : qs ≡ ps = cc in subst (PartsGood s e m) f h
 
@@ -230,7 +230,7 @@ for_home : (m : ℕ) (o : Option PlainMessage) (x : PlainMessage) → is_for_hom
 for_home m None x h is = cc
 for_home m (Some y) x h is = let f : y ≡ x = cc in let g : y.to.home ≡ m = grind (arith, nat_tests) in ap (λ (v : PlainMessage). v.to.home) (sym f) ∙ g
 
-turns_good : (b : Boot) (r e : MsgId → ℕ) (pt : Point) (m : ℕ) (is : List MsgId) → all_stand pt.kernel e m is ≡ true → Home r e pt → GoodOf pt.kernel e m (rule.turns b pt m is)
+pub turns_good : (b : Boot) (r e : MsgId → ℕ) (pt : Point) (m : ℕ) (is : List MsgId) → all_stand pt.kernel e m is ≡ true → Home r e pt → GoodOf pt.kernel e m (rule.turns b pt m is)
 turns_good b r e pt m [] all h =
     round_good b e pt m (rule.first_runnable pt.kernel (pt.view.queue m) (pt.view.ring m)) (λ p is. runnable_home pt.kernel (pt.view.queue m) m (pt.view.ring m) p (h.rings.ring m) is)
 turns_good b r e pt m (i ∷ is) all h =

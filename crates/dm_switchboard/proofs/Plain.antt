@@ -25,7 +25,7 @@ use Rattle.dm_switchboard.specs.Board.{Board, Named, plain_board, plain_named, r
 use Rattle.dm_switchboard.specs.Plainly.{plain_taken, plainly_taken}
 use Rattle.dm_switchboard.specs.Taking.{Asked, Taken, answer_over, asks, asks_to_look_up, asks_to_register, bad_request, found_or_unknown, link_named, looks_up, registers, registers_new, takes_request}
 
-abbrev plain_reply : Reply → one.Answer
+abbrev pub plain_reply : Reply → one.Answer
 plain_reply reply.Registered = one.Registered
 plain_reply (reply.Found link) = one.Found (plain_link link)
 plain_reply reply.Unknown = one.Unknown
@@ -33,7 +33,7 @@ plain_reply reply.Taken = one.Taken
 plain_reply reply.BadLink = one.BadLink
 plain_reply reply.BadRequest = one.BadRequest
 
-abbrev plain_asked : Asked → one.Asked
+abbrev pub plain_asked : Asked → one.Asked
 plain_asked a = record { names = map plain_named a.names; answer = plain_reply a.reply }
 
 -- what is done to both choices is done to the choice
@@ -88,7 +88,7 @@ plain_asks_to_look_up ks name (l ∷ ls) = refl
 abbrev looks_or_not : List Named → ℕ → List ℕ → List Link → Asked
 looks_or_not ks operation name ls = if operation == 2 then asks_to_look_up ks name ls else bad_request ks
 
-plain_asks : (ks : List Named) (body : List ℕ) (ls : List Link) → one.asks (map plain_named ks) body (map plain_link ls) ≡ plain_asked (asks ks body ls)
+pub plain_asks : (ks : List Named) (body : List ℕ) (ls : List Link) → one.asks (map plain_named ks) body (map plain_link ls) ≡ plain_asked (asks ks body ls)
 plain_asks ks [] ls = refl
 plain_asks ks (operation ∷ name) ls =
     both (operation == 1) _ (plain_asked (asks_to_register ks name ls)) _ (plain_asked (looks_or_not ks operation name ls)) (plain_asks_to_register ks name ls)
@@ -96,7 +96,7 @@ plain_asks ks (operation ∷ name) ls =
     ∙ sym (done_to_both plain_asked (operation == 2) (asks_to_look_up ks name ls) (bad_request ks)))
     ∙ sym (done_to_both plain_asked (operation == 1) (asks_to_register ks name ls) (looks_or_not ks operation name ls))
 
-plain_answer : (n : ℕ) (l : Link) (r : Reply) → plain_message (answer_over n l r) ≡ Some (one.goes_over switchboard n (plain_link l) (one.code_of_answer (plain_reply r) ∷ []) (one.links_of_answer (plain_reply r)))
+pub plain_answer : (n : ℕ) (l : Link) (r : Reply) → plain_message (answer_over n l r) ≡ Some (one.goes_over switchboard n (plain_link l) (one.code_of_answer (plain_reply r) ∷ []) (one.links_of_answer (plain_reply r)))
 plain_answer n l reply.Registered = refl
 plain_answer n l (reply.Found k) = refl
 plain_answer n l reply.Unknown = refl
@@ -104,7 +104,7 @@ plain_answer n l reply.Taken = refl
 plain_answer n l reply.BadLink = refl
 plain_answer n l reply.BadRequest = refl
 
-plain_request : (b : Board) (body : List ℕ) (ls : List Link) (t : Taken) → takes_request b body ls ≡ t → plain_taken t.board t.took ≡ Some (one.takes_request (plain_board b) body (map plain_link ls))
+pub plain_request : (b : Board) (body : List ℕ) (ls : List Link) (t : Taken) → takes_request b body ls ≡ t → plain_taken t.board t.took ≡ Some (one.takes_request (plain_board b) body (map plain_link ls))
 plain_request b body [] t e = ap (λ (t : Taken). plain_taken t.board t.took) (sym e)
 plain_request b body (l ∷ ls) t e =
     let a : Asked = asks b.names body ls in

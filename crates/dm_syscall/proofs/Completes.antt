@@ -95,7 +95,7 @@ what_plainly p place mask base cap id to sender (what.User code channel body lin
     ∙ ap plain f)
 what_plainly p place mask base cap id to sender w d m on e same here = absurd (cc)
 
-status_plainly : (p : Process) (place : ℕ) (s : Status) (o : Option Message) (d : Completion) (m : PlainMessage) → IsAwaited s o → completion p place s o ≡ Some d → bind o plain_message ≡ Some m
+pub status_plainly : (p : Process) (place : ℕ) (s : Status) (o : Option Message) (d : Completion) (m : PlainMessage) → IsAwaited s o → completion p place s o ≡ Some d → bind o plain_message ≡ Some m
     → m.to ≡ p.pid → kernel.completes_status p.pid (plain_process p) m (plain_status s) ≡ Some (plain d)
 status_plainly p place (status.Waiting mask base cap) (Some x) d m h e same here = what_plainly p place mask base cap x.id x.to x.sender x.what d m h e same here
 status_plainly p place s o d m h e same here = absurd h
