@@ -1,0 +1,5 @@
+pub mod Words
+pub mod Labels
+pub mod Ends
+pub mod Text
+pub mod Written

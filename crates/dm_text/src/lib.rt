@@ -1,0 +1,5 @@
+//! What a run prints: the text of its lines, and the lines of a text.
+#![tactic(auto)]
+
+pub mod text;
+pub mod word;
