@@ -1,2 +1,3 @@
 pub mod Spacing
 pub mod Kept
+pub mod Lines

@@ -8,7 +8,9 @@ use Rattle.dm_text.specs.Words.{pid_word, id_word}
 
 abbrev pub word_text : Word → List ℕ
 word_text (word.Name name) = name.now
+word_text (word.Byte n) = decimal n
 word_text (word.Number n) = decimal n
+word_text (word.Wide n) = decimal n
 word_text (word.Process p) = pid_word p
 word_text (word.Message id) = id_word id
 word_text (word.Bytes bytes) = hex bytes.now

@@ -1,5 +1,7 @@
 //! What a run prints: the text of its lines, and the lines of a text.
 #![tactic(auto)]
 
+mod ends;
+mod labels;
 pub mod text;
-pub mod word;
+mod word;

@@ -1,5 +1,5 @@
 //! Writing the words of a line at the end of a text.
-ghost use Rattle.std.specs.Prelude.{◌≡◌, ◌<◌, ◌∷◌, ◌++◌, OnErr, OnOk, codes, map};
+ghost use Rattle.std.specs.Prelude.{◌≡◌, [], ◌<◌, ◌∷◌, ◌++◌, OnErr, OnOk, codes, map};
 ghost use Rattle.std.specs.Fmt.{decimal};
 ghost use Rattle.dm_text.specs.Ends.{hex, hex_digit};
 ghost use Rattle.dm_text.specs.Text.{spaced, spelled};
@@ -15,7 +15,9 @@ use itoa::Buffer;
 #[derive(Clone, Copy)]
 pub(crate) enum Word<'a> {
     Name(&'static str),
-    Number(u64),
+    Byte(u8),
+    Number(u32),
+    Wide(u64),
     Process(Pid),
     Message(MsgId),
     Bytes(&'a [u8]),
@@ -91,7 +93,9 @@ fn put_word(into: &mut Vec<u8>, word: Word) -> Result<(), NoMemory>
             into.extend_from_slice(name.as_bytes())?;
             Ok(())
         }
-        Word::Number(n) => put_number(into, n),
+        Word::Byte(n) => put_number(into, u64::from(n)),
+        Word::Number(n) => put_number(into, u64::from(n)),
+        Word::Wide(n) => put_number(into, n),
         Word::Process(pid) => put_pid(into, pid),
         Word::Message(id) => put_id(into, id),
         Word::Bytes(bytes) => put_hex(into, bytes),
@@ -99,7 +103,7 @@ fn put_word(into: &mut Vec<u8>, word: Word) -> Result<(), NoMemory>
 }
 
 /// Writes words, each behind a space.
-fn put_words(into: &mut Vec<u8>, words: &[Word]) -> Result<(), NoMemory>
+pub(crate) fn put_words(into: &mut Vec<u8>, words: &[Word]) -> Result<(), NoMemory>
     ensures ok { OnOk result (into.new.items ≡ into.old.items ++ spaced (map word_text words.now)) }
     ensures err { OnErr result (Keeps into.old.items into.new.items) }
 {
@@ -121,12 +125,12 @@ fn put_ids(into: &mut Vec<u8>, ids: &[MsgId]) -> Result<(), NoMemory>
 }
 
 /// Writes numbers, each behind a space.
-fn put_numbers(into: &mut Vec<u8>, numbers: &[u32]) -> Result<(), NoMemory>
+pub(crate) fn put_numbers(into: &mut Vec<u8>, numbers: &[u32]) -> Result<(), NoMemory>
     ensures ok { OnOk result (into.new.items ≡ into.old.items ++ spaced (map decimal numbers.now)) }
     ensures err { OnErr result (Keeps into.old.items into.new.items) }
 {
     for n in numbers {
-        put_word(into, Word::Number(u64::from(*n)))?;
+        put_word(into, Word::Number(*n))?;
     }
     Ok(())
 }
@@ -155,6 +159,19 @@ pub(crate) fn put_listed(
     into.extend_from_slice(name.as_bytes())?;
     put_words(into, words)?;
     put_ids(into, ids)?;
+    into.push(b'\n')?;
+    Ok(())
+}
+
+/// Writes a line of a name and a number.
+pub(crate) fn put_count(into: &mut Vec<u8>, name: &str, count: u128) -> Result<(), NoMemory>
+    ensures ok { OnOk result (into.new.items ≡ into.old.items ++ spelled (name.now ∷ decimal count ∷ [])) }
+    ensures err { OnErr result (Keeps into.old.items into.new.items) }
+{
+    let mut buffer = Buffer::new();
+    into.extend_from_slice(name.as_bytes())?;
+    into.push(b' ')?;
+    into.extend_from_slice(buffer.format(count).as_bytes())?;
     into.push(b'\n')?;
     Ok(())
 }
