@@ -1,6 +1,7 @@
 //! What a run prints: the text of its lines, and the lines of a text.
 #![tactic(auto)]
 
+pub mod back;
 mod ends;
 mod labels;
 pub mod text;
