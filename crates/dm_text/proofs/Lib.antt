@@ -11,3 +11,4 @@ pub mod Names
 pub mod Numbers
 pub mod Pieces
 pub mod Spacing
+mod Worked

@@ -4,5 +4,8 @@
 pub mod back;
 mod ends;
 mod labels;
+mod rows;
+#[cfg(test)]
+mod tests;
 pub mod text;
 mod word;

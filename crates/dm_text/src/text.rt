@@ -6,8 +6,13 @@ ghost use Rattle.dm_text.specs.Written.{Keeps};
 
 use crate::ends::put_end;
 use crate::labels::{put_head, put_label};
-use crate::word::Word::{Byte, Message, Name, Number, Process, Wide};
+use crate::rows::{
+    put_machine, put_machine_number, put_message, put_message_number, put_pair_number, put_process,
+    put_process_room, put_routed, put_sent_on,
+};
+use crate::word::Word::{Byte, Name, Number, Process, Wide};
 use crate::word::put_line;
+use dm_link::Pid;
 use dm_memory::NoMemory;
 use dm_rule::line::{Line, Load, Stage};
 
@@ -42,89 +47,55 @@ fn put_packet(into: &mut Vec<u8>, from: u8, to: u8, k: u64, load: Load) -> Resul
     )
 }
 
-/// Writes a line, and maybe leaves a part of it where memory lacks.
+/// Writes the line of a step of a migration.
+fn put_stage(into: &mut Vec<u8>, stage: Stage, pid: Pid) -> Result<(), NoMemory>
+    ensures ok { OnOk result (into.new.items ≡ into.old.items ++ text (line.Migration stage pid)) }
+    ensures err { OnErr result (Keeps into.old.items into.new.items) }
+{
+    put_line(into, "step", &[Name(stage_name(stage)), Process(pid)])
+}
+
+/// Writes a line, and where memory lacks maybe a part of it.
 fn put_text(into: &mut Vec<u8>, line: &Line) -> Result<(), NoMemory>
     ensures ok { OnOk result (into.new.items ≡ into.old.items ++ text line.now) }
     ensures err { OnErr result (Keeps into.old.items into.new.items) }
 {
-    match line {
-        Line::Head(step) => put_head(into, *step),
-        Line::Idle(m) => put_line(into, "idle", &[Byte(*m)]),
-        Line::Label(label) => put_label(into, *label),
+    match *line {
+        Line::Head(step) => put_head(into, step),
+        Line::Idle(m) => put_machine(into, "idle", m),
+        Line::Label(label) => put_label(into, label),
         Line::Put {
             from,
             to,
             id,
             kind,
             receiver,
-        } => put_line(
-            into,
-            "put",
-            &[
-                Byte(*from),
-                Byte(*to),
-                Message(*id),
-                Name(kind.word()),
-                Process(*receiver),
-            ],
-        ),
-        Line::Packet { from, to, k, load } => put_packet(into, *from, *to, *k, *load),
-        Line::Taken { from, to, n } => put_line(
-            into,
-            "taken",
-            &[Byte(*from), Byte(*to), Number(*n)],
-        ),
-        Line::Old { from, to, n } => put_line(into, "old", &[Byte(*from), Byte(*to), Number(*n)]),
-        Line::Early { from, to, n } => put_line(
-            into,
-            "early",
-            &[Byte(*from), Byte(*to), Number(*n)],
-        ),
-        Line::Acked { from, to, n } => put_line(
-            into,
-            "acked",
-            &[Byte(*from), Byte(*to), Number(*n)],
-        ),
+        } => put_routed(into, from, to, id, kind, receiver),
+        Line::Packet { from, to, k, load } => put_packet(into, from, to, k, load),
+        Line::Taken { from, to, n } => put_pair_number(into, "taken", from, to, n),
+        Line::Old { from, to, n } => put_pair_number(into, "old", from, to, n),
+        Line::Early { from, to, n } => put_pair_number(into, "early", from, to, n),
+        Line::Acked { from, to, n } => put_pair_number(into, "acked", from, to, n),
         Line::Nothing => put_line(into, "none", &[]),
-        Line::Resent { machine, count } => put_line(
-            into,
-            "resent",
-            &[Byte(*machine), Number(*count)],
-        ),
-        Line::Queued(id) => put_line(into, "queued", &[Message(*id)]),
-        Line::Held(id) => put_line(into, "held", &[Message(*id)]),
-        Line::Forwarded { id, to } => put_line(into, "forwarded", &[Message(*id), Byte(*to)]),
-        Line::Updated { id, count } => put_line(into, "updated", &[Message(*id), Number(*count)]),
-        Line::Migration { step, pid } => put_line(
-            into,
-            "step",
-            &[Name(stage_name(*step)), Process(*pid)],
-        ),
-        Line::SentOn { pid, count } => put_line(
-            into,
-            "step",
-            &[Name("6"), Process(*pid), Number(*count)],
-        ),
+        Line::Resent { machine, count } => put_machine_number(into, "resent", machine, count),
+        Line::Queued(id) => put_message(into, "queued", id),
+        Line::Held(id) => put_message(into, "held", id),
+        Line::Forwarded { id, to } => put_message_number(into, "forwarded", id, u32::from(to)),
+        Line::Updated { id, count } => put_message_number(into, "updated", id, count),
+        Line::Migration { step, pid } => put_stage(into, step, pid),
+        Line::SentOn { pid, count } => put_sent_on(into, pid, count),
         Line::Lacks {
             pid,
             free_slots,
             free_blocks,
-        } => put_line(
-            into,
-            "lacks",
-            &[
-                Process(*pid),
-                Byte(*free_slots),
-                Number(u32::from(*free_blocks)),
-            ],
-        ),
-        Line::Stays(pid) => put_line(into, "stays", &[Process(*pid)]),
-        Line::Here(id) => put_line(into, "here", &[Message(*id)]),
-        Line::NoMove(id) => put_line(into, "nomove", &[Message(*id)]),
-        Line::Proto(id) => put_line(into, "proto", &[Message(*id)]),
-        Line::NoChild(pid) => put_line(into, "nochild", &[Process(*pid)]),
-        Line::Pinned(pid) => put_line(into, "pinned", &[Process(*pid)]),
-        Line::End(end) => put_end(into, end),
+        } => put_process_room(into, "lacks", pid, free_slots, free_blocks),
+        Line::Stays(pid) => put_process(into, "stays", pid),
+        Line::Here(id) => put_message(into, "here", id),
+        Line::NoMove(id) => put_message(into, "nomove", id),
+        Line::Proto(id) => put_message(into, "proto", id),
+        Line::NoChild(pid) => put_process(into, "nochild", pid),
+        Line::Pinned(pid) => put_process(into, "pinned", pid),
+        Line::End(ref end) => put_end(into, end),
     }
 }
 

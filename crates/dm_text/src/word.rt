@@ -83,12 +83,12 @@ fn put_hex(into: &mut Vec<u8>, bytes: &[u8]) -> Result<(), NoMemory>
 }
 
 /// Writes a word behind a space.
-fn put_word(into: &mut Vec<u8>, word: Word) -> Result<(), NoMemory>
-    ensures ok { OnOk result (into.new.items ≡ into.old.items ++ codes " " ++ word_text word.entry) }
+fn put_word(into: &mut Vec<u8>, word: &Word) -> Result<(), NoMemory>
+    ensures ok { OnOk result (into.new.items ≡ into.old.items ++ codes " " ++ word_text word.now) }
     ensures err { OnErr result (Keeps into.old.items into.new.items) }
 {
     into.push(b' ')?;
-    match word {
+    match *word {
         Word::Name(name) => {
             into.extend_from_slice(name.as_bytes())?;
             Ok(())
@@ -108,7 +108,7 @@ pub(crate) fn put_words(into: &mut Vec<u8>, words: &[Word]) -> Result<(), NoMemo
     ensures err { OnErr result (Keeps into.old.items into.new.items) }
 {
     for word in words {
-        put_word(into, *word)?;
+        put_word(into, word)?;
     }
     Ok(())
 }
@@ -119,7 +119,7 @@ fn put_ids(into: &mut Vec<u8>, ids: &[MsgId]) -> Result<(), NoMemory>
     ensures err { OnErr result (Keeps into.old.items into.new.items) }
 {
     for id in ids {
-        put_word(into, Word::Message(*id))?;
+        put_word(into, &Word::Message(*id))?;
     }
     Ok(())
 }
@@ -130,7 +130,7 @@ pub(crate) fn put_numbers(into: &mut Vec<u8>, numbers: &[u32]) -> Result<(), NoM
     ensures err { OnErr result (Keeps into.old.items into.new.items) }
 {
     for n in numbers {
-        put_word(into, Word::Number(*n))?;
+        put_word(into, &Word::Number(*n))?;
     }
     Ok(())
 }
