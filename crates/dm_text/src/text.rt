@@ -104,10 +104,10 @@ pub fn write_line(line: &Line, into: &mut Vec<u8>) -> Result<(), NoMemory>
     ensures written { OnOk result (into.new.items ≡ into.old.items ++ text line.now) }
     ensures same { OnErr result (into.new.items ≡ into.old.items) }
 {
-    let len = into.len();
+    let start = into.len();
     let written = put_text(into, line);
     if written.is_err() {
-        into.truncate(len);
+        into.truncate(start);
     }
     written
 }
