@@ -114,3 +114,48 @@ LineFits (line.Proto i) = IdFits i
 LineFits (line.NoChild p) = PidFits p
 LineFits (line.Pinned p) = PidFits p
 LineFits (line.End e) = EndFits e
+
+-- a printed link is none to a kernel, whose mark the text leaves out
+abbrev pub EndHidesNothing : EndLine → Type 0
+EndHidesNothing end.Final = ⊤
+EndHidesNothing (end.Ended p y) = ⊤
+EndHidesNothing (end.Process p m s d stopped sent) = ⊤
+EndHidesNothing (end.Registers p r pc) = ⊤
+EndHidesNothing (end.Memory p k bytes) = ⊤
+EndHidesNothing (end.Link p slot l) = l.to_kernel ≡ false
+EndHidesNothing (end.Server p sent) = ⊤
+EndHidesNothing (end.Name name l) = l.to_kernel ≡ false
+EndHidesNothing (end.Child n p m) = ⊤
+EndHidesNothing (end.Pending i) = ⊤
+EndHidesNothing (end.Queue p ids) = ⊤
+EndHidesNothing (end.Holding m p ids) = ⊤
+EndHidesNothing (end.Inbox m ids) = ⊤
+EndHidesNothing (end.Stream a b ids) = ⊤
+EndHidesNothing (end.Groups g) = ⊤
+
+abbrev pub HidesNothing : Line → Type 0
+HidesNothing (line.Head s) = ⊤
+HidesNothing (line.Idle m) = ⊤
+HidesNothing (line.Label l) = ⊤
+HidesNothing (line.Put a b i k q) = ⊤
+HidesNothing (line.Packet a b k l) = ⊤
+HidesNothing (line.Taken a b n) = ⊤
+HidesNothing (line.Old a b n) = ⊤
+HidesNothing (line.Early a b n) = ⊤
+HidesNothing (line.Acked a b n) = ⊤
+HidesNothing line.Nothing = ⊤
+HidesNothing (line.Resent m n) = ⊤
+HidesNothing (line.Queued i) = ⊤
+HidesNothing (line.Held i) = ⊤
+HidesNothing (line.Forwarded i m) = ⊤
+HidesNothing (line.Updated i n) = ⊤
+HidesNothing (line.Migration s p) = ⊤
+HidesNothing (line.SentOn p n) = ⊤
+HidesNothing (line.Lacks p s b) = ⊤
+HidesNothing (line.Stays p) = ⊤
+HidesNothing (line.Here i) = ⊤
+HidesNothing (line.NoMove i) = ⊤
+HidesNothing (line.Proto i) = ⊤
+HidesNothing (line.NoChild p) = ⊤
+HidesNothing (line.Pinned p) = ⊤
+HidesNothing (line.End e) = EndHidesNothing e
