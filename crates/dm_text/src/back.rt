@@ -18,34 +18,33 @@ pub fn text_can_be_read()
     ensures once { (a b : List Line) → All LineFits a → All LineFits b → text_of_lines a ≡ text_of_lines b → a ≡ b }
 {}
 
-/// The numbers of the name of a process are within their types.
-fn pid_fits(pid: Pid)
-    ensures { PidFits pid }
+/// The name of a process, a byte and a number of 32 bits are within their types.
+fn process_fits(pid: Pid, byte: u8, word: u32)
+    ensures pid { PidFits pid }
+    ensures byte { IsByte byte }
+    ensures word { IsWord word }
 {}
 
-/// So are those of the name of a message.
-fn id_fits(id: MsgId)
-    ensures { IdFits id }
+/// So are the name of a message, a byte and a number of 32 bits.
+fn message_fits(id: MsgId, byte: u8, word: u32)
+    ensures id { IdFits id }
+    ensures byte { IsByte byte }
+    ensures word { IsWord word }
 {}
 
-/// So is a machine, or another byte.
-fn byte_fits(n: u8)
-    ensures { IsByte n }
+/// So are two machines and a number of 32 bits.
+fn pair_fits(a: u8, b: u8, n: u32)
+    ensures { IsByte a × IsByte b × IsWord n }
 {}
 
-/// So is a number of 32 bits.
-fn word_fits(n: u32)
-    ensures { IsWord n }
+/// So are the parts of a packet's line.
+fn packet_fits(a: u8, b: u8, k: u64, load: Load)
+    ensures { IsByte a × IsByte b × (k < 2 ^ 64) × LoadFits load }
 {}
 
-/// So is the number of a packet.
-fn packet_fits(k: u64)
-    ensures { k < 2 ^ 64 }
-{}
-
-/// So is what is free.
+/// So is the room that is free.
 fn room_fits(slots: u8, blocks: u16)
-    ensures { (slots < 2 ^ 8) × (blocks < 2 ^ 16) }
+    ensures { IsByte slots × (blocks < 2 ^ 16) }
 {}
 
 /// So is the number of groups.
@@ -58,7 +57,7 @@ fn ids_fit(ids: &[MsgId])
     ensures { All IdFits ids.now }
 {
     for id in ids {
-        id_fits(*id);
+        message_fits(*id, 0, 0);
     }
 }
 
@@ -72,7 +71,7 @@ fn words_fit(words: &[u32])
     ensures { All IsWord words.now }
 {}
 
-/// So are those of a link.
+/// So are the numbers of a link.
 fn link_fits(link: Link)
     ensures { link.to_kernel ≡ false → LinkFits link }
 {}
@@ -92,23 +91,13 @@ fn label_fits(label: Label)
     ensures { LabelFits label }
 {}
 
-/// So is what a packet carries.
-fn load_fits(load: Load)
-    ensures { LoadFits load }
-{}
-
-/// So are two machines and a number.
-fn pair_fits(a: u8, b: u8, n: u32)
-    ensures { (a < 2 ^ 8) × (b < 2 ^ 8) × (n < 2 ^ 32) }
-{}
-
 /// So are those of a line at the end, if it leaves no mark of a link out.
 fn end_fits(end: &EndLine)
     ensures { EndHidesNothing end.now → EndFits end.now }
 {
     match *end {
         EndLine::Final => {}
-        EndLine::Ended { pid, .. } => pid_fits(pid),
+        EndLine::Ended { pid, .. } => process_fits(pid, 0, 0),
         EndLine::Process {
             pid,
             at,
@@ -116,46 +105,34 @@ fn end_fits(end: &EndLine)
             sent,
             ..
         } => {
-            pid_fits(pid);
-            byte_fits(at);
+            process_fits(pid, at, sent);
             doing_fits(doing);
-            word_fits(sent);
         }
         EndLine::Registers { pid, ref r, pc } => {
-            pid_fits(pid);
+            process_fits(pid, 0, pc);
             words_fit(r);
-            word_fits(pc);
         }
         EndLine::Memory {
             pid,
             block,
             ref bytes,
         } => {
-            pid_fits(pid);
-            byte_fits(block);
+            process_fits(pid, block, 0);
             bytes_fit(bytes);
         }
         EndLine::Link { pid, slot, link } => {
-            pid_fits(pid);
-            byte_fits(slot);
+            process_fits(pid, slot, 0);
             link_fits(link);
         }
-        EndLine::Server { pid, sent } => {
-            pid_fits(pid);
-            word_fits(sent);
-        }
+        EndLine::Server { pid, sent } => process_fits(pid, 0, sent),
         EndLine::Name { ref name, link } => {
             bytes_fit(name);
             link_fits(link);
         }
-        EndLine::Child { number, pid, at } => {
-            word_fits(number);
-            pid_fits(pid);
-            byte_fits(at);
-        }
-        EndLine::Pending(id) => id_fits(id),
+        EndLine::Child { number, pid, at } => process_fits(pid, at, number),
+        EndLine::Pending(id) => message_fits(id, 0, 0),
         EndLine::Queue { pid, ref ids } => {
-            pid_fits(pid);
+            process_fits(pid, 0, 0);
             ids_fit(ids.as_slice());
         }
         EndLine::Holding {
@@ -163,17 +140,15 @@ fn end_fits(end: &EndLine)
             pid,
             ref ids,
         } => {
-            byte_fits(machine);
-            pid_fits(pid);
+            process_fits(pid, machine, 0);
             ids_fit(ids.as_slice());
         }
         EndLine::Inbox { machine, ref ids } => {
-            byte_fits(machine);
+            pair_fits(machine, 0, 0);
             ids_fit(ids.as_slice());
         }
         EndLine::Stream { from, to, ref ids } => {
-            byte_fits(from);
-            byte_fits(to);
+            pair_fits(from, to, 0);
             ids_fit(ids.as_slice());
         }
         EndLine::Groups(count) => count_fits(count),
@@ -186,7 +161,7 @@ pub fn line_fits(line: &Line)
 {
     match *line {
         Line::Head(step) => step_fits(step),
-        Line::Idle(m) => byte_fits(m),
+        Line::Idle(m) => pair_fits(m, 0, 0),
         Line::Label(label) => label_fits(label),
         Line::Put {
             from,
@@ -196,49 +171,36 @@ pub fn line_fits(line: &Line)
             ..
         } => {
             pair_fits(from, to, 0);
-            id_fits(id);
-            pid_fits(receiver);
+            message_fits(id, 0, 0);
+            process_fits(receiver, 0, 0);
         }
-        Line::Packet { from, to, k, load } => {
-            pair_fits(from, to, 0);
-            packet_fits(k);
-            load_fits(load);
-        }
+        Line::Packet { from, to, k, load } => packet_fits(from, to, k, load),
         Line::Taken { from, to, n } => pair_fits(from, to, n),
         Line::Old { from, to, n } => pair_fits(from, to, n),
         Line::Early { from, to, n } => pair_fits(from, to, n),
         Line::Acked { from, to, n } => pair_fits(from, to, n),
         Line::Nothing => {}
         Line::Resent { machine, count } => pair_fits(machine, 0, count),
-        Line::Queued(id) => id_fits(id),
-        Line::Held(id) => id_fits(id),
-        Line::Forwarded { id, to } => {
-            id_fits(id);
-            byte_fits(to);
-        }
-        Line::Updated { id, count } => {
-            id_fits(id);
-            word_fits(count);
-        }
-        Line::Migration { pid, .. } => pid_fits(pid),
-        Line::SentOn { pid, count } => {
-            pid_fits(pid);
-            word_fits(count);
-        }
+        Line::Queued(id) => message_fits(id, 0, 0),
+        Line::Held(id) => message_fits(id, 0, 0),
+        Line::Forwarded { id, to } => message_fits(id, to, 0),
+        Line::Updated { id, count } => message_fits(id, 0, count),
+        Line::Migration { pid, .. } => process_fits(pid, 0, 0),
+        Line::SentOn { pid, count } => process_fits(pid, 0, count),
         Line::Lacks {
             pid,
             free_slots,
             free_blocks,
         } => {
-            pid_fits(pid);
+            process_fits(pid, 0, 0);
             room_fits(free_slots, free_blocks);
         }
-        Line::Stays(pid) => pid_fits(pid),
-        Line::Here(id) => id_fits(id),
-        Line::NoMove(id) => id_fits(id),
-        Line::Proto(id) => id_fits(id),
-        Line::NoChild(pid) => pid_fits(pid),
-        Line::Pinned(pid) => pid_fits(pid),
+        Line::Stays(pid) => process_fits(pid, 0, 0),
+        Line::Here(id) => message_fits(id, 0, 0),
+        Line::NoMove(id) => message_fits(id, 0, 0),
+        Line::Proto(id) => message_fits(id, 0, 0),
+        Line::NoChild(pid) => process_fits(pid, 0, 0),
+        Line::Pinned(pid) => process_fits(pid, 0, 0),
         Line::End(ref end) => end_fits(end),
     }
 }
