@@ -2,15 +2,18 @@
 ghost use Rattle.std.specs.Prelude.{◌≡◌, ◌∷◌, ◌++◌, [], OnErr, OnOk, codes, map};
 ghost use Rattle.std.specs.Fmt.{decimal};
 ghost use Rattle.dm_rule.specs.declared.line.EndLine.TheVariants as end;
-ghost use Rattle.dm_text.specs.Ends.{direction_word, doing_words, end_words, go_word, kind_word, link_words, rights_word, standing_word};
+ghost use Rattle.dm_text.specs.Ends.{direction_word, doing_words, end_words, go_word, hex, kind_word, link_words, rights_word, standing_word};
 ghost use Rattle.dm_text.specs.Text.{spaced, spelled};
 ghost use Rattle.dm_text.specs.Words.{pid_word};
 ghost use Rattle.dm_text.specs.Written.{Keeps, word_text};
 
-use crate::word::Word::{Byte, Bytes, Message, Name, Number, Process};
+use crate::rows::{put_message, put_process_number};
+use crate::word::Word::{Byte, Bytes, Name, Number, Process};
 use crate::word::{Word, put_count, put_line, put_listed, put_numbers, put_words};
 use dm_link::{Area, Kind, Link, Pid};
 use dm_memory::NoMemory;
+use dm_message::MsgId;
+use dm_onekernel::Why;
 use dm_process::Direction;
 use dm_rule::line::{Doing, EndLine, Standing};
 
@@ -176,18 +179,109 @@ fn put_process(
     Ok(())
 }
 
+/// Writes the line of a process that has not ended, of its place and of what it does.
+fn put_living(
+    into: &mut Vec<u8>,
+    pid: Pid,
+    at: u8,
+    standing: Standing,
+    doing: Doing,
+    stopped: bool,
+    sent: u32,
+) -> Result<(), NoMemory>
+    ensures ok { OnOk result (into.new.items ≡ into.old.items ++ spelled (end_words (end.Process pid at standing doing stopped sent))) }
+    ensures err { OnErr result (Keeps into.old.items into.new.items) }
+{
+    let place = Name(standing_name(standing));
+    let go = Name(go_name(stopped));
+    put_process(
+        into,
+        [Process(pid), Name("at"), Byte(at), place],
+        doing,
+        [go, Number(sent)],
+    )
+}
+
+/// Writes the line of a process that has ended.
+fn put_ended(into: &mut Vec<u8>, pid: Pid, why: Why) -> Result<(), NoMemory>
+    ensures ok { OnOk result (into.new.items ≡ into.old.items ++ spelled (end_words (end.Ended pid why))) }
+    ensures err { OnErr result (Keeps into.old.items into.new.items) }
+{
+    put_line(
+        into,
+        "process",
+        &[Process(pid), Name("ended"), Byte(why.code())],
+    )
+}
+
+/// Writes the line of a block.
+fn put_memory(into: &mut Vec<u8>, pid: Pid, block: u8, bytes: &[u8]) -> Result<(), NoMemory>
+    ensures ok { OnOk result (into.new.items ≡ into.old.items ++ spelled (codes "memory" ∷ pid_word pid ∷ decimal block ∷ hex bytes.now ∷ [])) }
+    ensures err { OnErr result (Keeps into.old.items into.new.items) }
+{
+    put_line(into, "memory", &[Process(pid), Byte(block), Bytes(bytes)])
+}
+
+/// Writes the line of a link of a process.
+fn put_held_link(into: &mut Vec<u8>, pid: Pid, slot: u8, link: &Link) -> Result<(), NoMemory>
+    ensures ok { OnOk result (into.new.items ≡ into.old.items ++ spelled (end_words (end.Link pid slot link.now))) }
+    ensures err { OnErr result (Keeps into.old.items into.new.items) }
+{
+    put_linked(into, "link", &[Process(pid), Byte(slot)], link)
+}
+
+/// Writes the line of a child of the manager.
+fn put_child(into: &mut Vec<u8>, number: u32, pid: Pid, at: u8) -> Result<(), NoMemory>
+    ensures ok { OnOk result (into.new.items ≡ into.old.items ++ spelled (end_words (end.Child number pid at))) }
+    ensures err { OnErr result (Keeps into.old.items into.new.items) }
+{
+    put_line(
+        into,
+        "child",
+        &[Number(number), Process(pid), Name("at"), Byte(at)],
+    )
+}
+
+/// Writes the line of a queue.
+fn put_queue(into: &mut Vec<u8>, pid: Pid, ids: &[MsgId]) -> Result<(), NoMemory>
+    ensures ok { OnOk result (into.new.items ≡ into.old.items ++ spelled (end_words (end.Queue pid ids.now))) }
+    ensures err { OnErr result (Keeps into.old.items into.new.items) }
+{
+    put_listed(into, "queue", &[Process(pid)], ids)
+}
+
+/// Writes the line of the messages that wait for a migration.
+fn put_holding(into: &mut Vec<u8>, m: u8, pid: Pid, ids: &[MsgId]) -> Result<(), NoMemory>
+    ensures ok { OnOk result (into.new.items ≡ into.old.items ++ spelled (end_words (end.Holding m pid ids.now))) }
+    ensures err { OnErr result (Keeps into.old.items into.new.items) }
+{
+    put_listed(into, "holding", &[Byte(m), Process(pid)], ids)
+}
+
+/// Writes the line of an inbox.
+fn put_inbox(into: &mut Vec<u8>, m: u8, ids: &[MsgId]) -> Result<(), NoMemory>
+    ensures ok { OnOk result (into.new.items ≡ into.old.items ++ spelled (end_words (end.Inbox m ids.now))) }
+    ensures err { OnErr result (Keeps into.old.items into.new.items) }
+{
+    put_listed(into, "inbox", &[Byte(m)], ids)
+}
+
+/// Writes the line of what was routed and not taken.
+fn put_stream(into: &mut Vec<u8>, a: u8, b: u8, ids: &[MsgId]) -> Result<(), NoMemory>
+    ensures ok { OnOk result (into.new.items ≡ into.old.items ++ spelled (end_words (end.Stream a b ids.now))) }
+    ensures err { OnErr result (Keeps into.old.items into.new.items) }
+{
+    put_listed(into, "stream", &[Byte(a), Byte(b)], ids)
+}
+
 /// Writes a line at the end of a run.
 pub(crate) fn put_end(into: &mut Vec<u8>, end: &EndLine) -> Result<(), NoMemory>
     ensures ok { OnOk result (into.new.items ≡ into.old.items ++ spelled (end_words end.now)) }
     ensures err { OnErr result (Keeps into.old.items into.new.items) }
 {
-    match end {
+    match *end {
         EndLine::Final => put_line(into, "final", &[]),
-        EndLine::Ended { pid, why } => put_line(
-            into,
-            "process",
-            &[Process(*pid), Name("ended"), Byte(why.code())],
-        ),
+        EndLine::Ended { pid, why } => put_ended(into, pid, why),
         EndLine::Process {
             pid,
             at,
@@ -195,56 +289,30 @@ pub(crate) fn put_end(into: &mut Vec<u8>, end: &EndLine) -> Result<(), NoMemory>
             doing,
             stopped,
             sent,
-        } => put_process(
-            into,
-            [
-                Process(*pid),
-                Name("at"),
-                Byte(*at),
-                Name(standing_name(*standing)),
-            ],
-            *doing,
-            [Name(go_name(*stopped)), Number(*sent)],
-        ),
-        EndLine::Registers { pid, r, pc } => put_registers(into, *pid, r, *pc),
-        EndLine::Memory { pid, block, bytes } => put_line(
-            into,
-            "memory",
-            &[Process(*pid), Byte(*block), Bytes(bytes)],
-        ),
-        EndLine::Link { pid, slot, link } => put_linked(
-            into,
-            "link",
-            &[Process(*pid), Byte(*slot)],
-            link,
-        ),
-        EndLine::Server { pid, sent } => put_line(into, "server", &[Process(*pid), Number(*sent)]),
-        EndLine::Name { name, link } => put_linked(into, "name", &[Bytes(name)], link),
-        EndLine::Child { number, pid, at } => put_line(
-            into,
-            "child",
-            &[Number(*number), Process(*pid), Name("at"), Byte(*at)],
-        ),
-        EndLine::Pending(id) => put_line(into, "pending", &[Message(*id)]),
-        EndLine::Queue { pid, ids } => put_listed(into, "queue", &[Process(*pid)], ids.as_slice()),
-        EndLine::Holding { machine, pid, ids } => put_listed(
-            into,
-            "holding",
-            &[Byte(*machine), Process(*pid)],
-            ids.as_slice(),
-        ),
-        EndLine::Inbox { machine, ids } => put_listed(
-            into,
-            "inbox",
-            &[Byte(*machine)],
-            ids.as_slice(),
-        ),
-        EndLine::Stream { from, to, ids } => put_listed(
-            into,
-            "stream",
-            &[Byte(*from), Byte(*to)],
-            ids.as_slice(),
-        ),
-        EndLine::Groups(count) => put_count(into, "end", *count),
+        } => put_living(into, pid, at, standing, doing, stopped, sent),
+        EndLine::Registers { pid, ref r, pc } => put_registers(into, pid, r, pc),
+        EndLine::Memory {
+            pid,
+            block,
+            ref bytes,
+        } => put_memory(into, pid, block, bytes),
+        EndLine::Link {
+            pid,
+            slot,
+            ref link,
+        } => put_held_link(into, pid, slot, link),
+        EndLine::Server { pid, sent } => put_process_number(into, "server", pid, sent),
+        EndLine::Name { ref name, ref link } => put_linked(into, "name", &[Bytes(name)], link),
+        EndLine::Child { number, pid, at } => put_child(into, number, pid, at),
+        EndLine::Pending(id) => put_message(into, "pending", id),
+        EndLine::Queue { pid, ref ids } => put_queue(into, pid, ids.as_slice()),
+        EndLine::Holding {
+            machine,
+            pid,
+            ref ids,
+        } => put_holding(into, machine, pid, ids.as_slice()),
+        EndLine::Inbox { machine, ref ids } => put_inbox(into, machine, ids.as_slice()),
+        EndLine::Stream { from, to, ref ids } => put_stream(into, from, to, ids.as_slice()),
+        EndLine::Groups(count) => put_count(into, "end", count),
     }
 }
