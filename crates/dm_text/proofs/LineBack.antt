@@ -1,6 +1,5 @@
 -- Each line read back from its words.
 use Rattle.std.proofs.Common.{◌≡◌, refl, arith, Some}
-use Rattle.dm_message.specs.Kinds.{word_of}
 use Rattle.dm_rule.specs.declared.line.Line.{Line}
 use Rattle.dm_rule.specs.declared.line.Line.TheVariants as line
 use Rattle.dm_rule.specs.declared.line.Load.TheVariants as load

@@ -2,11 +2,11 @@
 use Rattle.std.proofs.Common.{◌≡◌, ℕ, suc, List, [], ◌∷◌, ◌++◌, refl, ap, sym, ◌∙◌, append_assoc, append-nil, arith, Some, true}
 use Rattle.std.specs.List.{All}
 use Rattle.dm_rule.specs.declared.line.Line.{Line}
-use Rattle.dm_text.specs.Text.{words, spaced, spelled, text, text_of_lines}
+use Rattle.dm_text.specs.Text.{words, spaced, spelled, text_of_lines}
 use Rattle.dm_text.specs.Reading.{pieces}
 use Rattle.dm_text.specs.LinesOf.{line_of, line_of_words, lines_from, lines_in, lines_of}
 use Rattle.dm_text.specs.Fits.{LineFits}
-use Rattle.dm_text.proofs.Pieces.{free, above, free-above, free-append, above-le, AreWords, pieces-free, pieces-next}
+use Rattle.dm_text.proofs.Pieces.{free, free-above, free-append, above-le, AreWords, pieces-free, pieces-next}
 use Rattle.dm_text.proofs.LineBack.{words-are, words-back}
 
 -- words with one space between

@@ -1,5 +1,5 @@
 -- Worked lines, and texts that spell no lines.
-use Rattle.std.proofs.Common.{◌≡◌, [], ◌∷◌, ◌++◌, refl, Some, None, true, false}
+use Rattle.std.proofs.Common.{◌≡◌, [], ◌∷◌, refl, Some, None, true, false}
 use Rattle.std.specs.Prelude.{codes}
 use Rattle.std.specs.Fmt.{digits}
 use Rattle.dm_link.specs.Names.{pid_of}
@@ -16,7 +16,7 @@ use Rattle.dm_rule.specs.declared.line.Line.TheVariants as line
 use Rattle.dm_rule.specs.declared.line.Load.TheVariants as load
 use Rattle.dm_rule.specs.declared.line.Standing.TheVariants as standing
 use Rattle.dm_text.specs.Text.{text, text_of_lines}
-use Rattle.dm_text.specs.Reading.{pieces, read_number, read_pid}
+use Rattle.dm_text.specs.Reading.{pieces, read_number}
 use Rattle.dm_text.specs.LinesOf.{line_of, lines_of}
 
 delivered : text_of_lines (line.Head (step.Deliver 0 1 0) ∷ line.Taken 0 1 0 ∷ line.Packet 1 0 0 (load.Ack 1) ∷ []) ≡ codes "deliver 0 1 0\ntaken 0 1 0\npacket 1 0 0 ack 1\n"

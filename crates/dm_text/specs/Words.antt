@@ -1,5 +1,5 @@
 -- The words that many lines have: names of processes and messages.
-use Rattle.std.specs.Prelude.{ℕ, Bool, true, false, codes, List, [], ◌∷◌, ◌++◌}
+use Rattle.std.specs.Prelude.{ℕ, Bool, true, false, codes, List, [], ◌++◌}
 use Rattle.std.specs.Fmt.{decimal}
 use Rattle.dm_link.specs.declared.Pid.{Pid}
 use Rattle.dm_message.specs.declared.MsgId.{MsgId}
