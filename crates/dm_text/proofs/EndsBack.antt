@@ -1,0 +1,162 @@
+-- Lines at the end of a run, read back from their words.
+use Rattle.std.proofs.Common.{◌≡◌, ℕ, suc, ◌+◌, ◌^◌, ◌<◌, ◌==◌, Bool, true, false, List, [], ◌∷◌, ◌++◌, length, take, map, refl, ap, sym, ◌∙◌, arith, Some}
+use Rattle.std.specs.List.{All}
+use Rattle.std.specs.Fmt.{decimal}
+use Rattle.std.proofs.lemmas.Bool.{eq-eqb}
+use Rattle.std.proofs.lemmas.List.{get_or_push, length_push}
+use Rattle.std.proofs.Math.Seq.{take-append_seam}
+use Rattle.dm_link.specs.declared.Kind.{Kind}
+use Rattle.dm_link.specs.declared.Kind.TheVariants.{General, Reply}
+use Rattle.dm_link.specs.declared.Link.{Link}
+use Rattle.dm_link.specs.declared.Pid.{Pid}
+use Rattle.dm_message.specs.declared.MsgId.{MsgId}
+use Rattle.dm_process.specs.declared.process.Direction.{Direction}
+use Rattle.dm_process.specs.declared.process.Direction.TheVariants.{FromArea, IntoArea}
+use Rattle.dm_rule.specs.declared.line.Doing.TheVariants as doing
+use Rattle.dm_rule.specs.declared.line.EndLine.{EndLine}
+use Rattle.dm_rule.specs.declared.line.EndLine.TheVariants as end
+use Rattle.dm_rule.specs.declared.line.Line.TheVariants as line
+use Rattle.dm_rule.specs.declared.line.Standing.{Standing}
+use Rattle.dm_rule.specs.declared.line.Standing.TheVariants as standing
+use Rattle.dm_text.specs.Words.{id_word}
+use Rattle.dm_text.specs.Ends.{end_words, link_words, kind_word, rights_word, standing_word, direction_word, go_word}
+use Rattle.dm_text.specs.EndsOf.{read_standing, read_direction, read_go, read_link_kind, read_rights, read_link, link_from, registers_from}
+use Rattle.dm_text.specs.Reading.{read_u32, read_id}
+use Rattle.dm_text.specs.Rows.{all_read}
+use Rattle.dm_text.specs.LinesOf.{line_of_words}
+use Rattle.dm_text.specs.Fits.{IdFits, IsWord, LinkFits, EndFits}
+use Rattle.dm_text.proofs.Pieces.{above, AreWords}
+use Rattle.dm_text.proofs.Names.{below_u128, word_decimal, read_u8_back, read_u32_back, read_u128_back, word_pid, read_pid_back, word_id, read_id_back, word_why, read_why_back}
+use Rattle.dm_text.proofs.Fields.{word_u8, word_u32}
+use Rattle.dm_text.proofs.Lists.{all_back, all_words, words-append}
+use Rattle.dm_text.proofs.Hex.{word_hex, read_hex_back}
+
+word_standing : (s : Standing) → above 32 (standing_word s) ≡ true
+word_standing standing.Here = refl
+word_standing standing.Leaving = refl
+word_standing standing.Arriving = refl
+
+read_standing_back : (s : Standing) → read_standing (standing_word s) ≡ Some s
+unfolding read_standing
+read_standing_back standing.Here = refl
+read_standing_back standing.Leaving = refl
+read_standing_back standing.Arriving = refl
+
+word_direction : (d : Direction) → above 32 (direction_word d) ≡ true
+word_direction FromArea = refl
+word_direction IntoArea = refl
+
+read_direction_back : (d : Direction) → read_direction (direction_word d) ≡ Some d
+unfolding read_direction
+read_direction_back FromArea = refl
+read_direction_back IntoArea = refl
+
+word_go : (b : Bool) → above 32 (go_word b) ≡ true
+word_go true = refl
+word_go false = refl
+
+read_go_back : (b : Bool) → read_go (go_word b) ≡ Some b
+unfolding read_go
+read_go_back true = refl
+read_go_back false = refl
+
+word_link_kind : (k : Kind) → above 32 (kind_word k) ≡ true
+word_link_kind General = refl
+word_link_kind Reply = refl
+
+read_link_kind_back : (k : Kind) → read_link_kind (kind_word k) ≡ Some k
+unfolding read_link_kind
+read_link_kind_back General = refl
+read_link_kind_back Reply = refl
+
+word_rights : (r w : Bool) → above 32 (rights_word r w) ≡ true
+word_rights false false = refl
+word_rights true false = refl
+word_rights false true = refl
+word_rights true true = refl
+
+read_rights_back : (r w : Bool) → read_rights (rights_word r w) ≡ Some (r, w)
+unfolding read_rights
+read_rights_back false false = refl
+read_rights_back true false = refl
+read_rights_back false true = refl
+read_rights_back true true = refl
+
+link_words_are : (l : Link) → LinkFits l → AreWords (link_words l)
+link_words_are l h =
+    (word_link_kind l.kind, (word_pid 32 l.addr.pid (omega arith) h.pid, (refl, (word_u8 l.addr.at h.at, (refl, (word_u32 l.addr.moves h.moves, (refl, (word_u32 l.code h.code, (refl, (word_u8 l.channel h.channel, (refl, (word_u32 l.area.base h.base, (word_u32 l.area.len h.len, (word_rights l.area.read l.area.write, tt))))))))))))))
+
+-- the mark that isn't printed
+unmarked : (l : Link) → l.to_kernel ≡ false → link_from l.kind l.addr.pid l.addr.at l.addr.moves l.code l.channel l.area.base l.area.len (l.area.read, l.area.write) ≡ l
+unmarked l h = ap (λ (b : Bool). record l { to_kernel = b }) (sym h)
+
+read_link_back : (l : Link) → LinkFits l → read_link (link_words l) ≡ Some l
+unfolding read_link
+read_link_back l h =
+    rw (read_link_kind_back l.kind, read_pid_back l.addr.pid h.pid, read_u8_back l.addr.at h.at, read_u32_back l.addr.moves h.moves, read_u32_back l.code h.code, read_u8_back l.channel h.channel, read_u32_back l.area.base h.base, read_u32_back l.area.len h.len, read_rights_back l.area.read l.area.write)
+    (ap (λ (x : Link). Some x) (unmarked l h.not_to_kernel))
+
+ids_words : (ids : List MsgId) → All IdFits ids → AreWords (map id_word ids)
+ids_words ids h = all_words id_word IdFits word_id ids h
+
+ids_back : (ids : List MsgId) → All IdFits ids → all_read read_id (map id_word ids) ≡ Some ids
+ids_back ids h = all_back read_id id_word IdFits read_id_back ids h
+
+registers_words : (r : List ℕ) (pc : ℕ) → All IsWord r → pc < 2 ^ 32 → AreWords (map decimal r ++ decimal pc ∷ [])
+registers_words r pc h k = words-append (map decimal r) (decimal pc ∷ []) (all_words decimal IsWord word_u32 r h) (word_u32 pc k, tt)
+
+-- the numbers before the last, and the last
+all_back_push : (r : List ℕ) (pc : ℕ) → All IsWord r → pc < 2 ^ 32 → all_read read_u32 (map decimal r ++ decimal pc ∷ []) ≡ Some (r ++ pc ∷ [])
+all_back_push [] pc h k = rw (read_u32_back pc k) refl
+all_back_push (x ∷ xs) pc h k = rw (read_u32_back x (h 0 x (omega arith)), all_back_push xs pc (λ i d l. h (suc i) d (omega arith)) k) refl
+
+registers_split : (p : Pid) (r : List ℕ) (pc : ℕ) → length r ≡ 16 → registers_from p (r ++ pc ∷ []) ≡ Some (line.End (end.Registers p r pc))
+registers_split p r pc h =
+    let e : (length (r ++ pc ∷ []) == 17) ≡ true = eq-eqb (length (r ++ pc ∷ [])) 17 (length_push r pc ∙ ap (λ n. n + 1) h) in
+    let t : take 16 (r ++ pc ∷ []) ≡ r = ap (λ n. take n (r ++ pc ∷ [])) (sym h) ∙ take-append_seam r (pc ∷ []) in
+    rw (e, t, get_or_push r pc 0 16 h) refl
+
+registers_back : (p : Pid) (r : List ℕ) (pc : ℕ) → EndFits (end.Registers p r pc) → line_of_words (end_words (end.Registers p r pc)) ≡ Some (line.End (end.Registers p r pc))
+registers_back p r pc h = rw (read_pid_back p h.0, all_back_push r pc h.2 h.3) (registers_split p r pc h.1)
+
+pub end_words_are : (e : EndLine) → EndFits e → AreWords (end_words e)
+end_words_are end.Final h = (refl, tt)
+end_words_are (end.Ended p y) h = (refl, (word_pid 32 p (omega arith) h, (refl, (word_why y, tt))))
+end_words_are (end.Process p m s doing.Ready go sent) h = (refl, (word_pid 32 p (omega arith) h.0, (refl, (word_u8 m h.1, (word_standing s, (refl, (word_go go, (word_u32 sent h.3, tt))))))))
+end_words_are (end.Process p m s (doing.Waiting a b c) go sent) h =
+    (refl, (word_pid 32 p (omega arith) h.0, (refl, (word_u8 m h.1, (word_standing s, (refl, (word_u32 a h.2.0, (word_u32 b h.2.1, (word_u32 c h.2.2, (word_go go, (word_u32 sent h.3, tt)))))))))))
+end_words_are (end.Process p m s (doing.Moving d q a b c) go sent) h =
+    (refl, (word_pid 32 p (omega arith) h.0, (refl, (word_u8 m h.1, (word_standing s, (refl, (word_direction d, (word_pid 32 q (omega arith) h.2.0, (word_u32 a h.2.1, (word_u32 b h.2.2, (word_u32 c h.2.3, (word_go go, (word_u32 sent h.3, tt)))))))))))))
+end_words_are (end.Registers p r pc) h = (refl, (word_pid 32 p (omega arith) h.0, registers_words r pc h.2 h.3))
+end_words_are (end.Memory p k bytes) h = (refl, (word_pid 32 p (omega arith) h.0, (word_u8 k h.1, (word_hex bytes.items, tt))))
+end_words_are (end.Link p slot l) h = (refl, (word_pid 32 p (omega arith) h.0, (word_u8 slot h.1, link_words_are l h.2)))
+end_words_are (end.Server p sent) h = (refl, (word_pid 32 p (omega arith) h.0, (word_u32 sent h.1, tt)))
+end_words_are (end.Name name l) h = (refl, (word_hex name.items, link_words_are l h.1))
+end_words_are (end.Child n p m) h = (refl, (word_u32 n h.0, (word_pid 32 p (omega arith) h.1, (refl, (word_u8 m h.2, tt)))))
+end_words_are (end.Pending i) h = (refl, (word_id i h, tt))
+end_words_are (end.Queue p ids) h = (refl, (word_pid 32 p (omega arith) h.0, ids_words ids h.1))
+end_words_are (end.Holding m p ids) h = (refl, (word_u8 m h.0, (word_pid 32 p (omega arith) h.1, ids_words ids h.2)))
+end_words_are (end.Inbox m ids) h = (refl, (word_u8 m h.0, ids_words ids h.1))
+end_words_are (end.Stream a b ids) h = (refl, (word_u8 a h.0, (word_u8 b h.1, ids_words ids h.2)))
+end_words_are (end.Groups g) h = (refl, (word_decimal 32 g (omega arith) (below_u128 g h), tt))
+
+pub end_back : (e : EndLine) → EndFits e → line_of_words (end_words e) ≡ Some (line.End e)
+end_back end.Final h = refl
+end_back (end.Ended p y) h = rw (read_pid_back p h, read_why_back y) refl
+end_back (end.Process p m s doing.Ready go sent) h = rw (read_pid_back p h.0, read_u8_back m h.1, read_standing_back s, read_go_back go, read_u32_back sent h.3) refl
+end_back (end.Process p m s (doing.Waiting a b c) go sent) h =
+    rw (read_pid_back p h.0, read_u8_back m h.1, read_standing_back s, read_u32_back a h.2.0, read_u32_back b h.2.1, read_u32_back c h.2.2, read_go_back go, read_u32_back sent h.3) refl
+end_back (end.Process p m s (doing.Moving d q a b c) go sent) h =
+    rw (read_pid_back p h.0, read_u8_back m h.1, read_standing_back s, read_direction_back d, read_pid_back q h.2.0, read_u32_back a h.2.1, read_u32_back b h.2.2, read_u32_back c h.2.3, read_go_back go, read_u32_back sent h.3) refl
+end_back (end.Registers p r pc) h = registers_back p r pc h
+end_back (end.Memory p k bytes) h = rw (read_pid_back p h.0, read_u8_back k h.1, read_hex_back bytes.items h.2) refl
+end_back (end.Link p slot l) h = rw (read_pid_back p h.0, read_u8_back slot h.1, read_link_back l h.2) refl
+end_back (end.Server p sent) h = rw (read_pid_back p h.0, read_u32_back sent h.1) refl
+end_back (end.Name name l) h = rw (read_hex_back name.items h.0, read_link_back l h.1) refl
+end_back (end.Child n p m) h = rw (read_u32_back n h.0, read_pid_back p h.1, read_u8_back m h.2) refl
+end_back (end.Pending i) h = rw (read_id_back i h) refl
+end_back (end.Queue p ids) h = rw (read_pid_back p h.0, ids_back ids h.1) refl
+end_back (end.Holding m p ids) h = rw (read_u8_back m h.0, read_pid_back p h.1, ids_back ids h.2) refl
+end_back (end.Inbox m ids) h = rw (read_u8_back m h.0, ids_back ids h.1) refl
+end_back (end.Stream a b ids) h = rw (read_u8_back a h.0, read_u8_back b h.1, ids_back ids h.2) refl
+end_back (end.Groups g) h = rw (read_u128_back g h) refl

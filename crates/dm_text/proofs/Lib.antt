@@ -1,0 +1,14 @@
+pub mod EndsBack
+pub mod Fields
+pub mod Hex
+pub mod Kept
+pub mod LabelsBack
+pub mod LineBack
+pub mod Lines
+pub mod LinesBack
+pub mod Lists
+pub mod Names
+pub mod Numbers
+pub mod Pieces
+pub mod Spacing
+mod Worked

@@ -1,0 +1,29 @@
+-- The text of lists of lines.
+use Rattle.std.proofs.Common.{◌≡◌, ℕ, ◌+◌, ◌<◌, List, [], ◌∷◌, ◌++◌, length, take, get_or, refl, ap, sym, ◌∙◌, append_assoc}
+use Rattle.std.proofs.lemmas.List.{append-nil, take_more}
+use Rattle.dm_rule.specs.declared.line.Line.{Line}
+use Rattle.dm_text.specs.Text.{text, text_of_lines}
+
+lines-one : (l : Line) → text_of_lines (l ∷ []) ≡ text l
+unfolding text_of_lines
+lines-one l = append-nil (text l)
+
+lines-append : (a b : List Line) → text_of_lines (a ++ b) ≡ text_of_lines a ++ text_of_lines b
+unfolding text_of_lines
+lines-append [] b = refl
+lines-append (l ∷ ls) b = ap (λ t. text l ++ t) (lines-append ls b) ∙ sym (append_assoc (text l) (text_of_lines ls) (text_of_lines b))
+
+-- one more line
+pub lines-more : (t into new : List ℕ) (lines : List Line) (i : ℕ) (d : Line) → i < length lines → into ≡ t ++ text_of_lines (take i lines) → new ≡ into ++ text (get_or lines i d) → new ≡ t ++ text_of_lines (take (i + 1) lines)
+lines-more t into new lines i d h e n =
+    n
+    ∙ ap (λ s. s ++ text (get_or lines i d)) e
+    ∙ append_assoc t (text_of_lines (take i lines)) (text (get_or lines i d))
+    ∙ ap (λ s. t ++ (text_of_lines (take i lines) ++ s)) (sym (lines-one (get_or lines i d)))
+    ∙ ap (λ s. t ++ s) (sym (lines-append (take i lines) (get_or lines i d ∷ [])))
+    ∙ ap (λ x. t ++ text_of_lines x) (sym (take_more lines i d h))
+
+-- no line yet
+pub lines-none : (t : List ℕ) (lines : List Line) → t ≡ t ++ text_of_lines (take 0 lines)
+unfolding text_of_lines
+lines-none t lines = sym (append-nil t)

@@ -1,0 +1,13 @@
+use Rattle.dm_text.proofs.Kept.{kept-twice, kept-thrice, listed-more}
+use Rattle.dm_text.proofs.ends.put_process.Goals as goal
+
+pub returns-clause-ok : goal.returns-clause-ok
+returns-clause-ok c =
+    listed-more _ _ _ _ _ _ _ _ _ _ c.in_ok-extend_from_slice.ensures.items c.in_ok-put_words.ensures.ok c.in_ok-put_doing.ensures.ok c.in_ok-put_words-2.ensures.ok c.in_ok-push.ensures.items
+
+pub returns-in_err-put_doing-clause-err : goal.returns-in_err-put_doing-clause-err
+returns-in_err-put_doing-clause-err c = kept-twice _ _ _ _ _ _ _ c.in_ok-extend_from_slice.ensures.items c.in_ok-put_words.ensures.ok c.in_err-put_doing.ensures.err
+
+pub returns-in_err-put_words-2-clause-err : goal.returns-in_err-put_words-2-clause-err
+returns-in_err-put_words-2-clause-err c =
+    kept-thrice _ _ _ _ _ _ _ _ _ c.in_ok-extend_from_slice.ensures.items c.in_ok-put_words.ensures.ok c.in_ok-put_doing.ensures.ok c.in_err-put_words-2.ensures.err

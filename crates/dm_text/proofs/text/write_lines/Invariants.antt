@@ -1,0 +1,6 @@
+use Rattle.std.proofs.Common.{◌≡◌, ◌++◌, take}
+use Rattle.dm_text.specs.Text.{text_of_lines}
+use Rattle.dm_text.proofs.text.write_lines.Given as goal
+
+abbrev pub invariant-loop-line : goal.invariant-loop-line
+invariant-loop-line l = l.into.items ≡ l.initial.into.items ++ text_of_lines (take l.line-index l.lines)

@@ -1,0 +1,6 @@
+use Rattle.std.proofs.Common.{◌≡◌, ◌++◌, take}
+use Rattle.dm_text.specs.Ends.{hex}
+use Rattle.dm_text.proofs.word.put_hex.Given as goal
+
+abbrev pub invariant-loop-byte : goal.invariant-loop-byte
+invariant-loop-byte l = l.into.items ≡ l.initial.into.items ++ hex (take l.byte-index l.bytes)

@@ -1,0 +1,7 @@
+use Rattle.std.proofs.Common.{◌≡◌, ◌++◌, take, map}
+use Rattle.dm_text.specs.Written.{word_text}
+use Rattle.dm_text.specs.Text.{spaced}
+use Rattle.dm_text.proofs.word.put_words.Given as goal
+
+abbrev pub invariant-loop-word : goal.invariant-loop-word
+invariant-loop-word l = l.into.items ≡ l.initial.into.items ++ spaced (map word_text (take l.word-index l.words))

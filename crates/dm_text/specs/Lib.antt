@@ -1,0 +1,12 @@
+pub mod Words
+pub mod Labels
+pub mod Ends
+pub mod Text
+pub mod Written
+pub mod Reading
+pub mod Rows
+pub mod LabelsOf
+pub mod GroupsOf
+pub mod EndsOf
+pub mod LinesOf
+pub mod Fits

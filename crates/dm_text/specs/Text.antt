@@ -1,0 +1,73 @@
+-- The text of each line: its words with one space between, and a line feed.
+use Rattle.std.specs.Prelude.{ℕ, codes, List, [], ◌∷◌, ◌++◌}
+use Rattle.std.specs.Fmt.{decimal}
+use Rattle.dm_message.specs.Kinds.{word_of}
+use Rattle.dm_rule.specs.declared.line.Line.{Line}
+use Rattle.dm_rule.specs.declared.line.Line.TheVariants as line
+use Rattle.dm_rule.specs.declared.line.Load.{Load}
+use Rattle.dm_rule.specs.declared.line.Load.TheVariants as load
+use Rattle.dm_rule.specs.declared.line.Stage.{Stage}
+use Rattle.dm_rule.specs.declared.line.Stage.TheVariants as stage
+use Rattle.dm_text.specs.Words.{pid_word, id_word}
+use Rattle.dm_text.specs.Labels.{head_words, label_words}
+use Rattle.dm_text.specs.Ends.{end_words}
+
+-- what a packet carries
+abbrev pub load_words : Load → List (List ℕ)
+load_words (load.Data n) = codes "data" ∷ decimal n ∷ []
+load_words (load.Ack n) = codes "ack" ∷ decimal n ∷ []
+
+-- the steps of a migration by their numbers; step 6 has a line of its own
+abbrev pub stage_word : Stage → List ℕ
+stage_word stage.Frozen = codes "1"
+stage_word stage.Asked = codes "2"
+stage_word stage.Accepted = codes "3"
+stage_word stage.StateTaken = codes "4"
+stage_word stage.MemoryTaken = codes "5"
+stage_word stage.Left = codes "7"
+stage_word stage.Restarted = codes "8"
+
+abbrev pub words : Line → List (List ℕ)
+words (line.Head s) = head_words s
+words (line.Idle m) = codes "idle" ∷ decimal m ∷ []
+words (line.Label l) = label_words l
+words (line.Put a b id kind q) = codes "put" ∷ decimal a ∷ decimal b ∷ id_word id ∷ word_of kind ∷ pid_word q ∷ []
+words (line.Packet a b k l) = codes "packet" ∷ decimal a ∷ decimal b ∷ decimal k ∷ load_words l
+words (line.Taken a b n) = codes "taken" ∷ decimal a ∷ decimal b ∷ decimal n ∷ []
+words (line.Old a b n) = codes "old" ∷ decimal a ∷ decimal b ∷ decimal n ∷ []
+words (line.Early a b n) = codes "early" ∷ decimal a ∷ decimal b ∷ decimal n ∷ []
+words (line.Acked a b n) = codes "acked" ∷ decimal a ∷ decimal b ∷ decimal n ∷ []
+words line.Nothing = codes "none" ∷ []
+words (line.Resent m n) = codes "resent" ∷ decimal m ∷ decimal n ∷ []
+words (line.Queued id) = codes "queued" ∷ id_word id ∷ []
+words (line.Held id) = codes "held" ∷ id_word id ∷ []
+words (line.Forwarded id m) = codes "forwarded" ∷ id_word id ∷ decimal m ∷ []
+words (line.Updated id n) = codes "updated" ∷ id_word id ∷ decimal n ∷ []
+words (line.Migration s p) = codes "step" ∷ stage_word s ∷ pid_word p ∷ []
+words (line.SentOn p n) = codes "step" ∷ codes "6" ∷ pid_word p ∷ decimal n ∷ []
+words (line.Lacks p s b) = codes "lacks" ∷ pid_word p ∷ decimal s ∷ decimal b ∷ []
+words (line.Stays p) = codes "stays" ∷ pid_word p ∷ []
+words (line.Here id) = codes "here" ∷ id_word id ∷ []
+words (line.NoMove id) = codes "nomove" ∷ id_word id ∷ []
+words (line.Proto id) = codes "proto" ∷ id_word id ∷ []
+words (line.NoChild p) = codes "nochild" ∷ pid_word p ∷ []
+words (line.Pinned p) = codes "pinned" ∷ pid_word p ∷ []
+words (line.End e) = end_words e
+
+-- words, each after a space
+abbrev pub spaced : List (List ℕ) → List ℕ
+spaced [] = []
+spaced (w ∷ ws) = codes " " ++ w ++ spaced ws
+
+-- words with one space between, and a line feed
+abbrev pub spelled : List (List ℕ) → List ℕ
+spelled [] = codes "\n"
+spelled (w ∷ ws) = w ++ spaced ws ++ codes "\n"
+
+abbrev pub text : Line → List ℕ
+text l = spelled (words l)
+
+-- the text of lines, one after another
+unfoldable pub text_of_lines : List Line → List ℕ
+text_of_lines [] = []
+text_of_lines (l ∷ ls) = text l ++ text_of_lines ls

@@ -1,0 +1,206 @@
+//! Reading lines back.
+ghost use Rattle.std.specs.Prelude.{◌≡◌, ◌<◌, ◌^◌, List, Some, false};
+ghost use Rattle.std.specs.List.{All};
+ghost use Rattle.dm_rule.specs.declared.line.Line.{Line};
+ghost use Rattle.dm_text.specs.Fits.{DoingFits, EndFits, EndHidesNothing, HidesNothing, IdFits, IsByte, IsWord, LabelFits, LineFits, LinkFits, LoadFits, PidFits, StepFits};
+ghost use Rattle.dm_text.specs.LinesOf.{lines_of};
+ghost use Rattle.dm_text.specs.Text.{text_of_lines};
+
+use dm_link::{Link, Pid};
+use dm_message::MsgId;
+use dm_onekernel::Label;
+use dm_rule::line::{Doing, EndLine, Line, Load};
+use dm_schedule::Step;
+
+/// What is printed says all that the lines say: their text spells them, and no other lines have it.
+pub fn text_can_be_read()
+    ensures spelt { (lines : List Line) → All LineFits lines → lines_of (text_of_lines lines) ≡ Some lines }
+    ensures once { (a b : List Line) → All LineFits a → All LineFits b → text_of_lines a ≡ text_of_lines b → a ≡ b }
+{}
+
+/// The name of a process, a byte and a number of 32 bits are within their types.
+fn process_fits(pid: Pid, byte: u8, word: u32)
+    ensures pid { PidFits pid }
+    ensures byte { IsByte byte }
+    ensures word { IsWord word }
+{}
+
+/// So are the name of a message, a byte and a number of 32 bits.
+fn message_fits(id: MsgId, byte: u8, word: u32)
+    ensures id { IdFits id }
+    ensures byte { IsByte byte }
+    ensures word { IsWord word }
+{}
+
+/// So are two machines and a number of 32 bits.
+fn pair_fits(a: u8, b: u8, n: u32)
+    ensures { IsByte a × IsByte b × IsWord n }
+{}
+
+/// So are the parts of a packet's line.
+fn packet_fits(a: u8, b: u8, k: u64, load: Load)
+    ensures { IsByte a × IsByte b × (k < 2 ^ 64) × LoadFits load }
+{}
+
+/// So is the room that is free.
+fn room_fits(slots: u8, blocks: u16)
+    ensures { IsByte slots × (blocks < 2 ^ 16) }
+{}
+
+/// So is the number of groups.
+fn count_fits(n: u128)
+    ensures { n < 2 ^ 128 }
+{}
+
+/// So are the names of several messages.
+fn ids_fit(ids: &[MsgId])
+    ensures { All IdFits ids.now }
+{
+    for id in ids {
+        message_fits(*id, 0, 0);
+    }
+}
+
+/// So are several bytes.
+fn bytes_fit(bytes: &[u8])
+    ensures { All IsByte bytes.now }
+{}
+
+/// So are several numbers of 32 bits.
+fn words_fit(words: &[u32])
+    ensures { All IsWord words.now }
+{}
+
+/// So are the numbers of a link.
+fn link_fits(link: Link)
+    ensures { link.to_kernel ≡ false → LinkFits link }
+{}
+
+/// So are those of what a process does.
+fn doing_fits(doing: Doing)
+    ensures { DoingFits doing }
+{}
+
+/// So are those of the head of a group.
+fn step_fits(step: Step)
+    ensures { StepFits step }
+{}
+
+/// So are those of a step of the kernel without machines.
+fn label_fits(label: Label)
+    ensures { LabelFits label }
+{}
+
+/// So are those of a line at the end, if it leaves no mark of a link out.
+fn end_fits(end: &EndLine)
+    ensures { EndHidesNothing end.now → EndFits end.now }
+{
+    match *end {
+        EndLine::Final => {}
+        EndLine::Ended { pid, .. } => process_fits(pid, 0, 0),
+        EndLine::Process {
+            pid,
+            at,
+            doing,
+            sent,
+            ..
+        } => {
+            process_fits(pid, at, sent);
+            doing_fits(doing);
+        }
+        EndLine::Registers { pid, ref r, pc } => {
+            process_fits(pid, 0, pc);
+            words_fit(r);
+        }
+        EndLine::Memory {
+            pid,
+            block,
+            ref bytes,
+        } => {
+            process_fits(pid, block, 0);
+            bytes_fit(bytes);
+        }
+        EndLine::Link { pid, slot, link } => {
+            process_fits(pid, slot, 0);
+            link_fits(link);
+        }
+        EndLine::Server { pid, sent } => process_fits(pid, 0, sent),
+        EndLine::Name { ref name, link } => {
+            bytes_fit(name);
+            link_fits(link);
+        }
+        EndLine::Child { number, pid, at } => process_fits(pid, at, number),
+        EndLine::Pending(id) => message_fits(id, 0, 0),
+        EndLine::Queue { pid, ref ids } => {
+            process_fits(pid, 0, 0);
+            ids_fit(ids.as_slice());
+        }
+        EndLine::Holding {
+            machine,
+            pid,
+            ref ids,
+        } => {
+            process_fits(pid, machine, 0);
+            ids_fit(ids.as_slice());
+        }
+        EndLine::Inbox { machine, ref ids } => {
+            pair_fits(machine, 0, 0);
+            ids_fit(ids.as_slice());
+        }
+        EndLine::Stream { from, to, ref ids } => {
+            pair_fits(from, to, 0);
+            ids_fit(ids.as_slice());
+        }
+        EndLine::Groups(count) => count_fits(count),
+    }
+}
+
+/// The numbers of a line are within their types, so its text can be read, if it leaves no mark of a link out.
+pub fn line_fits(line: &Line)
+    ensures { HidesNothing line.now → LineFits line.now }
+{
+    match *line {
+        Line::Head(step) => step_fits(step),
+        Line::Idle(m) => pair_fits(m, 0, 0),
+        Line::Label(label) => label_fits(label),
+        Line::Put {
+            from,
+            to,
+            id,
+            receiver,
+            ..
+        } => {
+            pair_fits(from, to, 0);
+            message_fits(id, 0, 0);
+            process_fits(receiver, 0, 0);
+        }
+        Line::Packet { from, to, k, load } => packet_fits(from, to, k, load),
+        Line::Taken { from, to, n } => pair_fits(from, to, n),
+        Line::Old { from, to, n } => pair_fits(from, to, n),
+        Line::Early { from, to, n } => pair_fits(from, to, n),
+        Line::Acked { from, to, n } => pair_fits(from, to, n),
+        Line::Nothing => {}
+        Line::Resent { machine, count } => pair_fits(machine, 0, count),
+        Line::Queued(id) => message_fits(id, 0, 0),
+        Line::Held(id) => message_fits(id, 0, 0),
+        Line::Forwarded { id, to } => message_fits(id, to, 0),
+        Line::Updated { id, count } => message_fits(id, 0, count),
+        Line::Migration { pid, .. } => process_fits(pid, 0, 0),
+        Line::SentOn { pid, count } => process_fits(pid, 0, count),
+        Line::Lacks {
+            pid,
+            free_slots,
+            free_blocks,
+        } => {
+            process_fits(pid, 0, 0);
+            room_fits(free_slots, free_blocks);
+        }
+        Line::Stays(pid) => process_fits(pid, 0, 0),
+        Line::Here(id) => message_fits(id, 0, 0),
+        Line::NoMove(id) => message_fits(id, 0, 0),
+        Line::Proto(id) => message_fits(id, 0, 0),
+        Line::NoChild(pid) => process_fits(pid, 0, 0),
+        Line::Pinned(pid) => process_fits(pid, 0, 0),
+        Line::End(ref end) => end_fits(end),
+    }
+}

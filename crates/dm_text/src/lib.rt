@@ -1,0 +1,11 @@
+//! What a run prints: the text of its lines, and the lines of a text.
+#![tactic(auto)]
+
+pub mod back;
+mod ends;
+mod labels;
+mod rows;
+#[cfg(test)]
+mod tests;
+pub mod text;
+mod word;

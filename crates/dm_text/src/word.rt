@@ -1,0 +1,177 @@
+//! Writing the words of a line at the end of a text.
+ghost use Rattle.std.specs.Prelude.{◌≡◌, [], ◌<◌, ◌∷◌, ◌++◌, OnErr, OnOk, codes, map};
+ghost use Rattle.std.specs.Fmt.{decimal};
+ghost use Rattle.dm_text.specs.Ends.{hex, hex_digit};
+ghost use Rattle.dm_text.specs.Text.{spaced, spelled};
+ghost use Rattle.dm_text.specs.Words.{id_word, pid_word};
+ghost use Rattle.dm_text.specs.Written.{Keeps, word_text};
+
+use dm_link::Pid;
+use dm_memory::NoMemory;
+use dm_message::MsgId;
+use itoa::Buffer;
+
+/// A word of a line.
+#[derive(Clone, Copy)]
+pub(crate) enum Word<'a> {
+    Name(&'static str),
+    Byte(u8),
+    Number(u32),
+    Wide(u64),
+    Process(Pid),
+    Message(MsgId),
+    Bytes(&'a [u8]),
+}
+
+/// Writes a number in decimal.
+#[tactic(auto, using(std::proofs::lemmas::Fmt::decimal_digit))]
+fn put_number(into: &mut Vec<u8>, n: u64) -> Result<(), NoMemory>
+    ensures ok { OnOk result (into.new.items ≡ into.old.items ++ decimal n) }
+    ensures err { OnErr result (into.new.items ≡ into.old.items) }
+{
+    if n < 10 {
+        into.push(b'0' + n as u8)?;
+        return Ok(());
+    }
+    let mut buffer = Buffer::new();
+    into.extend_from_slice(buffer.format(n).as_bytes())?;
+    Ok(())
+}
+
+/// Writes the name of a process.
+fn put_pid(into: &mut Vec<u8>, pid: Pid) -> Result<(), NoMemory>
+    ensures ok { OnOk result (into.new.items ≡ into.old.items ++ pid_word pid) }
+    ensures err { OnErr result (Keeps into.old.items into.new.items) }
+{
+    put_number(into, u64::from(pid.home))?;
+    into.push(b'.')?;
+    put_number(into, u64::from(pid.num))
+}
+
+/// Writes the name of a message.
+fn put_id(into: &mut Vec<u8>, id: MsgId) -> Result<(), NoMemory>
+    ensures ok { OnOk result (into.new.items ≡ into.old.items ++ id_word id) }
+    ensures err { OnErr result (Keeps into.old.items into.new.items) }
+{
+    put_pid(into, id.from)?;
+    into.push(b'#')?;
+    put_number(into, u64::from(id.n))?;
+    if id.answer {
+        into.push(b'!')?;
+    }
+    Ok(())
+}
+
+/// The digit of a number below 16.
+fn hex_digit(n: u8) -> u8
+    requires { n < 16 }
+    ensures { result ≡ hex_digit n }
+{
+    if n < 10 { b'0' + n } else { b'a' - 10 + n }
+}
+
+/// Writes bytes, two digits each.
+fn put_hex(into: &mut Vec<u8>, bytes: &[u8]) -> Result<(), NoMemory>
+    ensures ok { OnOk result (into.new.items ≡ into.old.items ++ hex bytes.now) }
+    ensures err { OnErr result (Keeps into.old.items into.new.items) }
+{
+    for byte in bytes {
+        into.push(hex_digit(*byte / 16))?;
+        into.push(hex_digit(*byte % 16))?;
+    }
+    Ok(())
+}
+
+/// Writes a word behind a space.
+fn put_word(into: &mut Vec<u8>, word: &Word) -> Result<(), NoMemory>
+    ensures ok { OnOk result (into.new.items ≡ into.old.items ++ codes " " ++ word_text word.now) }
+    ensures err { OnErr result (Keeps into.old.items into.new.items) }
+{
+    into.push(b' ')?;
+    match *word {
+        Word::Name(name) => {
+            into.extend_from_slice(name.as_bytes())?;
+            Ok(())
+        }
+        Word::Byte(n) => put_number(into, u64::from(n)),
+        Word::Number(n) => put_number(into, u64::from(n)),
+        Word::Wide(n) => put_number(into, n),
+        Word::Process(pid) => put_pid(into, pid),
+        Word::Message(id) => put_id(into, id),
+        Word::Bytes(bytes) => put_hex(into, bytes),
+    }
+}
+
+/// Writes words, each behind a space.
+pub(crate) fn put_words(into: &mut Vec<u8>, words: &[Word]) -> Result<(), NoMemory>
+    ensures ok { OnOk result (into.new.items ≡ into.old.items ++ spaced (map word_text words.now)) }
+    ensures err { OnErr result (Keeps into.old.items into.new.items) }
+{
+    for word in words {
+        put_word(into, word)?;
+    }
+    Ok(())
+}
+
+/// Writes the names of messages, each behind a space.
+fn put_ids(into: &mut Vec<u8>, ids: &[MsgId]) -> Result<(), NoMemory>
+    ensures ok { OnOk result (into.new.items ≡ into.old.items ++ spaced (map id_word ids.now)) }
+    ensures err { OnErr result (Keeps into.old.items into.new.items) }
+{
+    for id in ids {
+        put_word(into, &Word::Message(*id))?;
+    }
+    Ok(())
+}
+
+/// Writes numbers, each behind a space.
+pub(crate) fn put_numbers(into: &mut Vec<u8>, numbers: &[u32]) -> Result<(), NoMemory>
+    ensures ok { OnOk result (into.new.items ≡ into.old.items ++ spaced (map decimal numbers.now)) }
+    ensures err { OnErr result (Keeps into.old.items into.new.items) }
+{
+    for n in numbers {
+        put_word(into, &Word::Number(*n))?;
+    }
+    Ok(())
+}
+
+/// Writes a line of a name and further words.
+pub(crate) fn put_line(into: &mut Vec<u8>, name: &str, words: &[Word]) -> Result<(), NoMemory>
+    ensures ok { OnOk result (into.new.items ≡ into.old.items ++ spelled (name.now ∷ map word_text words.now)) }
+    ensures err { OnErr result (Keeps into.old.items into.new.items) }
+{
+    into.extend_from_slice(name.as_bytes())?;
+    put_words(into, words)?;
+    into.push(b'\n')?;
+    Ok(())
+}
+
+/// Writes a line of a name, further words, and names of messages.
+pub(crate) fn put_listed(
+    into: &mut Vec<u8>,
+    name: &str,
+    words: &[Word],
+    ids: &[MsgId],
+) -> Result<(), NoMemory>
+    ensures ok { OnOk result (into.new.items ≡ into.old.items ++ spelled (name.now ∷ (map word_text words.now ++ map id_word ids.now))) }
+    ensures err { OnErr result (Keeps into.old.items into.new.items) }
+{
+    into.extend_from_slice(name.as_bytes())?;
+    put_words(into, words)?;
+    put_ids(into, ids)?;
+    into.push(b'\n')?;
+    Ok(())
+}
+
+/// Writes a line of a name and a number.
+pub(crate) fn put_count(into: &mut Vec<u8>, name: &str, count: u128) -> Result<(), NoMemory>
+    ensures ok { OnOk result (into.new.items ≡ into.old.items ++ spelled (name.now ∷ decimal count ∷ [])) }
+    ensures err { OnErr result (Keeps into.old.items into.new.items) }
+{
+    let mut buffer = Buffer::new();
+    into.extend_from_slice(name.as_bytes())?;
+    into.push(b' ')?;
+    into.extend_from_slice(buffer.format(count).as_bytes())?;
+    into.push(b'\n')?;
+    Ok(())
+}
