@@ -8,4 +8,5 @@ pub mod Rule
 pub mod Pairs
 pub mod Homes
 pub mod Good
+pub mod Ends
 pub mod Laws

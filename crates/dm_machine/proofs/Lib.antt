@@ -1,5 +1,0 @@
-pub mod States
-pub mod Parts
-pub mod Arrivals
-pub mod Beginnings
-pub mod Staying

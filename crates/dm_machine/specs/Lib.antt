@@ -1,6 +1,0 @@
-pub mod State
-pub mod Out
-pub mod Acts
-pub mod Wired
-pub mod Meets
-pub mod May

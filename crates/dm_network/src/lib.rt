@@ -1,2 +1,0 @@
-//! All machines and the wires between them.
-#![tactic(auto)]
