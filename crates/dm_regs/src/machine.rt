@@ -1,5 +1,5 @@
 //! One step of the machine.
-ghost use Rattle.std.specs.Prelude.{◌≡◌, true};
+ghost use Rattle.std.specs.Prelude.{◌≡◌, ◌*◌, ◌%◌, ◌^◌, nat_lt, true};
 ghost use Rattle.dm_regs.specs.Instructions.{DoesRow, effect, immediate, instruction, names_registers, operation_row, register_fields};
 ghost use Rattle.dm_regs.specs.Opcodes.{opcode_of};
 
@@ -60,6 +60,20 @@ fn fits(op: Opcode, operands: Operands) -> bool
     (used < 1 || a < 16) && (used < 2 || b < 16) && (used < 3 || c < 16)
 }
 
+/// A value shifted towards its high bits, by so many modulo 32.
+fn shifted_up(value: u32, by: u32) -> u32
+    ensures { result ≡ (value * 2 ^ (by % 32)) % 2 ^ 32 }
+{
+    value << (by % 32)
+}
+
+/// Whether a value is below another, both without a sign.
+fn is_below(value: u32, other: u32) -> bool
+    ensures { result ≡ nat_lt value other }
+{
+    value < other
+}
+
 /// Performs an instruction of an operation.
 fn execute<C: Cells>(op: Opcode, operands: Operands, regs: &mut Regs, cells: &mut C) -> Stepped
     requires { names_registers (register_fields op) operands.a operands.b operands.c ≡ true }
@@ -76,7 +90,7 @@ fn execute<C: Cells>(op: Opcode, operands: Operands, regs: &mut Regs, cells: &mu
         Opcode::And => regs.put(a, regs.read(b) & regs.read(c)),
         Opcode::Or => regs.put(a, regs.read(b) | regs.read(c)),
         Opcode::Xor => regs.put(a, regs.read(b) ^ regs.read(c)),
-        Opcode::Shl => regs.put(a, regs.read(b) << (regs.read(c) % 32)),
+        Opcode::Shl => regs.put(a, shifted_up(regs.read(b), regs.read(c))),
         Opcode::Shr => regs.put(a, regs.read(b) >> (regs.read(c) % 32)),
         Opcode::Lw => load_word(regs, cells, a, address(regs, b, c)),
         Opcode::Sw => store_word(regs, cells, a, address(regs, b, c)),
@@ -85,7 +99,7 @@ fn execute<C: Cells>(op: Opcode, operands: Operands, regs: &mut Regs, cells: &mu
         Opcode::Jmp => regs.jump(operands.immediate()),
         Opcode::Beq => regs.branch(regs.read(a) == regs.read(b), c),
         Opcode::Bne => regs.branch(regs.read(a) != regs.read(b), c),
-        Opcode::Bltu => regs.branch(regs.read(a) < regs.read(b), c),
+        Opcode::Bltu => regs.branch(is_below(regs.read(a), regs.read(b)), c),
         Opcode::Sys => {
             regs.go_on();
             Stepped::Call(c)
