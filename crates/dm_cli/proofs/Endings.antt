@@ -1,12 +1,11 @@
 -- What the end of a run says.
-use Rattle.std.proofs.Common.{◌≡◌, ℕ, suc, ◌-◌, ◌≤◌, ◌<◌, ◌⊎◌, inl, inr, true, List, [], ◌∷◌, ◌++◌, take, drop, refl, ap, sym, ◌∙◌, subst, append_assoc, arith, nat_le}
+use Rattle.std.proofs.Common.{◌≡◌, ℕ, suc, ◌-◌, ◌≤◌, ◌<◌, ◌⊎◌, inl, inr, true, List, [], ◌++◌, take, drop, refl, ap, sym, ◌∙◌, subst, append_assoc, arith, nat_le}
 use Rattle.std.proofs.lemmas.Bool.{and_parts, false≢true}
 use Rattle.std.proofs.lemmas.Bool.Decides.{nat_tests}
 use Rattle.std.proofs.lemmas.List.{append-nil, take-append-drop}
 use Rattle.std.specs.declared.option.Option.{Option}
 use Rattle.dm_onekernel.specs.declared.boot.Boot.{Boot}
 use Rattle.dm_schedule.specs.declared.Step.TheVariants.{Turn}
-use Rattle.dm_trace.specs.declared.line.Line.{Line}
 use Rattle.dm_trace.specs.Good.{joined}
 use Rattle.dm_trace.specs.EndLines.{end_lines}
 use Rattle.dm_trace.specs.Text.{text}

@@ -1,7 +1,6 @@
 -- Turns in a row.
-use Rattle.std.proofs.Common.{◌≡◌, ℕ, zero, suc, ◌+◌, ◌-◌, ◌≤◌, ◌<◌, List, [], ◌∷◌, ◌++◌, ap, sym, ◌∙◌, append_assoc, add-zero, add-suc, arith}
+use Rattle.std.proofs.Common.{◌≡◌, ℕ, zero, suc, ◌+◌, ◌-◌, ◌≤◌, ◌<◌, [], ◌∷◌, ◌++◌, ap, sym, ◌∙◌, append_assoc, add-zero, add-suc, arith}
 use Rattle.std.proofs.lemmas.List.{append-nil}
-use Rattle.dm_schedule.specs.declared.Step.{Step}
 use Rattle.dm_schedule.specs.declared.Step.TheVariants.{Turn}
 use Rattle.dm_world.specs.Run.{turns_of}
 

@@ -1,18 +1,15 @@
 -- Whose read failed.
-use Rattle.std.proofs.Common.{◌≡◌, ◌⊎◌, inl, inr, ℕ, List, subst, sym, ◌∙◌}
+use Rattle.std.proofs.Common.{◌≡◌, ℕ, List, subst, sym}
 use Rattle.std.proofs.lemmas.Bool.{false≢true}
 use Rattle.std.specs.Result.{IfErr, IsErr, IsErrAnd}
 use Rattle.std.specs.declared.result.Result.TheVariants.{Ok, Err}
 use Rattle.std.specs.declared.option.Option.{Option}
-use Rattle.std.specs.declared.option.Option.TheVariants.{Some}
 use Rattle.std.specs.declared.result.Result.{Result}
-use Rattle.dm_outside.specs.Outside.{RoseOrFull}
 use Rattle.dm_cli.specs.declared.status.Status.{Status}
 use Rattle.dm_cli.specs.declared.status.Status.TheVariants as status
 use Rattle.dm_cli.specs.declared.status.Input.TheVariants as input
 use Rattle.dm_cli.specs.Asked.{AsksBoth, FailsSecond}
-use Rattle.dm_cli.specs.Inputs.{NoDirectives, NoFiles, NoRun}
-use Rattle.dm_cli.specs.Status.{IsWant}
+use Rattle.dm_cli.specs.Inputs.{NoDirectives}
 
 -- a read of the schedule failed, after the boot file's
 second_fails : {S : Type 0} (asked : S → List ℕ → S → Type 0) (faults : S → ℕ) (files told : Option (List ℕ → Option (List ℕ))) (boot schedule : List ℕ) (machines : ℕ) (old new : S) (a : AsksBoth asked files boot schedule old new) (s : Status)

@@ -3,7 +3,7 @@ use Rattle.std.specs.Prelude.{◌≡◌, ℕ, true, List, [], ◌∷◌, codes, 
 use Rattle.std.specs.declared.option.Option.{Option}
 use Rattle.std.specs.declared.option.Option.TheVariants.{None, Some}
 use Rattle.clap.specs.Walk.{Row, Rule, first_of, is_empty}
-use Rattle.clap.specs.Simple.{App, Shape, new_app, new_rule, new_shape, subcommand_of, with_subcommand}
+use Rattle.clap.specs.Simple.{App, Shape, new_rule, new_shape, subcommand_of, with_subcommand}
 use Rattle.clap.specs.Faults.{fault_of}
 
 -- the option `--name FILE`, which has to be there
