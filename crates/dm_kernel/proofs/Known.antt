@@ -1,17 +1,15 @@
 -- What is known of the process that an event is about.
-use Rattle.std.proofs.Common.{◌≡◌, ◌∙◌, ℕ, ◌<◌, Bool, true, false, List, refl, ap, sym, subst, if◌then◌else◌, Some, None, IsSome, arith, rules}
-use Rattle.std.specs.Prelude.{◌&&◌, not, is_some}
+use Rattle.std.proofs.Common.{◌≡◌, ◌∙◌, Bool, true, refl, ap, sym, subst, Some, None, IsSome, rules}
+use Rattle.std.specs.Prelude.{not, is_some}
 use Rattle.std.proofs.lemmas.Bool.{and_parts}
 use Rattle.std.specs.declared.option.Option.{Option}
 use Rattle.std.specs.Option.{IfSome}
 use Rattle.dm_link.specs.declared.Pid.{Pid}
-use Rattle.dm_link.specs.Names.{pid_eq}
 use Rattle.dm_linktable.proofs.Names.{pid_eq_self}
 use Rattle.dm_message.specs.declared.Message.{Message}
 use Rattle.dm_process.specs.Mail.{first_on}
-use Rattle.dm_process.specs.Process.{is_runnable, status_is_runnable}
+use Rattle.dm_process.specs.Process.{status_is_runnable}
 use Rattle.dm_process.specs.declared.process.Process.{Process}
-use Rattle.dm_process.specs.declared.process.Direction.{Direction}
 use Rattle.dm_process.specs.declared.process.Status.{Status}
 use Rattle.dm_process.specs.declared.process.Status.TheVariants.{Ready, Waiting, Moving}
 use Rattle.dm_room.specs.Room.{HasTaken, Taken}
@@ -20,7 +18,7 @@ use Rattle.dm_forward.specs.Records.{here_of, with_record}
 use Rattle.dm_onekernel.specs.Options.{bind}
 use Rattle.dm_kernel.specs.State.{KernelState, Known, Turned, blocks_of, with_here}
 use Rattle.dm_kernel.specs.May.{MayAct}
-use Rattle.dm_kernel.specs.Served.{CanGo, Executes, IsHere, Receives, Serves}
+use Rattle.dm_kernel.specs.Served.{CanGo, IsHere, Serves}
 use Rattle.dm_kernel.specs.Turn.{known_is_runnable}
 
 -- what holds of it

@@ -1,5 +1,5 @@
 -- What the rows of a turn give is lawful.
-use Rattle.std.proofs.Common.{◌≡◌, ◌∙◌, ℕ, zero, suc, ◌+◌, ◌-◌, ◌*◌, ◌<◌, ◌≤◌, Bool, true, false, if◌then◌else◌, List, [], ◌∷◌, ◌++◌, length, map, replicate, remove, slice_get, Some, None, refl, ap, sym, subst, inl, inr, ◌⊎◌, arith}
+use Rattle.std.proofs.Common.{◌≡◌, ℕ, ◌-◌, ◌*◌, ◌<◌, ◌≤◌, Bool, true, false, if◌then◌else◌, List, [], ◌∷◌, ◌++◌, length, map, replicate, Some, None, refl, sym, subst, inl, inr, ◌⊎◌, arith}
 use Rattle.std.specs.List.{All}
 use Rattle.std.specs.Option.{IfSome}
 use Rattle.std.proofs.lemmas.Grind.{common_steps}
@@ -32,7 +32,7 @@ use Rattle.dm_kernel.specs.declared.part.Part.TheVariants.{Says, Routes}
 use Rattle.dm_kernel.specs.Begun.{child_of, with_child}
 use Rattle.dm_kernel.specs.Handle.{routes}
 use Rattle.dm_kernel.specs.Lawful.{AreLawful, IsLawfulPart, IsLawfulState, IsLawfulTurned}
-use Rattle.dm_kernel.specs.State.{KernelState, Known, Turned, drops, dropped, with_here, without_process}
+use Rattle.dm_kernel.specs.State.{KernelState, Known, Turned, drops, with_here, without_process}
 
 -- what there is of a turn is lawful
 abbrev pub Lawfully : Option Turned → Type 0

@@ -1,6 +1,6 @@
 -- A machine as the boot file has it may take a turn, and is lawful.
 use Rattle.std.proofs.Common.{◌≡◌, ◌∙◌, ℕ, ◌+◌, ◌*◌, ◌/◌, ◌<◌, ◌≤◌, Bool, true, false, ◌==◌, if◌then◌else◌, List, [], ◌∷◌, ◌++◌, length, Some, None, slice_get, refl, ap, sym, subst, arith}
-use Rattle.std.specs.Prelude.{◌&&◌, ◌||◌, nat_le, nat_lt, not}
+use Rattle.std.specs.Prelude.{◌&&◌, ◌||◌, nat_le, not}
 use Rattle.std.specs.List.{All}
 use Rattle.std.specs.Option.{IfSome}
 use Rattle.std.proofs.lemmas.Grind.{common_steps}
@@ -14,7 +14,6 @@ use Rattle.dm_link.specs.declared.Pid.{Pid}
 use Rattle.dm_link.specs.Lawful.{IsLawfulEnclosed}
 use Rattle.dm_link.specs.Names.{pid_eq}
 use Rattle.dm_linktable.proofs.Names.{pid_eq_same}
-use Rattle.dm_message.specs.declared.Message.{Message}
 use Rattle.dm_message.specs.Lawful.{IsLawfulMessage}
 use Rattle.dm_process.specs.declared.process.Process.{Process}
 use Rattle.dm_process.specs.Lawful.{IsLawfulProcess}
@@ -22,17 +21,15 @@ use Rattle.dm_room.specs.Room.{HasTaken, Taken, with_reserved}
 use Rattle.dm_forward.specs.declared.record.Record.TheVariants.{Here}
 use Rattle.dm_onekernel.specs.declared.boot.Boot.{Boot}
 use Rattle.dm_onekernel.specs.declared.boot.BootImage.{BootImage}
-use Rattle.dm_onekernel.specs.declared.boot.BootMachine.{BootMachine}
 use Rattle.dm_onekernel.specs.declared.boot.BootProcess.{BootProcess}
-use Rattle.dm_onekernel.specs.Boot.{IsValid, area_is_within, blocks_of_image, controls_child, image_is_valid, images_are_valid, leads_somewhere, leads_to_process, leads_to_server, link_is_valid, links_are_valid, manager, memory_size, process_is_valid, process_named, processes_are_valid, slots_of, starting_at, switchboard}
+use Rattle.dm_onekernel.specs.Boot.{IsValid, blocks_of_image, controls_child, image_is_valid, images_are_valid, leads_somewhere, leads_to_process, leads_to_server, link_is_valid, links_are_valid, manager, memory_size, process_is_valid, process_named, processes_are_valid, slots_of, starting_at, switchboard}
 use Rattle.dm_onekernel.specs.Start.{memory_of}
 use Rattle.dm_procman.proofs.Lawful.{started_lawful}
 use Rattle.dm_procman.specs.Managing.{starting}
 use Rattle.dm_switchboard.specs.Lawful.{IsLawfulNamed}
-use Rattle.dm_kernel.specs.declared.kernel.Servers.{Servers}
-use Rattle.dm_kernel.specs.Begun.{begins, child_of, empty, opened, servers_of, with_all, with_child}
+use Rattle.dm_kernel.specs.Begun.{begins, child_of, empty, opened, with_all, with_child}
 use Rattle.dm_kernel.specs.Lawful.{IsLawfulPair, IsLawfulState}
-use Rattle.dm_kernel.specs.May.{FrontMay, MayAct, MayTurn}
+use Rattle.dm_kernel.specs.May.{FrontMay, MayTurn}
 use Rattle.dm_kernel.specs.State.{KernelState, Known, blocks_of}
 use Rattle.dm_kernel.proofs.Making.{image_fits}
 use Rattle.dm_kernel.proofs.LawfulRows.{child_lawfully}

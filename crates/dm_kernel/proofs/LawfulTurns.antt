@@ -1,9 +1,9 @@
 -- What a turn gives is lawful.
-use Rattle.std.proofs.Common.{◌≡◌, ◌∙◌, ℕ, zero, suc, ◌+◌, ◌<◌, ◌≤◌, Bool, true, false, ◌==◌, if◌then◌else◌, List, [], ◌∷◌, length, map, remove, slice_get, Some, None, refl, ap, sym, subst, arith}
+use Rattle.std.proofs.Common.{◌≡◌, ◌∙◌, ℕ, suc, ◌<◌, ◌≤◌, Bool, true, false, ◌==◌, if◌then◌else◌, List, [], ◌∷◌, length, map, remove, slice_get, Some, None, refl, sym, subst, arith}
 use Rattle.std.specs.List.{All}
 use Rattle.std.specs.Option.{IfSome}
 use Rattle.std.proofs.lemmas.Grind.{common_steps}
-use Rattle.std.proofs.lemmas.List.Elements.{All-head, All-tail}
+use Rattle.std.proofs.lemmas.List.Elements.{All-tail}
 use Rattle.std.specs.declared.option.Option.{Option}
 use Rattle.std.specs.declared.result.Result.TheVariants.{Ok}
 use Rattle.dm_link.specs.declared.Link.{Link}
@@ -20,17 +20,15 @@ use Rattle.dm_process.specs.declared.process.Status.{Status}
 use Rattle.dm_process.specs.declared.process.Status.TheVariants as status
 use Rattle.dm_process.specs.Lawful.{IsLawfulProcess}
 use Rattle.dm_process.specs.Mail.{first_on, is_on, without_first_on}
-use Rattle.dm_room.specs.Room.{free_blocks, free_slots}
 use Rattle.dm_forward.specs.declared.record.Record.TheVariants.{Here, Frozen, Incoming, Forward, Ended}
 use Rattle.dm_datamove.specs.declared.Landed.{Landed}
 use Rattle.dm_datamove.specs.declared.Landed.TheVariants as landed
 use Rattle.dm_datamove.specs.Landing.{Landing, IsAwaited, IsLawfulLanded, landing}
-use Rattle.dm_datamove.specs.Serving.{IsWithin, after_serving, answer, gone_answer, serving_answer}
+use Rattle.dm_datamove.specs.Serving.{IsWithin, after_serving, gone_answer, serving_answer}
 use Rattle.dm_datamove.proofs.Landings.{IsLawfulLanding, lands_lawfully}
 use Rattle.dm_datamove.proofs.Services.{answers_lawfully, serves_lawfully}
 use Rattle.dm_onekernel.specs.declared.boot.Boot.{Boot}
 use Rattle.dm_onekernel.specs.declared.boot.BootImage.{BootImage}
-use Rattle.dm_onekernel.specs.declared.label.Label.TheVariants as label
 use Rattle.dm_onekernel.specs.declared.label.Reply.{Reply}
 use Rattle.dm_onekernel.specs.declared.label.Why.{Why}
 use Rattle.dm_onekernel.specs.declared.label.Why.TheVariants as why
@@ -41,7 +39,6 @@ use Rattle.dm_onekernel.specs.Refusals.{first_failed}
 use Rattle.dm_procman.specs.Taking as manage
 use Rattle.dm_procman.proofs.Hearing.{heard}
 use Rattle.dm_procman.proofs.Lawful.{manager_after, message_after}
-use Rattle.dm_rule.specs.declared.line.Line.TheVariants as line
 use Rattle.dm_rule.specs.Sets.{moved_back}
 use Rattle.dm_switchboard.specs.Taking as board
 use Rattle.dm_switchboard.proofs.Lawful.{answer_after, board_after}
@@ -54,18 +51,17 @@ use Rattle.dm_syscall.specs.Plainly.{IsLawfulCalled}
 use Rattle.dm_syscall.proofs.Completes.{completes_lawfully}
 use Rattle.dm_syscall.proofs.LawfulCalls.{IsLawfulDone, call_lawfully}
 use Rattle.dm_kernel.specs.declared.kernel.Servers.{Servers}
-use Rattle.dm_kernel.specs.declared.part.Part.TheVariants.{Says, Routes}
 use Rattle.dm_kernel.specs.declared.run.Halt.{Halt}
 use Rattle.dm_kernel.specs.declared.run.Halt.TheVariants as halt
 use Rattle.dm_kernel.specs.Begun.{child_of}
-use Rattle.dm_kernel.specs.Handle.{answered, answers_with, board_handles, board_took, ended_handles, handles, has_room, here_handles, kernel_handles, lands, lands_as, makes, makes_of, manager_handles, manager_took, next_pid, process_handles, routes}
+use Rattle.dm_kernel.specs.Handle.{answers_with, board_handles, board_took, ended_handles, handles, has_room, here_handles, kernel_handles, lands, lands_as, makes, makes_of, manager_handles, manager_took, next_pid, process_handles}
 use Rattle.dm_kernel.specs.Lawful.{IsLawfulPair, IsLawfulState, IsLawfulTurned}
-use Rattle.dm_kernel.specs.May.{FitsBoard, FitsEnded, FitsHere, FitsKernel, FrontMay, FitsKnown, FitsManager, MayHandle, MayTurn}
-use Rattle.dm_kernel.specs.Serve.{called_with, ends, executes, halts, processor_of, ran, received, received_by, receives, serves, serves_status, with_machine}
-use Rattle.dm_kernel.specs.State.{KernelState, Known, Turned, drops, says, with_here}
+use Rattle.dm_kernel.specs.May.{FitsEnded, FitsHere, FitsKernel, FrontMay, FitsKnown, FitsManager, MayHandle, MayTurn}
+use Rattle.dm_kernel.specs.Serve.{called_with, ends, halts, processor_of, ran, received_by, receives, serves, serves_status, with_machine}
+use Rattle.dm_kernel.specs.State.{KernelState, Known, Turned, with_here}
 use Rattle.dm_kernel.specs.Turn.{first_runnable, goes_round, turn, turns}
 use Rattle.dm_kernel.proofs.Making.{image_fits}
-use Rattle.dm_kernel.proofs.Serving.{first_is_on, has_run, is_awaited, runs_lawfully}
+use Rattle.dm_kernel.proofs.Serving.{first_is_on, has_run, runs_lawfully}
 use Rattle.dm_kernel.proofs.LawfulRows.{Lawfully, all_dropped, answer_lawfully, child_lawfully, enough, if_lawfully, none_said, routed, routes_lawfully, said, with_one_more, with_process, with_queued, with_stopped, without}
 
 -- a process that executes

@@ -1,5 +1,5 @@
 -- How a process is made of a boot file's image, one link at a time, and what its rules say of each process.
-use Rattle.std.proofs.Common.{◌≡◌, ◌∙◌, append_assoc, IsOk, IfErr, IfOk, MatchResult, ◌<◌, ◌≤◌, ℕ, zero, suc, ◌+◌, ◌-◌, true, ◌==◌, List, [], ◌∷◌, ◌++◌, length, map, replicate, take, drop, refl, sym, ap, subst, add-one, arith, if◌then◌else◌, Some, None, slice_get, set, get_or}
+use Rattle.std.proofs.Common.{◌≡◌, ◌∙◌, IsOk, IfErr, IfOk, MatchResult, ◌<◌, ◌≤◌, ℕ, zero, suc, ◌+◌, ◌-◌, true, List, [], ◌∷◌, ◌++◌, length, map, replicate, take, drop, refl, sym, ap, subst, add-one, arith, Some, None, slice_get, set, get_or}
 use Rattle.std.proofs.Math.Seq.{drop-cons, set-append_seam}
 use Rattle.std.proofs.lemmas.List.{length-map, take_more}
 use Rattle.std.specs.declared.result.Result.{Result}
@@ -11,7 +11,6 @@ use Rattle.std.proofs.lemmas.Bool.Decides.{nat_tests}
 use Rattle.std.specs.List.{position_or_len}
 use Rattle.std.specs.Option.{is_none}
 use Rattle.std.specs.declared.option.Option.{Option}
-use Rattle.dm_link.specs.declared.Pid.{Pid}
 use Rattle.dm_link.specs.declared.Link.{Link}
 use Rattle.dm_linktable.specs.Slots.{first_empty}
 use Rattle.dm_onekernel.specs.declared.boot.Boot.{Boot}

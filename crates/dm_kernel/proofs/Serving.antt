@@ -7,8 +7,6 @@ use Rattle.dm_link.specs.Plain.{plain_link}
 use Rattle.dm_linktable.specs.Slots.{first_empty, link_at}
 use Rattle.dm_linktable.proofs.Names.{pid_eq_self}
 use Rattle.dm_message.specs.declared.Message.{Message}
-use Rattle.dm_regs.specs.declared.registers.Regs.{Regs}
-use Rattle.dm_regs.specs.declared.registers.Fault.{Fault}
 use Rattle.dm_regs.specs.Instructions as row
 use Rattle.dm_regs.specs.Instructions.{Row, instruction}
 use Rattle.dm_regs.specs.Kept.{KeepsLengths}
@@ -25,8 +23,6 @@ use Rattle.dm_forward.specs.declared.record.Record.TheVariants.{Here}
 use Rattle.dm_forward.specs.Records.{here_of, with_record}
 use Rattle.dm_onekernel.specs.declared.label.Reply.{Reply}
 use Rattle.dm_onekernel.specs.declared.label.Reply.TheVariants as reply
-use Rattle.dm_onekernel.specs.declared.label.Why.{Why}
-use Rattle.dm_onekernel.specs.declared.label.Why.TheVariants as why
 use Rattle.dm_onekernel.specs.Calls.{CallNumber, Exit, Out, Make, Copy, Drop, Send, Receive, Move, Unknown, call_number, is_outside, is_reply, make_refusals, move_refusals, send_refusals}
 use Rattle.dm_onekernel.specs.Options.{bind}
 use Rattle.dm_onekernel.specs.Plain.{plain_process}
@@ -35,12 +31,10 @@ use Rattle.dm_onekernel.specs.Refusals.{first_failed}
 use Rattle.dm_onekernel.specs.Step.{Machine}
 use Rattle.dm_syscall.specs.declared.Called.{Called}
 use Rattle.dm_syscall.specs.declared.Called.TheVariants as called
-use Rattle.dm_syscall.specs.Calls.{Done, after_send, begins, calls, copies, does_call, drops, makes, message_over, moves, moves_bytes, moves_over, own_link, puts_link, replied, sends, unless_refused, waits, whole}
+use Rattle.dm_syscall.specs.Calls.{Done, after_send, begins, calls, copies, does_call, drops, message_over, moves, moves_bytes, moves_over, own_link, puts_link, replied, sends, unless_refused, waits, whole}
 use Rattle.dm_syscall.specs.Completing.{IsAwaited}
-use Rattle.dm_kernel.specs.declared.run.Halt.{Halt}
-use Rattle.dm_kernel.specs.declared.run.Halt.TheVariants as halt
-use Rattle.dm_kernel.specs.State.{KernelState, Known, Turned, blocks_of, with_here}
-use Rattle.dm_kernel.specs.Serve.{Ran, after_row, called_with, does, ends, executes, halts, processor_of, ran, with_machine}
+use Rattle.dm_kernel.specs.State.{KernelState, Known, blocks_of, with_here}
+use Rattle.dm_kernel.specs.Serve.{Ran, after_row, called_with, does, executes, halts, processor_of, ran, with_machine}
 use Rattle.dm_kernel.specs.May.{MayAct}
 use Rattle.dm_kernel.specs.Served.{HasPlace, IsHere}
 use Rattle.dm_kernel.proofs.Known.{of_here, there}

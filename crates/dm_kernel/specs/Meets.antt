@@ -1,5 +1,5 @@
 -- The kernel of the code, over the plain one.
-use Rattle.std.specs.Prelude.{◌≡◌, ⊤, ℕ, List, Vec}
+use Rattle.std.specs.Prelude.{◌≡◌, ⊤, List, Vec}
 use Rattle.std.specs.declared.alloc.Global.{Global}
 use Rattle.std.specs.declared.option.Option.{Option}
 use Rattle.std.specs.declared.option.Option.TheVariants.{None, Some}

@@ -1,7 +1,7 @@
 -- The kernel of one machine over plain functions and lists, and what an event gives.
-use Rattle.std.specs.Prelude.{ℕ, ◌/◌, List, [], ◌∷◌, ◌++◌, length, map}
+use Rattle.std.specs.Prelude.{ℕ, ◌/◌, List, length, map}
 use Rattle.std.specs.declared.option.Option.{Option}
-use Rattle.std.specs.declared.option.Option.TheVariants.{None, Some}
+use Rattle.std.specs.declared.option.Option.TheVariants.{Some}
 use Rattle.dm_link.specs.declared.Pid.{Pid}
 use Rattle.dm_message.specs.declared.Message.{Message}
 use Rattle.dm_process.specs.declared.process.Process.{Process}
@@ -14,12 +14,11 @@ use Rattle.dm_migrate.specs.Arrival.{Arrival}
 use Rattle.dm_onekernel.specs.declared.label.Label.{Label}
 use Rattle.dm_onekernel.specs.declared.label.Label.TheVariants as label
 use Rattle.dm_onekernel.specs.declared.label.Why.{Why}
-use Rattle.dm_rule.specs.declared.line.Line.{Line}
 use Rattle.dm_rule.specs.declared.line.Line.TheVariants as line
 use Rattle.dm_rule.specs.Sets.{without}
 use Rattle.dm_kernel.specs.declared.kernel.Servers.{Servers}
 use Rattle.dm_kernel.specs.declared.part.Part.{Part}
-use Rattle.dm_kernel.specs.declared.part.Part.TheVariants.{Says, Routes}
+use Rattle.dm_kernel.specs.declared.part.Part.TheVariants.{Says}
 
 -- what a machine knows of a process
 abbrev pub Known : Type 0

@@ -1,6 +1,5 @@
 -- One process more stands, and those that are left have their room.
-use Rattle.std.proofs.Common.{◌≡◌, [], ◌∷◌, ◌+◌, ◌∙◌, drop, sym, subst, ap, slice_get, List}
-use Rattle.dm_onekernel.specs.declared.boot.BootProcess.{BootProcess}
+use Rattle.std.proofs.Common.{◌≡◌, [], ◌∷◌, ◌+◌, ◌∙◌, drop, sym, subst, ap, slice_get}
 use Rattle.dm_kernel.specs.State.{KernelState}
 use Rattle.dm_kernel.specs.Begun.{begins, empty, with_all}
 use Rattle.dm_kernel.specs.Meets.{state_of}

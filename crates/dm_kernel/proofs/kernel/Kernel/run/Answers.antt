@@ -1,14 +1,10 @@
 -- What executing comes to, from what it did to the process in its place.
 use Rattle.std.proofs.Common.{◌≡◌, ◌∙◌, ap, refl, sym, subst, length, Some}
-use Rattle.std.specs.declared.option.Option.{Option}
-use Rattle.dm_forward.specs.Records.{at, here_of, with_record}
-use Rattle.dm_forward.specs.declared.record.Record.TheVariants.{Here}
-use Rattle.dm_link.specs.declared.Pid.{Pid}
+use Rattle.dm_forward.specs.Records.{at}
 use Rattle.dm_process.specs.declared.process.Process.{Process}
-use Rattle.dm_onekernel.specs.Options.{bind}
 use Rattle.dm_kernel.specs.declared.run.Halt.TheVariants as halt
 use Rattle.dm_kernel.specs.Meets.{Answers, state_of}
-use Rattle.dm_kernel.specs.Serve.{Ran, processor_of}
+use Rattle.dm_kernel.specs.Serve.{processor_of}
 use Rattle.dm_kernel.specs.Served.{Executes}
 use Rattle.dm_kernel.proofs.Known.{has_some, is_here, sets}
 use Rattle.dm_kernel.proofs.Serving.{Keeps, call_keeps, called_as, executes_as, has_place, has_run, runs_lawfully}
