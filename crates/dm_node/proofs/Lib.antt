@@ -1,4 +1,5 @@
-pub mod Beginning
-pub mod Running
-pub mod Serving
-pub mod Same
+pub mod States
+pub mod Parts
+pub mod Arrivals
+pub mod Beginnings
+pub mod Staying

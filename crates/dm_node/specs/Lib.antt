@@ -1,7 +1,6 @@
-pub mod Records
-pub mod Lent
-pub mod Calls
-pub mod Node
-pub mod Receiving
-pub mod Served
-pub mod Opened
+pub mod State
+pub mod Out
+pub mod Acts
+pub mod Wired
+pub mod Meets
+pub mod May

@@ -1,16 +1,18 @@
-//! One machine: its processes, its inbox and its ring, and what a turn does to them.
+//! One machine: its kernel, and its streams with the other machines. An event is a turn, a tick or the arrival of a
+//! packet; it gives lines to print and packets for the machine's own wires.
 #![tactic(auto)]
 
+mod arrive;
 mod begin;
-pub mod calls;
+mod ends;
 pub mod node;
-mod receive;
-pub mod records;
-mod ring;
-pub mod run;
+pub mod out;
+mod route;
 pub mod stop;
+mod streams;
 mod turn;
 
 pub use dm_memory::NoMemory;
 pub use node::Node;
+pub use out::Out;
 pub use stop::Stop;

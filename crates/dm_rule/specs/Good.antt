@@ -61,10 +61,10 @@ abbrev pub here_or_later : Two → List Two → Option ℕ → Option (Step × L
 here_or_later p ps None later = later
 here_or_later p ps (Some k) later = Some (step.Deliver p.from p.to k, p ∷ ps)
 
--- the next of some pairs whose wire has a packet that was never delivered
-abbrev pub next_delivery : View → List Two → Option (Step × List Two)
-next_delivery v [] = None
-next_delivery v (p ∷ ps) = here_or_later p ps (first_undelivered 0 (v.pair p.from p.to).wire) (next_delivery v ps)
+-- the next of some pairs whose wire has a packet that was never delivered; `first` gives the first of each pair
+abbrev pub next_delivery : (ℕ → ℕ → Option ℕ) → List Two → Option (Step × List Two)
+next_delivery first [] = None
+next_delivery first (p ∷ ps) = here_or_later p ps (first p.from p.to) (next_delivery first ps)
 
 -- a machine's turn, once no delivery is left
 abbrev pub next_turn : Todo → List ℕ → Option Next
@@ -79,23 +79,31 @@ abbrev pub or : {A : Type 0} → Option A → Option A → Option A
 or None y = y
 or (Some x) y = Some x
 
-abbrev pub begin_round : ℕ → View → ℕ → List Directive → Option Next
-begin_round machines v rounds ds = in_round (round_begun machines rounds ds) (next_delivery v (pairs_of (below machines) (below machines)))
+abbrev pub begin_round : ℕ → (ℕ → ℕ → Option ℕ) → ℕ → List Directive → Option Next
+begin_round machines first rounds ds = in_round (round_begun machines rounds ds) (next_delivery first (pairs_of (below machines) (below machines)))
 
-abbrev pub begin_rounds : ℕ → View → ℕ → List Directive → Option Next
-begin_rounds machines v zero ds = None
-begin_rounds machines v (suc n) ds = begin_round machines v n ds
+abbrev pub begin_rounds : ℕ → (ℕ → ℕ → Option ℕ) → ℕ → List Directive → Option Next
+begin_rounds machines first zero ds = None
+begin_rounds machines first (suc n) ds = begin_round machines first n ds
 
 -- where a round is over, the next one begins, and where there is none, the next directive
-abbrev pub next_round : ℕ → View → ℕ → List Directive → Option Next
-next_round machines v zero [] = None
-next_round machines v zero (directive.One s ∷ ds) = next s (record { pairs = []; machines = []; rounds = 0; directives = ds })
-next_round machines v zero (directive.Round ∷ ds) = begin_round machines v 0 ds
-next_round machines v zero (directive.Spin n ∷ ds) = begin_rounds machines v n ds
-next_round machines v (suc k) ds = begin_round machines v k ds
+abbrev pub next_round : ℕ → (ℕ → ℕ → Option ℕ) → ℕ → List Directive → Option Next
+next_round machines first zero [] = None
+next_round machines first zero (directive.One s ∷ ds) = next s (record { pairs = []; machines = []; rounds = 0; directives = ds })
+next_round machines first zero (directive.Round ∷ ds) = begin_round machines first 0 ds
+next_round machines first zero (directive.Spin n ∷ ds) = begin_rounds machines first n ds
+next_round machines first (suc k) ds = begin_round machines first k ds
+
+-- the elementary directive that follows, where the first packet of each pair that was never delivered is known
+abbrev pub following : ℕ → (ℕ → ℕ → Option ℕ) → Todo → Option Next
+following machines first t = or (in_round t (next_delivery first t.pairs)) (next_round machines first t.rounds t.directives)
+
+-- as the lines say
+abbrev pub undelivered : View → ℕ → ℕ → Option ℕ
+undelivered v a b = first_undelivered 0 (v.pair a b).wire
 
 abbrev pub next_step : ℕ → View → Todo → Option Next
-next_step machines v t = or (in_round t (next_delivery v t.pairs)) (next_round machines v t.rounds t.directives)
+next_step machines v t = following machines (undelivered v) t
 
 abbrev pub all_of : List Directive → Todo
 all_of ds = record { pairs = []; machines = []; rounds = 0; directives = ds }

@@ -8,5 +8,6 @@ pub mod Rule
 pub mod Pairs
 pub mod Homes
 pub mod Good
+pub mod Worn
 pub mod Ends
 pub mod Laws

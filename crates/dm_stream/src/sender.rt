@@ -81,7 +81,8 @@ impl<M> Sender<M> {
 
     /// How many messages have gone out and aren't acknowledged, 0 to 8.
     pub fn out(&self) -> u32
-        ensures { result ≡ self.now.gone - self.now.acked }
+        ensures count { result ≡ self.now.gone - self.now.acked }
+        ensures few { result ≤ 8 }
     {
         self.gone - self.acked
     }

@@ -1,3 +1,4 @@
-pub mod Stands
-pub mod Run
 pub mod World
+pub mod May
+pub mod Next
+pub mod Ends

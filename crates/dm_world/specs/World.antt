@@ -1,97 +1,76 @@
--- What a world holds after so many turns, and what every run promises.
-use Rattle.std.specs.Prelude.{◌≡◌, ℕ, zero, suc, ◌+◌, ◌^◌, ◌<◌, ◌&&◌, nat_le, true, false, List, [], ◌∷◌, ◌++◌, length, Vec}
+-- All machines and the wires between them, and what a directive does.
+use Rattle.std.specs.Prelude.{ℕ, ◌+◌, Bool, List, [], ◌∷◌, ◌++◌}
 use Rattle.std.specs.declared.option.Option.{Option}
 use Rattle.std.specs.declared.option.Option.TheVariants.{None, Some}
 use Rattle.std.specs.declared.result.Result.{Result}
 use Rattle.std.specs.declared.result.Result.TheVariants.{Ok, Err}
-use Rattle.std.specs.declared.alloc.Global.{Global}
-use Rattle.dm_link.specs.declared.Pid.{Pid}
-use Rattle.dm_link.specs.Names.{pid_of}
+use Rattle.dm_message.specs.declared.Message.{Message}
+use Rattle.dm_stream.specs.Packets.{Load, Data, Ack}
+use Rattle.dm_packet.specs.declared.Packet.{Packet}
+use Rattle.dm_packet.specs.declared.Packet.TheVariants as packet
+use Rattle.dm_packet.specs.declared.Bad.{Bad}
+use Rattle.dm_packet.specs.Packets.{packet_of}
+use Rattle.dm_wire.specs.Sent.{Sent, bytes_at}
+use Rattle.dm_wire.specs.Wire.{after_mark}
 use Rattle.dm_onekernel.specs.declared.boot.Boot.{Boot}
-use Rattle.dm_onekernel.specs.Boot.{first_number}
-use Rattle.dm_onemachine.specs.Boot.{IsAlone}
-use Rattle.dm_schedule.specs.declared.Step.TheVariants.{Turn}
-use Rattle.dm_trace.specs.declared.line.Line.{Line}
-use Rattle.dm_trace.specs.declared.line.Line.TheVariants as line
-use Rattle.dm_trace.specs.declared.line.EndLine.TheVariants as end
-use Rattle.dm_trace.specs.Point.{Point}
-use Rattle.dm_trace.specs.Good.{IsGood}
-use Rattle.dm_trace.specs.Group.{IsGroup}
-use Rattle.dm_trace.specs.EndLines.{doing_of, end_lines}
-use Rattle.dm_node.specs.declared.records.Record.{Record}
-use Rattle.dm_node.specs.declared.records.Record.TheVariants as node
-use Rattle.dm_node.specs.Records.{at}
-use Rattle.dm_node.specs.declared.stop.Stop.{Stop}
-use Rattle.dm_node.specs.declared.stop.Stop.TheVariants.{NoMemory, Worn}
-use Rattle.dm_node.specs.Node.{NodeState, is_worn}
-use Rattle.dm_node.specs.Opened.{opened}
-use Rattle.dm_world.specs.Run.{after_turns, group_of, groups, has_put, turns_of}
-use Rattle.dm_world.specs.declared.world.World.{World}
+use Rattle.dm_schedule.specs.declared.Step.{Step}
+use Rattle.dm_schedule.specs.declared.Step.TheVariants as step
+use Rattle.dm_rule.specs.declared.line.Line.{Line}
+use Rattle.dm_rule.specs.declared.line.Line.TheVariants as line
+use Rattle.dm_rule.specs.Sets.{at_machine}
+use Rattle.dm_node.specs.State.{NodeState, opened}
+use Rattle.dm_node.specs.Out.{Acted, Acts, Goes, Worn}
+use Rattle.dm_node.specs.Acts as node
+use Rattle.dm_node.specs.Wired.{Spoken, spoken}
 
--- the machine of the boot file after k turns
-abbrev pub machine_after : Boot → ℕ → NodeState
-machine_after b k = after_turns k (opened b 0)
+pub record WorldState : Type 0 where
+  pub nodes : ℕ → NodeState
+  -- all packets ever put on the wire from one machine to another
+  pub wires : ℕ → ℕ → List Sent
+  -- how many directives there were
+  pub groups : ℕ
 
--- none of the first k turns is worn
-abbrev pub Lasts : Boot → ℕ → Type 0
-Lasts b k = (j : ℕ) → j < k → is_worn (machine_after b j) ≡ false
+-- the world after a directive, and the group of lines that it printed
+pub record Said : Type 0 where
+  pub state : WorldState
+  pub lines : List Line
 
--- the world is what k turns make of the boot file
-pub record IsAfter (b : Boot) (k : ℕ) (w : World) : Type 0 where
-  pub machine : w.node.machine ≡ (machine_after b k).machine
-  pub quantum : w.node.quantum ≡ (machine_after b k).quantum
-  pub format : w.node.format ≡ (machine_after b k).format
-  pub numbers : w.node.numbers ≡ (machine_after b k).numbers
-  pub routed : w.node.routed ≡ (machine_after b k).routed
-  pub records : (q : Pid) → at w.node.records q ≡ (machine_after b k).records q
-  pub ring : w.node.ring ≡ (machine_after b k).ring
-  pub inbox : w.node.inbox ≡ (machine_after b k).inbox
-  pub made : w.made ≡ length b.processes
-  pub groups : w.groups ≡ k
+-- the group of a directive, or the two machines that it would let count one message too many
+pub data Happened : Type 0 where
+  Says : (said : Said) → Happened
+  WornOut : (from : ℕ) → (to : ℕ) → Happened
 
--- some boot file and turns, none of them worn, made the world; their number can be counted
-pub record IsRunning (w : World) : Type 0 where
-  pub boot : Boot
-  pub turns : ℕ
-  pub alone : IsAlone boot
-  pub lasts : Lasts boot turns
-  pub few : turns < 2 ^ 127
-  pub is : IsAfter boot turns w
+-- machine m has acted; the group begins with the directive
+abbrev pub acted : WorldState → Step → ℕ → Acted → Said
+acted w e m d =
+    let gave : Spoken = spoken w.wires d.outs in
+    record { state = record { nodes = at_machine w.nodes m d.state; wires = gave.wires; groups = w.groups + 1 }; lines = line.Head e ∷ gave.lines }
 
--- turn k was taken, or it was worn and the world stopped; want of memory says nothing
-abbrev pub StepSays : Boot → ℕ → Result (Vec Line Global) Stop → World → Type 0
-StepSays b k (Ok lines) w = (is_worn (machine_after b k) ≡ false) × (lines.items ≡ group_of (machine_after b k)) × IsAfter b (k + 1) w
-StepSays b k (Err (Worn from to)) w = (is_worn (machine_after b k) ≡ true) × (from ≡ 0) × (to ≡ 0)
-StepSays b k (Err (NoMemory _)) w = Unit {0}
+abbrev pub turned : WorldState → Step → ℕ → Option Acts → Option Happened
+turned w e m None = None
+turned w e m (Some (Goes d)) = Some (Says (acted w e m d))
+turned w e m (Some (Worn from to)) = Some (WornOut from to)
 
--- the line of a process
-abbrev pub record_line : Pid → ℕ → Option Record → List Line
-record_line p m None = []
-record_line p m (Some (node.Ended why)) = line.End (end.Ended p why) ∷ []
-record_line p m (Some (node.Here x)) = line.End (end.Process p m (doing_of x.status) x.stopped x.sent) ∷ []
+-- a packet is delivered: what it carries comes to machine c from machine a
+abbrev pub arrives : WorldState → Step → ℕ → ℕ → Load Message → Option Happened
+arrives w e a c carried = Some (Says (acted w e c (node.arrives (w.nodes c) a carried)))
 
--- the lines of the first processes of the machine
-abbrev pub record_lines : NodeState → ℕ → List Line
-record_lines n zero = []
-record_lines n (suc c) = record_lines n c ++ record_line (pid_of n.machine (first_number + c)) n.machine (n.records (pid_of n.machine (first_number + c)))
+abbrev pub reads : WorldState → Step → ℕ → ℕ → Result Packet Bad → Option Happened
+reads w e a c (Ok (packet.Data from to k m)) = arrives w e a c (Data k m)
+reads w e a c (Ok (packet.Ack from to k)) = arrives w e a c (Ack k)
+reads w e a c (Err bad) = None
 
--- the first children of the manager are the processes of the boot file
-abbrev pub child_lines_to : ℕ → ℕ → List Line
-child_lines_to m zero = []
-child_lines_to m (suc c) = child_lines_to m c ++ line.End (end.Child (c + 1) (pid_of m (first_number + c)) m) ∷ []
+abbrev pub delivers : WorldState → Step → ℕ → ℕ → ℕ → Option (List ℕ) → Option Happened
+delivers w e a c k None = Some (Says (record { state = record w { groups = w.groups + 1 }; lines = line.Head e ∷ line.Nothing ∷ [] }))
+delivers w e a c k (Some bytes) = reads (record w { wires = after_mark w.wires a c k }) e a c (packet_of bytes)
 
--- what is said at the end, after k turns
-abbrev pub last_lines : Boot → ℕ → List Line
-last_lines b k =
-    ((((line.End end.Final ∷ record_lines (machine_after b k) (length b.processes)) ++ line.End (end.Server (pid_of 0 1) 0) ∷ []) ++ line.End (end.Server (pid_of 0 2) 0) ∷ [])
-    ++ child_lines_to 0 (length b.processes)) ++ line.End (end.Groups k) ∷ []
+-- an elementary directive, a row each; migrations have theirs with migration
+abbrev pub world_step : Boot → WorldState → Step → Option Happened
+world_step b w (step.Turn m) = turned w (step.Turn m) m (node.turn b (w.nodes m))
+world_step b w (step.Tick m) = Some (Says (acted w (step.Tick m) m (node.tick (w.nodes m))))
+world_step b w (step.Deliver a c k) = delivers w (step.Deliver a c k) a c k (bytes_at (w.wires a c) k)
+world_step b w (step.Migrate p m) = None
 
--- the lines of a run are good, and what is said at the end is where the run stands. The lines of the next turn are a
--- group, and it is worn exactly where a put stands there while the pair of the machine with itself counts `numbers`
-pub record GoodRun (b : Boot) (k : ℕ) : Type 0 where
-  pub end : Point
-  pub good : IsGood b (turns_of k) (groups k (opened b 0)) end
-  pub last : end_lines end ≡ last_lines b k
-  pub next : Point
-  pub follows : IsGroup b end (Turn 0) (group_of (machine_after b k)) next
-  pub worn : is_worn (machine_after b k) ≡ (has_put (group_of (machine_after b k)) && nat_le b.numbers (end.view.routed 0 0))
+-- the world as the boot file has it
+abbrev pub first_world : Boot → WorldState
+first_world b = record { nodes = opened b; wires = λ x y. []; groups = 0 }

@@ -1,9 +1,2 @@
-//! Machines and what runs between them; and what holds of every run.
+//! All machines and the wires between them.
 #![tactic(auto)]
-
-pub mod laws;
-pub mod world;
-
-pub use dm_memory::NoMemory;
-pub use dm_node::Stop;
-pub use world::World;

@@ -1,0 +1,58 @@
+-- Every run of the world is good, and the world stands for it.
+use Rattle.std.specs.Prelude.{◌≡◌, List, [], ◌∷◌, ◌++◌, length}
+use Rattle.std.specs.declared.option.Option.TheVariants.{Some}
+use Rattle.dm_onekernel.specs.declared.boot.Boot.{Boot}
+use Rattle.dm_onekernel.specs.Boot.{IsValid}
+use Rattle.dm_schedule.specs.declared.Step.{Step}
+use Rattle.dm_schedule.specs.declared.Directive.{Directive}
+use Rattle.std.specs.List.{All}
+use Rattle.dm_rule.specs.declared.line.Line.{Line}
+use Rattle.dm_rule.specs.Ends as rule_ends
+use Rattle.dm_rule.specs.Good.{Todo, Next, all_of}
+use Rattle.dm_rule.specs.Good as rule
+use Rattle.dm_rule.specs.Laws.{IsStep, Leads}
+use Rattle.dm_rule.specs.Point.{Point, first_point}
+use Rattle.dm_rulelaws.specs.Laws.{MovesNothing}
+use Rattle.dm_world.specs.World.{WorldState, first_world}
+use Rattle.dm_world.specs.May.{MayStep}
+use Rattle.dm_world.specs.Next as world
+use Rattle.dm_world.specs.Ends as world_ends
+use Rattle.dm_mirror.specs.Stands.{Stands}
+use Rattle.dm_mirror.specs.Todo.{IsDirective, IsTodo}
+use Rattle.dm_mirror.specs.Run.{GoesOn, RunStands, Steps}
+
+-- the world as the boot file has it stands for the first point
+abbrev pub StartStands : Type 0
+StartStands = (b : Boot) → IsValid b → Stands b (first_world b) (first_point b)
+
+-- where the world stands for a point, it may do each directive, and it does what the rule says, or stops worn
+abbrev pub StepsStand : Type 0
+StepsStand =
+    (b : Boot) (es : List Step) (w : WorldState) (pt : Point) (e : Step) → IsValid b → Leads b (first_point b) es pt → Stands b w pt → IsStep (length b.machines) e → MovesNothing e
+    → MayStep b w e × Steps b w pt e
+
+-- which directive comes next is what the printed lines say
+abbrev pub NextIsSaid : Type 0
+NextIsSaid =
+    (b : Boot) (es : List Step) (w : WorldState) (pt : Point) (t : Todo) → IsValid b → Leads b (first_point b) es pt → Stands b w pt → IsTodo (length b.machines) t
+    → world.next_step (length b.machines) w t ≡ rule.next_step pt.kernel.machines pt.view t
+
+-- where everything stands at the end is what the printed lines say
+abbrev pub EndIsSaid : Type 0
+EndIsSaid =
+    (b : Boot) (es : List Step) (w : WorldState) (pt : Point) → IsValid b → Leads b (first_point b) es pt → Stands b w pt
+    → world_ends.end_lines (length b.machines) w ≡ rule_ends.end_lines pt
+
+-- a run begins, and goes on
+abbrev pub RunBegins : Type 0
+RunBegins = (b : Boot) (ds : List Directive) → IsValid b → All (IsDirective (length b.machines)) ds → RunStands b ds [] (first_point b) (all_of ds) (first_world b)
+
+pub record RunGoes (b : Boot) (ds : List Directive) (gs : List (List Line)) (pt : Point) (w : WorldState) (n : Next) : Type 0 where
+  pub may : MayStep b w n.step
+  pub steps : Steps b w pt n.step
+  pub on : (g : GoesOn b w pt n.step) → RunStands b ds (gs ++ g.said.lines ∷ []) g.group.point n.left g.said.state
+
+abbrev pub RunGoesOn : Type 0
+RunGoesOn =
+    (b : Boot) (ds : List Directive) (gs : List (List Line)) (pt : Point) (left : Todo) (w : WorldState) (n : Next) → IsValid b → RunStands b ds gs pt left w
+    → world.next_step (length b.machines) w left ≡ Some n → RunGoes b ds gs pt w n

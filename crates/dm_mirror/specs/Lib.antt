@@ -1,0 +1,4 @@
+pub mod Stands
+pub mod Todo
+pub mod Run
+pub mod Laws

@@ -1,0 +1,136 @@
+-- The world stands for a point: each machine has exactly what the printed lines say of it, with the plain values of the kernel
+-- without machines and the places of the addresses.
+use Rattle.std.specs.Prelude.{◌≡◌, ◌≢◌, ⊤, ℕ, ◌<◌, ◌≤◌, ◌==◌, Bool, true, false, if◌then◌else◌, is_some, List, [], ◌∷◌, ◌++◌, length, map, take, drop, slice_get}
+use Rattle.std.specs.List.{All}
+use Rattle.std.specs.declared.option.Option.{Option}
+use Rattle.std.specs.declared.option.Option.TheVariants.{None, Some}
+use Rattle.dm_link.specs.declared.Pid.{Pid}
+use Rattle.dm_message.specs.declared.Message.{Message}
+use Rattle.dm_message.specs.declared.MsgId.{MsgId}
+use Rattle.dm_message.specs.Lawful.{IsLawfulMessage}
+use Rattle.dm_room.specs.Room.{Taken}
+use Rattle.dm_forward.specs.declared.record.Record.TheVariants as record_
+use Rattle.dm_stream.specs.Packets as stream
+use Rattle.dm_stream.specs.Receiving.{kept_under}
+use Rattle.dm_stream.specs.Stream.{Stream}
+use Rattle.dm_stream.specs.Order as order
+use Rattle.dm_packet.specs.Packets.{spelling}
+use Rattle.dm_wire.specs.Sent as wire
+use Rattle.dm_onekernel.specs.declared.boot.Boot.{Boot}
+use Rattle.dm_onekernel.specs.declared.boot.BootMachine.{BootMachine}
+use Rattle.dm_onekernel.specs.Step as kernel
+use Rattle.dm_kernel.specs.declared.kernel.Servers.{Servers}
+use Rattle.dm_kernel.specs.State as machine
+use Rattle.dm_kernel.specs.State.{KernelState}
+use Rattle.dm_kernel.specs.Begun.{room_of}
+use Rattle.dm_kernel.specs.Lawful.{IsLawfulState}
+use Rattle.dm_node.specs.State.{NodeState}
+use Rattle.dm_node.specs.Out.{packet_of}
+use Rattle.dm_rule.specs.declared.line.Load.{Load}
+use Rattle.dm_rule.specs.declared.line.Load.TheVariants as load
+use Rattle.dm_rule.specs.View.{Pair, Sent, Known, Unknown, Here, Ended}
+use Rattle.dm_rule.specs.Point.{Point}
+use Rattle.dm_rule.specs.Rule.{Room, taken_at, has}
+use Rattle.dm_rulelaws.specs.Fits.{is_server}
+use Rattle.dm_placed.specs.Placed.{Placed, Mirrors}
+use Rattle.dm_world.specs.World.{WorldState}
+
+-- these are the messages with these names
+abbrev pub AreMessages : (MsgId → Option Message) → List MsgId → List Message → Type 0
+AreMessages bag ids ms = map bag ids ≡ map Some ms
+
+-- what a machine knows of a process is what the lines say; a process that is here is the one of the kernel with places, but
+-- for its queue, which holds the messages that the lines say
+abbrev pub KnownStands : Point → Placed → Pid → List MsgId → Known → Option machine.Known → Type 0
+KnownStands pt l p queue Unknown None = ⊤
+KnownStands pt l p queue Here (Some (record_.Here x)) = ((q : List Message) × (l.processes p ≡ Some (record x { queue = q }))) × AreMessages l.bag queue x.queue
+KnownStands pt l p queue Ended (Some (record_.Ended y)) = kernel.ended (pt.kernel.processes p) ≡ Some y
+KnownStands pt l p queue k r = ⊥
+
+-- the room is the boot file's, and what is taken is what the processes of the lines take
+pub record RoomStands (t given : Taken) (r : Room) : Type 0 where
+  pub slots : t.slots ≡ given.slots
+  pub blocks : t.blocks ≡ given.blocks
+  pub taken_slots : t.taken_slots ≡ r.slots
+  pub taken_blocks : t.taken_blocks ≡ r.blocks
+
+abbrev pub servers_at : Placed → ℕ → Option Servers
+servers_at l m = if m == 0 then Some (record { board = l.board; manager = l.manager }) else None
+
+-- the kernel of machine m
+pub record KernelStands (b : Boot) (pt : Point) (l : Placed) (m : ℕ) (k : KernelState) : Type 0 where
+  pub here : k.here ≡ m
+  -- the servers have no records
+  pub known : (p : Pid) → is_server p ≡ false → KnownStands pt l p (pt.view.queue m p) (pt.view.known m p) (k.records p)
+  pub no_server : (p : Pid) → is_server p ≡ true → k.records p ≡ None
+  pub ring : k.ring ≡ pt.view.ring m
+  pub inbox : AreMessages l.bag (pt.view.inbox m) k.inbox
+  pub made : k.made ≡ pt.kernel.made m
+  pub room : RoomStands k.room (room_of (slice_get b.machines m)) (taken_at pt m pt.kernel.machines)
+  pub servers : k.servers ≡ servers_at l m
+
+-- machine m, but for its streams
+pub record NodeStands (b : Boot) (pt : Point) (l : Placed) (m : ℕ) (n : NodeState) : Type 0 where
+  pub kernel : KernelStands b pt l m n.kernel
+  -- what can be carried to other machines and put into packets
+  pub lawful : IsLawfulState n.kernel
+  pub machines : n.machines ≡ pt.kernel.machines
+  pub numbers : n.numbers ≡ b.numbers
+  pub home : n.home ≡ length (pt.view.pair m m).ids
+
+-- what lies on the wire from a to c, as bytes and as the lines say
+abbrev pub bytes_of : ℕ → ℕ → stream.Packet Message → wire.Sent
+bytes_of a c p = record { bytes = spelling (packet_of a c p.load); seen = p.delivered }
+
+abbrev pub load_of : stream.Load Message → Load
+load_of (stream.Data n m) = load.Data n
+load_of (stream.Ack n) = load.Ack n
+
+abbrev pub line_of : stream.Packet Message → Sent
+line_of p = record { load = load_of p.load; delivered = p.delivered }
+
+-- the messages that were ever routed from one machine to another, and the packets that were ever put on its wire
+pub record History : Type 0 where
+  pub given : ℕ → ℕ → List Message
+  pub packets : ℕ → ℕ → List (stream.Packet Message)
+
+-- both ends of the stream from a to c
+abbrev pub stream_of : WorldState → History → ℕ → ℕ → Stream Message
+stream_of w h a c =
+    record {
+      sender = (w.nodes a).senders c;
+      receiver = (w.nodes c).receivers a;
+      given = h.given a c;
+      taken = take ((w.nodes c).receivers a).count (h.given a c);
+      out = h.packets a c;
+      back = h.packets c a;
+    }
+
+abbrev pub id_of : Message → MsgId
+id_of m = m.id
+
+-- the pair of machine a with another machine c
+pub record PairStands (b : Boot) (pt : Point) (l : Placed) (w : WorldState) (h : History) (a c : ℕ) : Type 0 where
+  pub stream : order.Stands (stream_of w h a c)
+  pub ids : map id_of (h.given a c) ≡ (pt.view.pair a c).ids
+  pub untaken : AreMessages l.bag (drop (pt.view.pair a c).taken (pt.view.pair a c).ids) (drop (pt.view.pair a c).taken (h.given a c))
+  pub taken : ((w.nodes c).receivers a).count ≡ (pt.view.pair a c).taken
+  pub gone : ((w.nodes a).senders c).gone ≡ (pt.view.pair a c).gone
+  pub acked : ((w.nodes a).senders c).acked ≡ (pt.view.pair a c).acked
+  pub numbers : ((w.nodes a).senders c).numbers ≡ b.numbers
+  pub kept : (n : ℕ) → is_some (kept_under ((w.nodes c).receivers a) n) ≡ has n (pt.view.pair a c).kept
+  pub packets : map line_of (h.packets a c) ≡ (pt.view.pair a c).wire
+  pub bytes : w.wires a c ≡ map (bytes_of a c) (h.packets a c)
+  pub lawful : All IsLawfulMessage (h.given a c)
+
+-- the world stands for the point, with this kernel with places and this history
+pub record StandsWith (b : Boot) (w : WorldState) (pt : Point) (l : Placed) (h : History) : Type 0 where
+  pub mirrors : Mirrors pt.kernel pt.view pt.addresses l
+  pub groups : w.groups ≡ pt.view.groups
+  pub nodes : (m : ℕ) → m < pt.kernel.machines → NodeStands b pt l m (w.nodes m)
+  pub pairs : (a c : ℕ) → a < pt.kernel.machines → c < pt.kernel.machines → a ≢ c → PairStands b pt l w h a c
+  -- no pair counts more messages than it may
+  pub counts : (a c : ℕ) → length (pt.view.pair a c).ids ≤ b.numbers
+
+abbrev pub Stands : Boot → WorldState → Point → Type 0
+Stands b w pt = (l : Placed) × (h : History) × StandsWith b w pt l h

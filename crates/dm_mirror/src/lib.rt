@@ -1,0 +1,2 @@
+//! The machines and their wires stand for what was printed, and every run of them is good.
+#![tactic(auto)]

@@ -1,0 +1,132 @@
+-- The parts of a turn, one after another.
+use Rattle.std.proofs.Common.{◌≡◌, ℕ, suc, ◌≤◌, Bool, true, false, ◌==◌, List, [], ◌∷◌, ◌++◌, length, refl, sym, ap, subst, inl, inr, ◌∙◌, append_assoc, append-nil, arith}
+use Rattle.std.specs.Prelude.{Result, ⊤, if◌then◌else◌}
+use Rattle.std.specs.declared.option.Option.{Option}
+use Rattle.std.specs.declared.option.Option.TheVariants.{None, Some}
+use Rattle.std.specs.declared.result.Result.TheVariants.{Ok, Err}
+use Rattle.std.proofs.lemmas.Bool.Decides.{eqb_tells}
+use Rattle.dm_message.specs.declared.Message.{Message}
+use Rattle.dm_rule.specs.declared.line.Line.{Line}
+use Rattle.dm_kernel.specs.declared.kernel.Kernel.{Kernel}
+use Rattle.dm_kernel.specs.declared.part.Part.{Part}
+use Rattle.dm_kernel.specs.declared.part.Part.TheVariants as part
+use Rattle.dm_kernel.specs.State.{KernelState, Turned}
+use Rattle.dm_kernel.specs.Meets as kernel
+use Rattle.dm_stream.specs.Sending.{Sending, due, with_given}
+use Rattle.dm_node.specs.declared.node.Node.{Node}
+use Rattle.dm_node.specs.declared.stop.Stop.{Stop}
+use Rattle.dm_node.specs.declared.stop.Stop.TheVariants as stop
+use Rattle.dm_node.specs.declared.out.Out.{Out}
+use Rattle.dm_node.specs.declared.out.Out.TheVariants.{Says}
+use Rattle.dm_node.specs.State.{NodeState, here, with_sender}
+use Rattle.dm_node.specs.Out.{Acts, Goes, Worn, behind, then_}
+use Rattle.dm_node.specs.Acts.{acts, gives, is_worn, none_waits, routes, routes_away, routes_home, sends_due, turns}
+use Rattle.dm_node.specs.Meets.{Answers, AnswersSome, GaveActs, HasStreams, state_of}
+
+-- what answers the rest answers the whole
+pub answers_behind : (r : Result Unit Stop) (after : Node) (old mid new : List Out) (outs : List Out) (a : Acts) → mid ≡ old ++ outs → Answers r after mid new a → Answers r after old new (behind outs a)
+answers_behind (Ok done) after old mid new outs (Goes a) e g = record { state = g.state; streams = g.streams; outs = g.outs ∙ ap (λ xs. xs ++ a.outs) e ∙ append_assoc old outs a.outs }
+answers_behind (Ok done) after old mid new outs (Worn x y) e g = g
+answers_behind (Err (stop.NoMemory f)) after old mid new outs a e g = tt
+answers_behind (Err (stop.Worn x y)) after old mid new outs (Goes a) e g = g
+answers_behind (Err (stop.Worn x y)) after old mid new outs (Worn v w) e g = g
+
+-- a line is said
+pub line_said : (r : Result Unit Stop) (after : Node) (n : NodeState) (l : Line) (ps : List Part) (old mid new : List Out) → mid ≡ old ++ Says l ∷ [] → Answers r after mid new (acts n ps)
+    → Answers r after old new (acts n (part.Says l ∷ ps))
+line_said r after n l ps old mid new e g = answers_behind r after old mid new (Says l ∷ []) (acts n ps) e g
+
+-- a message is routed, then the rest
+then_answers : (r : Result Unit Stop) (after between : Node) (old mid new : List Out) (a : Acts) (go : NodeState → Acts) → GaveActs between old mid a → Answers r after mid new (go (state_of between))
+    → Answers r after old new (then_ a go)
+then_answers r after between old mid new (Goes a) go g rest = answers_behind r after old mid new a.outs (go a.state) g.outs (subst (λ n. Answers r after mid new (go n)) g.state rest)
+then_answers r after between old mid new (Worn x y) go g rest = absurd g
+
+pub message_routed : (r : Result Unit Stop) (after between : Node) (n : NodeState) (m : Message) (ps : List Part) (old mid new : List Out) → GaveActs between old mid (routes n m)
+    → Answers r after mid new (acts (state_of between) ps) → Answers r after old new (acts n (part.Routes m ∷ ps))
+message_routed r after between n m ps old mid new g rest = then_answers r after between old mid new (routes n m) (λ next. acts next ps) g rest
+
+-- it can't be routed: neither can the whole
+then_stops : (e : Stop) (after last : Node) (old mid new : List Out) (a : Acts) (go : NodeState → Acts) → Answers (Err e) after old mid a → Answers (Err e) last old new (then_ a go)
+then_stops (stop.NoMemory e) after last old mid new a go g = tt
+then_stops (stop.Worn x y) after last old mid new (Goes a) go g = absurd g
+then_stops (stop.Worn x y) after last old mid new (Worn v w) go g = g
+
+pub message_stops : (e : Stop) (after last : Node) (n : NodeState) (m : Message) (ps : List Part) (old mid new : List Out) → Answers (Err e) after old mid (routes n m)
+    → Answers (Err e) last old new (acts n (part.Routes m ∷ ps))
+message_stops e after last n m ps old mid new g = then_stops e after last old mid new (routes n m) (λ next. acts next ps) g
+
+nothing_left : (n : Node) (outs : List Out) → HasStreams n → Answers (Ok tt) n outs outs (acts (state_of n) [])
+nothing_left n outs h = record { state = refl; streams = h; outs = sym (append-nil outs) }
+
+none_in : (ps : List Part) → length ps ≡ 0 → ps ≡ []
+none_in [] h = refl
+none_in (p ∷ ps) h = absurd (let e : suc (length ps) ≡ 0 = h in cc)
+
+pub all_done : (n : Node) (outs : List Out) (ps : List Part) → length ps ≡ 0 → HasStreams n → Answers (Ok tt) n outs outs (acts (state_of n) ps)
+all_done n outs ps e h = subst (λ xs. Answers (Ok tt) n outs outs (acts (state_of n) xs)) (sym (none_in ps e)) (nothing_left n outs h)
+
+pub gave_streams : (a : Acts) (after : Node) (old new : List Out) → GaveActs after old new a → HasStreams after
+gave_streams (Goes a) after old new g = g.streams
+gave_streams (Worn x y) after old new g = absurd g
+
+-- how many messages a machine has routed to itself stays within what it may
+pub record Counts (n : NodeState) (most : ℕ) : Type 0 where
+  pub home : n.home ≤ n.numbers
+  pub numbers : n.numbers ≡ most
+
+abbrev pub CountsIn : ℕ → Acts → Type 0
+CountsIn most (Goes a) = Counts a.state most
+CountsIn most (Worn x y) = ⊤
+
+due_counts : (n : NodeState) (b : ℕ) (d : Option (ℕ × Message)) → n.home ≤ n.numbers → Counts (sends_due n b d).state n.numbers
+due_counts n b None h = record { home = h; numbers = refl }
+due_counts n b (Some p) h = record { home = h; numbers = refl }
+
+gives_counts : (n : NodeState) (b : ℕ) (m : Message) (s : Sending Message) (none : Bool) → n.home ≤ n.numbers → CountsIn n.numbers (gives n b m s none)
+gives_counts n b m s true h = due_counts (with_sender n b (with_given s m)) b (due (with_given s m)) h
+gives_counts n b m s false h = record { home = h; numbers = refl }
+
+away_counts : (n : NodeState) (b : ℕ) (m : Message) (s : Sending Message) (worn : Bool) → n.home ≤ n.numbers → CountsIn n.numbers (if worn then Worn (here n) b else gives n b m s (none_waits s))
+away_counts n b m s true h = tt
+away_counts n b m s false h = gives_counts n b m s (none_waits s) h
+
+home_counts : (n : NodeState) (m : Message) → n.home ≤ n.numbers → CountsIn n.numbers (routes_home n m (n.home == n.numbers))
+home_counts n m h =
+    elim (eqb_tells n.home n.numbers) [
+      | inl e ↦ subst (λ c. CountsIn n.numbers (routes_home n m c)) (sym e.0) tt
+      | inr e ↦ subst (λ c. CountsIn n.numbers (routes_home n m c)) (sym e.0) (let d = e.1 in record { home = omega (arith, d); numbers = refl })
+    ]
+
+pub routes_counts : (n : NodeState) (m : Message) → n.home ≤ n.numbers → CountsIn n.numbers (routes n m)
+routes_counts n m h =
+    elim (m.to.at == here n) as (λ c. CountsIn n.numbers (if c then routes_home n m (n.home == n.numbers) else routes_away n m.to.at m (n.senders m.to.at))) [
+      | true ↦ home_counts n m h
+      | false ↦ away_counts n m.to.at m (n.senders m.to.at) (is_worn (n.senders m.to.at)) h
+    ]
+
+gave_counts : (a : Acts) (numbers : ℕ) (after : Node) (old new : List Out) → GaveActs after old new a → CountsIn numbers a → Counts (state_of after) numbers
+gave_counts (Goes a) numbers after old new g c = subst (λ s. Counts s numbers) (sym g.state) c
+gave_counts (Worn x y) numbers after old new g c = absurd g
+
+pub routed_counts : (n : NodeState) (after : Node) (old new : List Out) (m : Message) → n.home ≤ n.numbers → GaveActs after old new (routes n m) → Counts (state_of after) n.numbers
+routed_counts n after old new m h g = gave_counts (routes n m) n.numbers after old new g (routes_counts n m h)
+
+-- the kernel's state, pointwise and whole
+pub kernel_is : (k : Kernel) (s : KernelState) → kernel.IsIn k s → kernel.state_of k ≡ s
+kernel_is k s h =
+    λ i. record { here = h.here i; records = λ q. h.records q i; ring = h.ring i; inbox = h.inbox i; made = h.made i; room = h.room i; servers = h.servers i }
+
+-- the kernel's turn, then what comes of its parts
+some_answered : (r : Result Unit Stop) (after : Node) (old new : List Out) (a : Acts) → Answers r after old new a → AnswersSome r after old new (Some a)
+some_answered (Ok done) after old new a g = g
+some_answered (Err (stop.Worn x y)) after old new a g = g
+some_answered (Err (stop.NoMemory e)) after old new a g = tt
+
+pub turn_answered : (r : Result Unit Stop) (after : Node) (n : NodeState) (k : Kernel) (parts : List Part) (t : Option Turned) (old new : List Out) → kernel.MeetsSome k parts t
+    → Answers r after old new (acts (record n { kernel = kernel.state_of k }) parts) → AnswersSome r after old new (turns n t)
+turn_answered r after n k parts None old new h g = absurd h
+turn_answered r after n k parts (Some t) old new h g =
+    some_answered r after old new (acts (record n { kernel = t.state }) t.parts)
+    (subst (λ ps. Answers r after old new (acts (record n { kernel = t.state }) ps)) h.parts
+    (subst (λ s. Answers r after old new (acts (record n { kernel = s }) parts)) (kernel_is k t.state h.state) g))

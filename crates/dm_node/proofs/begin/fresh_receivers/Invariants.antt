@@ -1,0 +1,7 @@
+use Rattle.std.proofs.Common.{◌≡◌}
+use Rattle.std.specs.Prelude.{replicate}
+use Rattle.dm_stream.specs.Receiving.{fresh_receiving}
+use Rattle.dm_node.proofs.begin.fresh_receivers.Given as goal
+
+abbrev pub invariant-loop-machine : goal.invariant-loop-machine
+invariant-loop-machine l = l.receivers.items ≡ replicate l._machine fresh_receiving

@@ -1,0 +1,25 @@
+use Rattle.std.proofs.Common.{◌≡◌, ◌≤◌, List}
+use Rattle.std.specs.Prelude.{Result}
+use Rattle.std.specs.Vec.Iter.{into_iter_items}
+use Rattle.std.specs.List.{All}
+use Rattle.dm_kernel.specs.Lawful.{IsLawfulPart}
+use Rattle.dm_node.specs.declared.node.Node.{Node}
+use Rattle.dm_node.specs.declared.stop.Stop.{Stop}
+use Rattle.dm_node.specs.declared.out.Out.{Out}
+use Rattle.dm_node.specs.Acts.{acts}
+use Rattle.dm_node.specs.Meets.{Answers, HasStreams, state_of}
+use Rattle.dm_node.proofs.node.Node.act.Given as goal
+
+-- what answers the parts that are left answers all
+abbrev pub invariant-loop-part : goal.invariant-loop-part
+invariant-loop-part l =
+    record {
+      can_next : (goal.iterator-loop-part).can_next l.part-iterator;
+      finite : (goal.iterator-loop-part).is_finite l.part-iterator;
+      fit : All IsLawfulPart (into_iter_items l.part-iterator);
+      streams : HasStreams l.self;
+      home : l.self.home ≤ l.self.numbers;
+      numbers : l.self.numbers ≡ l.fn.self.numbers;
+      rest : (r : Result Unit Stop) (after : Node) (new : List Out) → Answers r after l.outs.items new (acts (state_of l.self) (into_iter_items l.part-iterator))
+          → Answers r after l.fn.outs.items new (acts (state_of l.fn.self) l.fn.parts.items);
+    }

@@ -1,0 +1,7 @@
+use Rattle.std.proofs.Common.{◌≡◌, ◌*◌, ◌≤◌}
+use Rattle.dm_node.specs.Acts.{counts_out}
+use Rattle.dm_node.specs.Meets.{state_of}
+use Rattle.dm_node.proofs.node.Node.counts_out.Given as goal
+
+abbrev pub invariant-loop-to : goal.invariant-loop-to
+invariant-loop-to l = record { count : l.count ≡ counts_out (state_of l.self) l.to; few : l.count ≤ 8 * l.to }

@@ -1,0 +1,53 @@
+use Rattle.std.proofs.Common.{◌≡◌, ◌<◌, ◌≤◌, false, true, [], ◌∷◌, sym, subst, ◌∙◌, arith}
+use Rattle.std.specs.Prelude.{is_some}
+use Rattle.dm_stream.specs.Sending.{due, window, with_acked}
+use Rattle.dm_rule.specs.declared.line.Line.TheVariants as line
+use Rattle.dm_node.specs.declared.out.Out.TheVariants.{Says}
+use Rattle.dm_node.specs.Acts.{lets_go}
+use Rattle.dm_node.specs.Meets.{Gave, state_of}
+use Rattle.dm_node.specs.State.{here, with_sender}
+use Rattle.dm_node.proofs.Arrivals.{gave_before, none_goes, none_may_go, one_goes}
+use Rattle.dm_node.proofs.node.Node.hear.Goals as goal
+
+pub loop-round-init : goal.loop-round-init
+loop-round-init c =
+    let n = state_of c.args.self.now in
+    let from = c.args.from in
+    let said = c.push.new.outs.items in
+    let now = with_sender n from (with_acked (n.senders from) c.args.count) in
+    record {
+      streams = c.acked.ensures.streams;
+      rest = λ after new g.
+          gave_before after c.args.outs.now.items said new (Says (line.Acked from (here n) c.args.count) ∷ []) (lets_go window now from) c.in_ok-push.ensures.ok
+          (subst (λ s. Gave after said new (lets_go window s from)) c.acked.ensures.state g);
+    }
+
+pub returns-then-not-branch : goal.returns-then-not-branch
+returns-then-not-branch c =
+    let l = c.loop-round in
+    let n = state_of l.self in
+    let h : l._round < 8 = omega arith in
+    let b = c.if-not-branch.true in
+    let none : is_some (due (n.senders c.args.from)) ≡ false = sym c.in_ok-send_due.ensures.was ∙ b in
+    l.invariant.rest c.send_due.new.self c.send_due.new.outs.items
+    (none_goes l._round n c.send_due.new.self c.args.from l.outs.items c.send_due.new.outs.items h none c.in_ok-send_due.ensures.gave)
+
+pub loop-round-preserved : goal.loop-round-preserved
+loop-round-preserved c =
+    let l = c.loop-round in
+    let n = state_of l.self in
+    let h : l._round < 8 = omega arith in
+    let b = c.if-not-branch.false in
+    let some : is_some (due (n.senders c.args.from)) ≡ true = sym c.in_ok-send_due.ensures.was ∙ b in
+    record {
+      streams = c.in_ok-send_due.ensures.gave.streams;
+      rest = λ after new g.
+          l.invariant.rest after new
+          (one_goes l._round n c.send_due.new.self after c.args.from l.outs.items c.send_due.new.outs.items new h some c.in_ok-send_due.ensures.gave g);
+    }
+
+pub returns : goal.returns
+returns c =
+    let l = c.loop-round in
+    let h : 8 ≤ l._round = omega arith in
+    l.invariant.rest l.self l.outs.items (none_may_go l._round l.self c.args.from l.outs.items h l.invariant.streams)

@@ -1,0 +1,7 @@
+use Rattle.std.proofs.Common.{◌≡◌, ◌++◌}
+use Rattle.dm_node.specs.Acts.{first_out}
+use Rattle.dm_node.specs.Meets.{state_of}
+use Rattle.dm_node.proofs.node.Node.send_again.Given as goal
+
+abbrev pub invariant-loop-place : goal.invariant-loop-place
+invariant-loop-place l = l.outs.items ≡ l.fn.outs.items ++ first_out (state_of l.self) l.to l.place

@@ -1,0 +1,18 @@
+use Rattle.std.proofs.lemmas.Result.{on_ok_weaker}
+use Rattle.dm_stream.specs.Receiving.{after_arrival, arrival}
+use Rattle.dm_node.specs.Meets.{state_of}
+use Rattle.dm_node.specs.State.{with_receiver}
+use Rattle.dm_node.proofs.Arrivals.{message_came}
+use Rattle.dm_node.proofs.node.Node.take.Goals as goal
+
+pub returns : goal.returns
+returns c =
+    let n = state_of c.args.self.now in
+    let from = c.args.from in
+    let seq = c.args.seq in
+    let r = n.receivers from in
+    on_ok_weaker c.acknowledge.result
+    (message_came (with_receiver n from (after_arrival r seq c.args.message)) (state_of c.receive-arrived.new.self) c.take_in.new.self from seq c.receive-arrived.result
+    (arrival r seq c.args.message) c.args.outs.now.items c.take_in.new.outs.items c.acknowledge.new.outs.items c.receive-arrived.ensures.state c.receive-arrived.ensures.value
+    c.in_ok-take_in.ensures)
+    c.acknowledge.ensures

@@ -1,0 +1,16 @@
+use Rattle.std.proofs.Common.{◌-◌, List}
+use Rattle.dm_stream.specs.Sending.{window}
+use Rattle.dm_node.specs.declared.node.Node.{Node}
+use Rattle.dm_node.specs.declared.out.Out.{Out}
+use Rattle.dm_node.specs.Acts.{takes_kept}
+use Rattle.dm_node.specs.Meets.{Gave, HasStreams, state_of}
+use Rattle.dm_node.proofs.node.Node.take_kept.Given as goal
+
+-- what the rounds that are left give comes behind what there is
+abbrev pub invariant-loop-round : goal.invariant-loop-round
+invariant-loop-round l =
+    record {
+      streams : HasStreams l.self;
+      rest : (after : Node) (new : List Out) → Gave after l.outs.items new (takes_kept (window - l._round) (state_of l.self) l.from)
+          → Gave after l.fn.outs.items new (takes_kept window (state_of l.fn.self) l.from);
+    }

@@ -1,0 +1,10 @@
+use Rattle.std.proofs.Common.{◌≡◌, ◌++◌, ◌∷◌}
+use Rattle.dm_rule.specs.declared.line.Line.TheVariants as line
+use Rattle.dm_node.specs.declared.out.Out.TheVariants.{Says}
+use Rattle.dm_node.specs.Acts.{all_out, counts_out}
+use Rattle.dm_node.specs.Meets.{state_of}
+use Rattle.dm_node.proofs.node.Node.tick.Given as goal
+
+abbrev pub invariant-loop-to : goal.invariant-loop-to
+invariant-loop-to l =
+    l.outs.items ≡ l.fn.outs.items ++ Says (line.Resent l.self.kernel.here (counts_out (state_of l.self) l.self.machines)) ∷ all_out (state_of l.self) l.to

@@ -1,0 +1,30 @@
+use Rattle.std.proofs.Common.{◌≡◌, List, refl, subst, sym}
+use Rattle.std.specs.List.{All}
+use Rattle.std.specs.declared.option.Option.{Option}
+use Rattle.std.specs.declared.option.Option.TheVariants.{None, Some}
+use Rattle.dm_kernel.specs.declared.kernel.Kernel.{Kernel}
+use Rattle.dm_kernel.specs.declared.part.Part.{Part}
+use Rattle.dm_kernel.specs.Lawful.{IsLawfulPart, IsLawfulTurned}
+use Rattle.dm_kernel.specs.Meets.{MeetsSome}
+use Rattle.dm_kernel.specs.State.{Turned}
+use Rattle.dm_kernel.specs.Turn as kernel
+use Rattle.dm_node.specs.Meets.{state_of}
+use Rattle.dm_node.proofs.Parts.{turn_answered}
+use Rattle.dm_node.proofs.node.Node.turn.Goals as goal
+
+-- what a turn said is lawful, as all that the kernel's turn gives
+lawful_parts : (k : Kernel) (ps : List Part) (o : Option Turned) → MeetsSome k ps o → ((t : Turned) → o ≡ Some t → IsLawfulTurned t) → All IsLawfulPart ps
+lawful_parts k ps None h f = absurd h
+lawful_parts k ps (Some t) h f = subst (All IsLawfulPart) (sym h.parts) (f t refl).parts.each
+
+pub act-requires-clause-parts : goal.act-requires-clause-parts
+act-requires-clause-parts c =
+    let n = state_of c.args.self.now in
+    lawful_parts c.turn.new.self c.in-Ok.parts.items (kernel.turn c.args.boot.now n.kernel) c.in-Ok.ensures
+    (λ t is. c.turns_are_lawful.ensures c.args.boot.now n.kernel t c.requires.images c.requires.may.kernel c.requires.lawful is)
+
+pub returns-in-Ok : goal.returns-in-Ok
+returns-in-Ok c =
+    let n = state_of c.args.self.now in
+    turn_answered c.act.result c.act.new.self n c.turn.new.self c.in-Ok.parts.items (kernel.turn c.args.boot.now n.kernel) c.args.outs.now.items c.act.new.outs.items c.in-Ok.ensures
+    c.act.ensures

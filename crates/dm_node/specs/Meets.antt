@@ -1,0 +1,89 @@
+-- The machine of the code, over the plain one.
+use Rattle.std.specs.Prelude.{◌≡◌, ⊤, ℕ, true, false, List, ◌++◌, length, slice_index_or}
+use Rattle.std.specs.declared.option.Option.{Option}
+use Rattle.std.specs.declared.option.Option.TheVariants.{None, Some}
+use Rattle.std.specs.declared.result.Result.{Result}
+use Rattle.std.specs.declared.result.Result.TheVariants.{Ok, Err}
+use Rattle.dm_message.specs.declared.Message.{Message}
+use Rattle.dm_stream.specs.Sending.{Sending, fresh_sending, with_given}
+use Rattle.dm_stream.specs.Receiving.{Receiving, fresh_receiving}
+use Rattle.dm_kernel.specs.Meets as kernel
+use Rattle.dm_node.specs.declared.node.Node.{Node}
+use Rattle.dm_node.specs.declared.stop.Stop.{Stop}
+use Rattle.dm_node.specs.declared.stop.Stop.TheVariants as stop
+use Rattle.dm_node.specs.State.{NodeState, here, with_sender}
+use Rattle.dm_node.specs.declared.out.Out.{Out}
+use Rattle.dm_node.specs.Out.{Acted, Acts, Goes, Worn}
+use Rattle.dm_node.specs.Acts.{is_worn}
+
+-- the streams with machine b
+abbrev pub sender_of : List (Sending Message) → ℕ → Sending Message
+sender_of senders b = slice_index_or senders b (fresh_sending 0)
+
+abbrev pub receiver_of : List (Receiving Message) → ℕ → Receiving Message
+receiver_of receivers b = slice_index_or receivers b fresh_receiving
+
+abbrev pub state_of : Node → NodeState
+state_of n =
+    record {
+      kernel = kernel.state_of n.kernel;
+      machines = n.machines;
+      numbers = n.numbers;
+      home = n.home;
+      senders = sender_of n.senders.items;
+      receivers = receiver_of n.receivers.items;
+    }
+
+-- there is a stream to and from each of sixteen machines
+pub record HasStreams (n : Node) : Type 0 where
+  pub senders : length n.senders.items ≡ 16
+  pub receivers : length n.receivers.items ≡ 16
+
+-- a machine's stream has one more message
+pub record GaveTo (new : Node) (n : NodeState) (b : ℕ) (m : Message) : Type 0 where
+  pub not_worn : is_worn (n.senders b) ≡ false
+  pub state : state_of new ≡ with_sender n b (with_given (n.senders b) m)
+  pub streams : HasStreams new
+
+-- a message can't be given, since all numbers of the stream are used
+pub record IsWornTo (x y : ℕ) (n : NodeState) (b : ℕ) : Type 0 where
+  pub worn : is_worn (n.senders b) ≡ true
+  pub from : x ≡ here n
+  pub to : y ≡ b
+
+abbrev pub Gives : Result Unit Stop → Node → NodeState → ℕ → Message → Type 0
+Gives (Ok done) new n b m = GaveTo new n b m
+Gives (Err (stop.Worn from to)) new n b m = IsWornTo from to n b
+Gives (Err (stop.NoMemory e)) new n b m = ⊤
+
+-- the code gives these at the end of what there was, or has no memory
+pub record Gave (n : Node) (old new : List Out) (a : Acted) : Type 0 where
+  pub state : state_of n ≡ a.state
+  pub streams : HasStreams n
+  pub outs : new ≡ old ++ a.outs
+
+abbrev pub GaveActs : Node → List Out → List Out → Acts → Type 0
+GaveActs n old new (Goes a) = Gave n old new a
+GaveActs n old new (Worn from to) = ⊥
+
+abbrev pub IsWorn : ℕ → ℕ → Acts → Type 0
+IsWorn from to (Goes a) = ⊥
+IsWorn from to (Worn x y) = (from ≡ x) × (to ≡ y)
+
+abbrev pub Answers : Result Unit Stop → Node → List Out → List Out → Acts → Type 0
+Answers (Ok done) n old new a = GaveActs n old new a
+Answers (Err (stop.Worn from to)) n old new a = IsWorn from to a
+Answers (Err (stop.NoMemory e)) n old new a = ⊤
+
+abbrev pub GaveSome : Node → List Out → List Out → Option Acts → Type 0
+GaveSome n old new None = ⊥
+GaveSome n old new (Some a) = GaveActs n old new a
+
+abbrev pub IsWornSome : ℕ → ℕ → Option Acts → Type 0
+IsWornSome from to None = ⊥
+IsWornSome from to (Some a) = IsWorn from to a
+
+abbrev pub AnswersSome : Result Unit Stop → Node → List Out → List Out → Option Acts → Type 0
+AnswersSome (Ok done) n old new a = GaveSome n old new a
+AnswersSome (Err (stop.Worn from to)) n old new a = IsWornSome from to a
+AnswersSome (Err (stop.NoMemory e)) n old new a = ⊤

@@ -1,0 +1,168 @@
+//! What comes of a packet that arrives.
+ghost use Rattle.std.specs.Prelude.{◌≡◌, ◌<◌, ◌≤◌, ◌^◌, ◌++◌, ◌∷◌, [], OnOk};
+ghost use Rattle.dm_stream.specs.Packets.{Ack, Data};
+ghost use Rattle.dm_stream.specs.Sending.{window};
+ghost use Rattle.dm_node.specs.Acts.{acknowledges, arrives, arrives_packet, comes_in, takes_kept};
+ghost use Rattle.dm_node.specs.May.{MayArrive, MayArrivePacket};
+ghost use Rattle.dm_node.specs.Meets.{Gave, HasStreams, state_of};
+
+use crate::node::Node;
+use crate::out::Out;
+use crate::route::push;
+use dm_memory::NoMemory;
+use dm_message::Message;
+use dm_packet::Packet;
+use dm_rule::line::Line;
+use dm_stream::Arrived;
+
+/// At most so many messages are taken or let go at once.
+const WINDOW: usize = 8;
+
+impl Node {
+    /// Takes what a packet from another machine carries. A message is taken if it is the next, with those behind it
+    /// that came early, kept if it is early, and dropped if it is old; how many were taken is acknowledged. An
+    /// acknowledgement lets messages go out that wait.
+    pub fn arrive(&mut self, packet: Packet, outs: &mut Vec<Out>) -> Result<(), NoMemory>
+        requires may { MayArrivePacket (state_of self.old) packet }
+        requires streams { HasStreams self.old }
+        ensures { OnOk result (Gave self.new outs.old.items outs.new.items (arrives_packet (state_of self.old) packet)) }
+    {
+        match packet {
+            Packet::Data {
+                from,
+                seq,
+                message,
+                ..
+            } => self.take(from, seq, message, outs),
+            Packet::Ack { from, count, .. } => self.hear(from, count, outs),
+        }
+    }
+
+    /// Takes a message with its number, from machine `from`, and acknowledges all that were taken.
+    fn take(
+        &mut self,
+        from: u8,
+        seq: u32,
+        message: Message,
+        outs: &mut Vec<Out>,
+    ) -> Result<(), NoMemory>
+        requires may { MayArrive (state_of self.old) from (Data seq message) }
+        requires streams { HasStreams self.old }
+        ensures { OnOk result (Gave self.new outs.old.items outs.new.items (arrives (state_of self.old) from (Data seq message))) }
+    {
+        let arrived = self.receive(from, seq, message);
+        self.take_in(from, seq, arrived, outs)?;
+        self.acknowledge(from, outs)
+    }
+
+    /// Says what an arrival is. If it is the next message, it comes into the inbox, with those behind it.
+    fn take_in(
+        &mut self,
+        from: u8,
+        seq: u32,
+        arrived: Arrived<Message>,
+        outs: &mut Vec<Out>,
+    ) -> Result<(), NoMemory>
+        requires from { from < 16 }
+        requires streams { HasStreams self.old }
+        ensures { OnOk result (Gave self.new outs.old.items outs.new.items (comes_in (state_of self.old) from seq arrived)) }
+    {
+        let here = self.kernel.here;
+        match arrived {
+            Arrived::Taken(message) => {
+                push(
+                    outs,
+                    Out::Says(Line::Taken {
+                        from,
+                        to: here,
+                        n: seq,
+                    }),
+                )?;
+                self.kernel.inbox.push(message)?;
+                self.take_kept(from, outs)?;
+            }
+            Arrived::Old => push(
+                outs,
+                Out::Says(Line::Old {
+                    from,
+                    to: here,
+                    n: seq,
+                }),
+            )?,
+            Arrived::Early => push(
+                outs,
+                Out::Says(Line::Early {
+                    from,
+                    to: here,
+                    n: seq,
+                }),
+            )?,
+        }
+        Ok(())
+    }
+
+    /// Takes the messages of machine `from` that came early and whose turn has come.
+    fn take_kept(&mut self, from: u8, outs: &mut Vec<Out>) -> Result<(), NoMemory>
+        requires from { from < 16 }
+        requires streams { HasStreams self.old }
+        ensures { OnOk result (Gave self.new outs.old.items outs.new.items (takes_kept window (state_of self.old) from)) }
+    {
+        for _round in 0..WINDOW {
+            let n = self.count(from);
+            match self.next_kept(from) {
+                Some(message) => {
+                    push(
+                        outs,
+                        Out::Says(Line::Taken {
+                            from,
+                            to: self.kernel.here,
+                            n,
+                        }),
+                    )?;
+                    self.kernel.inbox.push(message)?;
+                }
+                None => return Ok(()),
+            }
+        }
+        Ok(())
+    }
+
+    /// Acknowledges all that was taken of machine `to`'s messages.
+    fn acknowledge(&self, to: u8, outs: &mut Vec<Out>) -> Result<(), NoMemory>
+        requires to { to < 16 }
+        requires streams { HasStreams self.now }
+        ensures { OnOk result (outs.new.items ≡ outs.old.items ++ acknowledges (state_of self.now) to) }
+    {
+        push(
+            outs,
+            Out::Sends(Packet::Ack {
+                from: self.kernel.here,
+                to,
+                count: self.count(to),
+            }),
+        )
+    }
+
+    /// Machine `from` has taken the first `count` messages: those that wait go out, as far as the window allows.
+    fn hear(&mut self, from: u8, count: u32, outs: &mut Vec<Out>) -> Result<(), NoMemory>
+        requires may { MayArrive (state_of self.old) from (Ack count) }
+        requires streams { HasStreams self.old }
+        ensures { OnOk result (Gave self.new outs.old.items outs.new.items (arrives (state_of self.old) from (Ack count))) }
+    {
+        push(
+            outs,
+            Out::Says(Line::Acked {
+                from,
+                to: self.kernel.here,
+                n: count,
+            }),
+        )?;
+        self.acked(from, count);
+        for _round in 0..WINDOW {
+            if !self.send_due(from, outs)? {
+                return Ok(());
+            }
+        }
+        Ok(())
+    }
+}

@@ -1,0 +1,125 @@
+//! The ends of a machine's streams, as steps of the machine.
+ghost use Rattle.std.specs.Prelude.{◌≡◌, ◌<◌, ◌≤◌, ◌+◌, ◌-◌, ◌^◌, IsSome};
+ghost use Rattle.dm_stream.specs.Sending.{due, outstanding, with_acked, with_sent};
+ghost use Rattle.dm_stream.specs.Receiving.{after_arrival, after_next, arrival, next};
+ghost use Rattle.dm_node.specs.Acts.{count_out, none_waits};
+ghost use Rattle.dm_node.specs.Meets.{Gives, HasStreams, state_of};
+ghost use Rattle.dm_node.specs.Out.{numbered};
+ghost use Rattle.dm_node.specs.State.{with_receiver, with_sender};
+
+use crate::node::Node;
+use crate::stop::Stop;
+use crate::streams;
+use dm_message::Message;
+use dm_packet::Packet;
+use dm_stream::{Arrived, GiveNo};
+
+impl Node {
+    /// Whether all messages to machine `to` have gone out.
+    pub fn none_waits(&self, to: u8) -> bool
+        requires streams { HasStreams self.now }
+        requires to { to < 16 }
+        ensures { result ≡ none_waits ((state_of self.now).senders to) }
+    {
+        streams::none_waits(&self.senders, to)
+    }
+
+    /// Gives a message to the stream to machine `to`.
+    pub fn give(&mut self, to: u8, message: Message) -> Result<(), Stop>
+        requires streams { HasStreams self.old }
+        requires to { to < 16 }
+        ensures { Gives result self.new (state_of self.old) to message }
+    {
+        match streams::give(&mut self.senders, to, message) {
+            Ok(()) => Ok(()),
+            Err(GiveNo::Worn(_)) => Err(Stop::Worn {
+                from: self.kernel.here,
+                to,
+            }),
+            Err(GiveNo::NoMemory(_, e)) => Err(Stop::NoMemory(e)),
+        }
+    }
+
+    /// The packet that is due to machine `to`.
+    pub fn due(&self, to: u8) -> Option<Packet>
+        requires streams { HasStreams self.now }
+        requires to { to < 16 }
+        ensures { result ≡ numbered self.now.kernel.here to (due ((state_of self.now).senders to)) }
+    {
+        streams::due(&self.senders, self.kernel.here, to)
+    }
+
+    /// The packet that is due to machine `to` has gone out.
+    pub fn sent_due(&mut self, to: u8)
+        requires streams { HasStreams self.old }
+        requires to { to < 16 }
+        requires due { IsSome (due ((state_of self.old).senders to)) }
+        ensures state { state_of self.new ≡ with_sender (state_of self.old) to (with_sent ((state_of self.old).senders to)) }
+        ensures streams { HasStreams self.new }
+    {
+        streams::sent_due(&mut self.senders, to);
+    }
+
+    /// The packet at a place, from 0 on, among those that are out to machine `to`.
+    pub fn outstanding(&self, to: u8, place: usize) -> Option<Packet>
+        requires streams { HasStreams self.now }
+        requires to { to < 16 }
+        ensures { result ≡ numbered self.now.kernel.here to (outstanding ((state_of self.now).senders to) place) }
+    {
+        streams::outstanding(&self.senders, self.kernel.here, to, place)
+    }
+
+    /// How many packets are out to machine `to` and not acknowledged, 0 to 8.
+    pub fn count_out(&self, to: u8) -> u32
+        requires streams { HasStreams self.now }
+        requires to { to < 16 }
+        ensures count { result ≡ count_out ((state_of self.now).senders to) }
+        ensures few { result ≤ 8 }
+    {
+        streams::count_out(&self.senders, to)
+    }
+
+    /// Machine `to` has taken the first `count` messages.
+    pub fn acked(&mut self, to: u8, count: u32)
+        requires streams { HasStreams self.old }
+        requires to { to < 16 }
+        requires gone { count ≤ ((state_of self.old).senders to).gone }
+        ensures state { state_of self.new ≡ with_sender (state_of self.old) to (with_acked ((state_of self.old).senders to) count) }
+        ensures streams { HasStreams self.new }
+    {
+        streams::acked(&mut self.senders, to, count);
+    }
+
+    /// How many messages of machine `from` were taken.
+    pub fn count(&self, from: u8) -> u32
+        requires streams { HasStreams self.now }
+        requires from { from < 16 }
+        ensures { result ≡ ((state_of self.now).receivers from).count }
+    {
+        streams::count(&self.receivers, from)
+    }
+
+    /// A message with its number has come from machine `from`.
+    pub fn receive(&mut self, from: u8, seq: u32, message: Message) -> Arrived<Message>
+        requires streams { HasStreams self.old }
+        requires from { from < 16 }
+        requires in_window { seq < ((state_of self.old).receivers from).count + 8 }
+        requires numbered { seq < 2 ^ 32 - 1 }
+        ensures value { result ≡ arrival ((state_of self.old).receivers from) seq message }
+        ensures state { state_of self.new ≡ with_receiver (state_of self.old) from (after_arrival ((state_of self.old).receivers from) seq message) }
+        ensures streams { HasStreams self.new }
+    {
+        streams::arrive(&mut self.receivers, from, seq, message)
+    }
+
+    /// Takes the message of machine `from` that came early and is the next now.
+    pub fn next_kept(&mut self, from: u8) -> Option<Message>
+        requires streams { HasStreams self.old }
+        requires from { from < 16 }
+        ensures value { result ≡ next ((state_of self.old).receivers from) }
+        ensures state { state_of self.new ≡ with_receiver (state_of self.old) from (after_next ((state_of self.old).receivers from)) }
+        ensures streams { HasStreams self.new }
+    {
+        streams::next_kept(&mut self.receivers, from)
+    }
+}

@@ -1,0 +1,12 @@
+//! What an event of a machine gives to the outside.
+use dm_packet::Packet;
+use dm_rule::line::Line;
+
+/// What an event of a machine gives to the outside.
+#[derive(Drop)]
+pub enum Out {
+    /// A printed line.
+    Says(Line),
+    /// A packet for another machine's wire, which has a line too.
+    Sends(Packet),
+}

@@ -1,0 +1,108 @@
+//! How a message is routed to the machine that its receiver's address names.
+ghost use Rattle.std.specs.Prelude.{◌≡◌, ◌<◌, ◌≤◌, ◌^◌, ◌++◌, ◌∷◌, ◌==◌, [], IfOk, OnOk, is_some};
+ghost use Rattle.dm_stream.specs.Sending.{due, given_count, with_given, with_sent};
+ghost use Rattle.dm_node.specs.Acts.{gives, put_line, routes, routes_away, routes_home, sends_due};
+ghost use Rattle.dm_node.specs.Meets.{Answers, Gave, HasStreams, state_of};
+ghost use Rattle.dm_node.specs.Out.{Goes};
+
+use crate::node::Node;
+use crate::out::Out;
+use crate::stop::Stop;
+use dm_memory::NoMemory;
+use dm_message::Message;
+use dm_rule::line::Line;
+
+impl Node {
+    /// Routes a message to the machine that its receiver's address names.
+    pub fn route(&mut self, message: Message, outs: &mut Vec<Out>) -> Result<(), Stop>
+        requires streams { HasStreams self.old }
+        requires to { message.to.at < 16 }
+        requires home { self.old.home ≤ self.old.numbers }
+        requires numbers { self.old.numbers < 2 ^ 32 }
+        ensures { Answers result self.new outs.old.items outs.new.items (routes (state_of self.old) message) }
+    {
+        if message.to.at == self.kernel.here {
+            self.route_home(message, outs)
+        } else {
+            self.route_away(message, outs)
+        }
+    }
+
+    /// The line of a message that is routed.
+    fn put_line(&self, message: &Message) -> Line
+        ensures { result ≡ put_line (state_of self.now) message.now }
+    {
+        Line::Put {
+            from: self.kernel.here,
+            to: message.to.at,
+            id: message.id,
+            kind: message.what.kind(),
+            receiver: message.to.pid,
+        }
+    }
+
+    /// Routes a message to this machine itself: it comes into the inbox.
+    fn route_home(&mut self, message: Message, outs: &mut Vec<Out>) -> Result<(), Stop>
+        requires streams { HasStreams self.old }
+        requires home { self.old.home ≤ self.old.numbers }
+        requires numbers { self.old.numbers < 2 ^ 32 }
+        ensures { Answers result self.new outs.old.items outs.new.items (routes_home (state_of self.old) message (self.old.home == self.old.numbers)) }
+    {
+        let here = self.kernel.here;
+        if self.home == self.numbers {
+            return Err(Stop::Worn {
+                from: here,
+                to: here,
+            });
+        }
+        push(outs, Out::Says(self.put_line(&message)))?;
+        match self.kernel.inbox.push(message) {
+            Ok(()) => {}
+            Err(e) => return Err(Stop::NoMemory(NoMemory::from(e))),
+        }
+        self.home += 1;
+        Ok(())
+    }
+
+    /// Routes a message to another machine: it goes out at once where none waits before it, and the window isn't full.
+    fn route_away(&mut self, message: Message, outs: &mut Vec<Out>) -> Result<(), Stop>
+        requires streams { HasStreams self.old }
+        requires to { message.to.at < 16 }
+        ensures { Answers result self.new outs.old.items outs.new.items (routes_away (state_of self.old) message.to.at message ((state_of self.old).senders message.to.at)) }
+    {
+        let to = message.to.at;
+        let at_once = self.none_waits(to);
+        let put = self.put_line(&message);
+        self.give(to, message)?;
+        push(outs, Out::Says(put))?;
+        if at_once {
+            self.send_due(to, outs)?;
+        }
+        Ok(())
+    }
+
+    /// Sends the packet that is due to machine `to`, if there is one; whether there was.
+    pub fn send_due(&mut self, to: u8, outs: &mut Vec<Out>) -> Result<bool, NoMemory>
+        requires streams { HasStreams self.old }
+        requires to { to < 16 }
+        ensures gave { OnOk result (Gave self.new outs.old.items outs.new.items (sends_due (state_of self.old) to (due ((state_of self.old).senders to)))) }
+        ensures was { IfOk result (λ sent. sent ≡ is_some (due ((state_of self.old).senders to))) }
+    {
+        match self.due(to) {
+            Some(packet) => {
+                push(outs, Out::Sends(packet))?;
+                self.sent_due(to);
+                Ok(true)
+            }
+            None => Ok(false),
+        }
+    }
+}
+
+/// Puts one more at the end.
+pub fn push(outs: &mut Vec<Out>, out: Out) -> Result<(), NoMemory>
+    ensures ok { OnOk result (outs.new.items ≡ outs.old.items ++ out ∷ []) }
+{
+    outs.push(out)?;
+    Ok(())
+}

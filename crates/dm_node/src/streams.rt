@@ -1,0 +1,134 @@
+//! The ends of a machine's streams, by machine.
+ghost use Rattle.std.specs.Prelude.{◌≡◌, ◌<◌, ◌≤◌, ◌+◌, ◌-◌, ◌^◌, ◌↔◌, IfErr, IsSome, OnOk, Err, length, ℕ};
+ghost use Rattle.dm_stream.specs.Sending.{due, given_count, outstanding, with_acked, with_given, with_sent};
+ghost use Rattle.dm_stream.specs.Receiving.{after_arrival, after_next, arrival, next};
+ghost use Rattle.dm_stream.specs.Returned.{message_in};
+ghost use Rattle.dm_stream.specs.declared.sender.GiveNo.TheVariants as no;
+ghost use Rattle.dm_node.specs.Acts.{count_out, none_waits};
+ghost use Rattle.dm_node.specs.Out.{numbered};
+ghost use Rattle.dm_node.specs.Meets.{receiver_of, sender_of};
+ghost use Rattle.dm_rule.specs.Sets.{at_machine};
+
+use dm_message::Message;
+use dm_packet::Packet;
+use dm_stream::{Arrived, GiveNo, Receiver, Sender};
+
+/// Whether all messages to machine `to` have gone out.
+pub fn none_waits(senders: &[Sender<Message>], to: u8) -> bool
+    requires { to < length senders.now }
+    ensures { result ≡ none_waits (sender_of senders.now to) }
+{
+    let sender = &senders[usize::from(to)];
+    sender.gone_out() == sender.given()
+}
+
+/// Gives a message to the stream to machine `to`.
+pub fn give(
+    senders: &mut [Sender<Message>],
+    to: u8,
+    message: Message,
+) -> Result<(), GiveNo<Message>>
+    requires { to < length senders.old }
+    ensures ok { OnOk result ((c : ℕ) → sender_of senders.new c ≡ at_machine (sender_of senders.old) to (with_given (sender_of senders.old to) message) c) }
+    ensures worn { (result ≡ Err (no.Worn message)) ↔ (given_count (sender_of senders.old to) ≡ (sender_of senders.old to).numbers) }
+    ensures returned { IfErr result (λ e. message_in e ≡ message) }
+    ensures length { length senders.new ≡ length senders.old }
+{
+    senders[usize::from(to)].give(message)
+}
+
+/// The packet that is due on the stream from machine `here` to machine `to`.
+pub fn due(senders: &[Sender<Message>], here: u8, to: u8) -> Option<Packet>
+    requires { to < length senders.now }
+    ensures { result ≡ numbered here to (due (sender_of senders.now to)) }
+{
+    match senders[usize::from(to)].due() {
+        Some((seq, message)) => Some(Packet::Data {
+            from: here,
+            to,
+            seq,
+            message: message.copied(),
+        }),
+        None => None,
+    }
+}
+
+/// The packet that is due to machine `to` has gone out.
+pub fn sent_due(senders: &mut [Sender<Message>], to: u8)
+    requires within { to < length senders.old }
+    requires due { IsSome (due (sender_of senders.old to)) }
+    ensures sent { (c : ℕ) → sender_of senders.new c ≡ at_machine (sender_of senders.old) to (with_sent (sender_of senders.old to)) c }
+    ensures length { length senders.new ≡ length senders.old }
+{
+    senders[usize::from(to)].sent_due();
+}
+
+/// The packet at a place among those that are out from machine `here` to machine `to`.
+pub fn outstanding(senders: &[Sender<Message>], here: u8, to: u8, place: usize) -> Option<Packet>
+    requires { to < length senders.now }
+    ensures { result ≡ numbered here to (outstanding (sender_of senders.now to) place) }
+{
+    match senders[usize::from(to)].outstanding(place) {
+        Some((seq, message)) => Some(Packet::Data {
+            from: here,
+            to,
+            seq,
+            message: message.copied(),
+        }),
+        None => None,
+    }
+}
+
+/// How many packets are out to machine `to` and not acknowledged.
+pub fn count_out(senders: &[Sender<Message>], to: u8) -> u32
+    requires { to < length senders.now }
+    ensures count { result ≡ count_out (sender_of senders.now to) }
+    ensures few { result ≤ 8 }
+{
+    senders[usize::from(to)].out()
+}
+
+/// Machine `to` has taken the first `count` messages.
+pub fn acked(senders: &mut [Sender<Message>], to: u8, count: u32)
+    requires within { to < length senders.old }
+    requires gone { count ≤ (sender_of senders.old to).gone }
+    ensures acked { (c : ℕ) → sender_of senders.new c ≡ at_machine (sender_of senders.old) to (with_acked (sender_of senders.old to) count) c }
+    ensures length { length senders.new ≡ length senders.old }
+{
+    senders[usize::from(to)].acked(count);
+}
+
+/// How many messages of machine `from` were taken.
+pub fn count(receivers: &[Receiver<Message>], from: u8) -> u32
+    requires { from < length receivers.now }
+    ensures { result ≡ (receiver_of receivers.now from).count }
+{
+    receivers[usize::from(from)].count()
+}
+
+/// A message with its number has come from machine `from`.
+pub fn arrive(
+    receivers: &mut [Receiver<Message>],
+    from: u8,
+    seq: u32,
+    message: Message,
+) -> Arrived<Message>
+    requires within { from < length receivers.old }
+    requires in_window { seq < (receiver_of receivers.old from).count + 8 }
+    requires numbered { seq < 2 ^ 32 - 1 }
+    ensures value { result ≡ arrival (receiver_of receivers.old from) seq message }
+    ensures after { (c : ℕ) → receiver_of receivers.new c ≡ at_machine (receiver_of receivers.old) from (after_arrival (receiver_of receivers.old from) seq message) c }
+    ensures length { length receivers.new ≡ length receivers.old }
+{
+    receivers[usize::from(from)].arrive(seq, message)
+}
+
+/// Takes the message of machine `from` that came early and is the next now.
+pub fn next_kept(receivers: &mut [Receiver<Message>], from: u8) -> Option<Message>
+    requires within { from < length receivers.old }
+    ensures value { result ≡ next (receiver_of receivers.old from) }
+    ensures after { (c : ℕ) → receiver_of receivers.new c ≡ at_machine (receiver_of receivers.old) from (after_next (receiver_of receivers.old from)) c }
+    ensures length { length receivers.new ≡ length receivers.old }
+{
+    receivers[usize::from(from)].next_kept()
+}

@@ -1,3 +1,0 @@
-pub mod Equal
-pub mod Counted
-pub mod ReceivedOnce

@@ -1,7 +1,0 @@
-pub mod PlainProcess
-pub mod Kernel
-pub mod Calls
-pub mod Start
-pub mod Step
-pub mod Received
-pub mod Boot

@@ -1,5 +1,0 @@
-use Rattle.dm_trace.proofs.LinesBack.{lines-back, text-same}
-use Rattle.dm_trace.proofs.text.text_can_be_read.Goals as goal
-
-pub returns : goal.returns
-returns c = record { spelt = lines-back; once = text-same }

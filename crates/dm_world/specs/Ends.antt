@@ -1,0 +1,130 @@
+-- The lines at the end of a run, by what the machines have.
+use Rattle.std.specs.Prelude.{ℕ, zero, suc, ◌+◌, ◌-◌, ◌/◌, ◌==◌, if◌then◌else◌, drop, List, [], ◌∷◌, ◌++◌, length, map}
+use Rattle.std.specs.declared.option.Option.{Option}
+use Rattle.std.specs.declared.option.Option.TheVariants.{None, Some}
+use Rattle.dm_link.specs.declared.Link.{Link}
+use Rattle.dm_link.specs.declared.Pid.{Pid}
+use Rattle.dm_link.specs.declared.Addr.{Addr}
+use Rattle.dm_link.specs.Names.{pid_of}
+use Rattle.dm_message.specs.declared.Message.{Message}
+use Rattle.dm_message.specs.declared.MsgId.{MsgId}
+use Rattle.dm_message.specs.Ids.{id_of}
+use Rattle.dm_process.specs.declared.process.Process.{Process}
+use Rattle.dm_process.specs.declared.process.Status.{Status}
+use Rattle.dm_process.specs.declared.process.Status.TheVariants as status
+use Rattle.dm_forward.specs.declared.record.Record.TheVariants.{Here, Frozen, Incoming, Forward, Ended}
+use Rattle.dm_stream.specs.Sending.{Sending}
+use Rattle.dm_switchboard.specs.Board.{Board, Named}
+use Rattle.dm_procman.specs.declared.pending.Pending.{Pending}
+use Rattle.dm_procman.specs.Managing.{Managing}
+use Rattle.dm_onekernel.specs.Boot.{first_number, switchboard, manager}
+use Rattle.dm_rule.specs.declared.line.Line.{Line}
+use Rattle.dm_rule.specs.declared.line.EndLine.TheVariants as end
+use Rattle.dm_rule.specs.declared.line.Standing.TheVariants as standing
+use Rattle.dm_rule.specs.declared.line.Doing.{Doing}
+use Rattle.dm_rule.specs.declared.line.Doing.TheVariants as doing
+use Rattle.dm_rule.specs.Ends.{says, or, memory_lines, each_machine, home_with, list_line}
+use Rattle.dm_kernel.specs.State.{Known}
+use Rattle.dm_kernel.specs.declared.kernel.Servers.{Servers}
+use Rattle.dm_world.specs.World.{WorldState}
+
+abbrev pub doing_of : Status → Doing
+doing_of status.Ready = doing.Ready
+doing_of (status.Waiting mask base size) = doing.Waiting mask base size
+doing_of (status.Moving dir owner base own left pending) = doing.Moving dir owner.pid base own left
+
+-- the links of the slots from k on
+abbrev pub slot_line : Pid → ℕ → Option Link → List Line
+slot_line p k None = []
+slot_line p k (Some l) = says (end.Link p k l) ∷ []
+
+abbrev pub link_lines : Pid → ℕ → List (Option Link) → List Line
+link_lines p k [] = []
+link_lines p k (l ∷ ls) = slot_line p k l ++ link_lines p (k + 1) ls
+
+abbrev pub state_lines : Pid → Process → List Line
+state_lines p x = says (end.Registers p x.regs.r x.regs.pc) ∷ memory_lines p x.memory (length x.memory / 256) ++ link_lines p 0 x.table
+
+abbrev pub here_lines : ℕ → Pid → Process → List Line
+here_lines m p x = says (end.Process p m standing.Here (doing_of x.status) x.stopped x.sent) ∷ state_lines p x
+
+-- what a machine says of a process, by what it knows of it; what migration adds has its rows with migration
+abbrev pub record_lines : ℕ → Pid → Option Known → Option (List Line)
+record_lines m p None = None
+record_lines m p (Some (Here x)) = Some (here_lines m p x)
+record_lines m p (Some (Frozen leaving)) = None
+record_lines m p (Some (Incoming arriving)) = None
+record_lines m p (Some (Forward machine moves)) = None
+record_lines m p (Some (Ended y)) = Some (says (end.Ended p y) ∷ [])
+
+abbrev pub names_of : List Message → List MsgId
+names_of ms = map (λ (m : Message). m.id) ms
+
+abbrev pub record_queue : Pid → Option Known → Option (List Line)
+record_queue p None = None
+record_queue p (Some (Here x)) = Some (list_line (end.Queue p) (names_of x.queue))
+record_queue p (Some (Frozen leaving)) = None
+record_queue p (Some (Incoming arriving)) = None
+record_queue p (Some (Forward machine moves)) = None
+record_queue p (Some (Ended y)) = None
+
+-- the first of n machines that says something of it
+abbrev pub first_says : (ℕ → Option (List Line)) → ℕ → Option (List Line)
+first_says f zero = None
+first_says f (suc n) = or (first_says f n) (f n)
+
+abbrev pub lines_in : Option (List Line) → List Line
+lines_in None = []
+lines_in (Some ls) = ls
+
+abbrev pub process_lines : ℕ → WorldState → Pid → List Line
+process_lines machines w p = lines_in (first_says (λ m. record_lines m p ((w.nodes m).kernel.records p)) machines)
+
+abbrev pub queue_of : ℕ → WorldState → Pid → List Line
+queue_of machines w p = lines_in (first_says (λ m. record_queue p ((w.nodes m).kernel.records p)) machines)
+
+-- for each process that was ever made, by home and by number
+abbrev pub homes_with : WorldState → (Pid → List Line) → ℕ → List Line
+homes_with w f zero = []
+homes_with w f (suc home) = homes_with w f home ++ home_with f home (w.nodes home).kernel.made
+
+-- the servers
+abbrev pub name_lines : List Named → List Line
+name_lines [] = []
+name_lines (k ∷ ks) = says (end.Name (record { items = k.name }) k.link) ∷ name_lines ks
+
+abbrev pub child_lines : ℕ → List Addr → List Line
+child_lines n [] = []
+child_lines n (c ∷ cs) = says (end.Child n c.pid c.at) ∷ child_lines (n + 1) cs
+
+abbrev pub pending_lines : List Pending → List Line
+pending_lines [] = []
+pending_lines (r ∷ rs) = says (end.Pending (id_of manager r.n)) ∷ pending_lines rs
+
+abbrev pub server_lines : Option Servers → List Line
+server_lines None = []
+server_lines (Some v) =
+    says (end.Server switchboard v.board.sent)
+    ∷ says (end.Server manager v.manager.sent)
+    ∷ name_lines v.board.names
+    ++ child_lines 1 v.manager.children
+    ++ pending_lines v.manager.pending
+
+-- what was given to the stream from a to c and not taken yet: the receiver's count says how much was taken
+abbrev pub untaken : WorldState → ℕ → ℕ → List Message
+untaken w a c = drop (((w.nodes c).receivers a).count - ((w.nodes a).senders c).acked) ((w.nodes a).senders c).unacked
+
+abbrev pub stream_line : WorldState → ℕ → ℕ → List Line
+stream_line w a c = if a == c then [] else list_line (end.Stream a c) (names_of (untaken w a c))
+
+-- with so many machines
+abbrev pub end_lines : ℕ → WorldState → List Line
+end_lines machines w =
+    says end.Final
+    ∷ homes_with w (process_lines machines w) machines
+    ++ server_lines (w.nodes 0).kernel.servers
+    ++ homes_with w (queue_of machines w) machines
+    ++ each_machine (λ m. list_line (end.Inbox m) (names_of (w.nodes m).kernel.inbox)) machines
+    ++ each_machine (λ a. each_machine (λ c. stream_line w a c) machines) machines
+    ++ says (end.Groups w.groups)
+    ∷ []
