@@ -17,6 +17,8 @@ use Rattle.dm_message.specs.Lawful.{IsLawfulMessage, IsLawfulWhat, is_answer}
 use Rattle.dm_process.specs.declared.process.Process.{Process}
 use Rattle.dm_process.specs.Lawful.{IsLawfulProcess, SlotIsLawful}
 use Rattle.dm_forward.specs.declared.record.Record.TheVariants.{Here, Ended}
+use Rattle.dm_forward.specs.Records.{with_record}
+use Rattle.dm_room.specs.Room.{Taken}
 use Rattle.dm_datamove.specs.Serving.{answer}
 use Rattle.dm_datamove.proofs.Tested.{none_lawful}
 use Rattle.dm_onekernel.specs.declared.boot.Boot.{Boot}
@@ -31,7 +33,7 @@ use Rattle.dm_kernel.specs.declared.part.Part.{Part}
 use Rattle.dm_kernel.specs.declared.part.Part.TheVariants.{Says, Routes}
 use Rattle.dm_kernel.specs.Begun.{child_of, with_child}
 use Rattle.dm_kernel.specs.Handle.{routes}
-use Rattle.dm_kernel.specs.Lawful.{AreLawful, IsLawfulPart, IsLawfulState, IsLawfulTurned}
+use Rattle.dm_kernel.specs.Lawful.{AreLawful, IsLawfulKnown, IsLawfulPart, IsLawfulRoom, IsLawfulState, IsLawfulTurned}
 use Rattle.dm_kernel.specs.State.{KernelState, Known, Turned, drops, with_here, without_process}
 
 -- what there is of a turn is lawful
@@ -62,26 +64,31 @@ pub all_dropped : (ms : List Message) → AreLawful (drops ms)
 all_dropped [] = none_said
 all_dropped (m ∷ ms) = said (all_dropped ms)
 
--- a process is set, or has ended
-set_or : (same : Bool) (x y : Process) (o : Option Known) → IsLawfulProcess x → (o ≡ Some (Here y) → IsLawfulProcess y) → (if same then Some (Here x) else o) ≡ Some (Here y) → IsLawfulProcess y
-set_or true x y o lawful h e = let same : x ≡ y = cc in subst IsLawfulProcess same lawful
-set_or false x y o lawful h e = h e
+-- what is known of a process is set
+known_or : (same : Bool) (k : Known) (o : Option Known) → IsLawfulKnown k → IfSome o IsLawfulKnown → IfSome (if same then Some k else o) IsLawfulKnown
+known_or true k o lawful h = lawful
+known_or false k o lawful h = h
+
+pub knows : (s : KernelState) (p : Pid) (k : Known) → IsLawfulState s → IsLawfulKnown k → (q : Pid) → IfSome (with_record s.records p k q) IsLawfulKnown
+knows s p k h lawful q = known_or (pid_eq p q) k (s.records q) lawful (h.records q)
+
+-- what is known of one
+pub of_known : (s : KernelState) (p : Pid) (o : Option Known) → IsLawfulState s → s.records p ≡ o → IfSome o IsLawfulKnown
+of_known s p o h e = subst (λ (o : Option Known). IfSome o IsLawfulKnown) e (h.records p)
+
+-- as many slots and blocks as before
+pub same_room : (r : Taken) (slots blocks : ℕ) → IsLawfulRoom r → IsLawfulRoom (record r { taken_slots = slots; taken_blocks = blocks })
+same_room r slots blocks h = record { slots = h.slots; blocks = h.blocks }
 
 pub with_process : (s : KernelState) (p : Pid) (x : Process) → IsLawfulState s → IsLawfulProcess x → IsLawfulState (with_here s p x)
-with_process s p x h lawful =
-    record { processes = λ q y e. set_or (pid_eq p q) x y (s.records q) lawful (h.processes q y) e; inbox = h.inbox; servers = h.servers }
-
-end_or : (same : Bool) (w : Why) (y : Process) (o : Option Known) → (o ≡ Some (Here y) → IsLawfulProcess y) → (if same then Some (Ended w) else o) ≡ Some (Here y) → IsLawfulProcess y
-end_or true w y o h e = absurd (cc)
-end_or false w y o h e = h e
+with_process s p x h lawful = record { records = knows s p (Here x) h lawful; room = h.room; inbox = h.inbox; servers = h.servers }
 
 pub without : (s : KernelState) (p : Pid) (x : Process) (w : Why) → IsLawfulState s → IsLawfulState (without_process s p x w)
-without s p x w h =
-    record { processes = λ q y e. end_or (pid_eq p q) w y (s.records q) (h.processes q y) e; inbox = h.inbox; servers = h.servers }
+without s p x w h = record { records = knows s p (Ended w) h tt; room = same_room s.room _ _ h.room; inbox = h.inbox; servers = h.servers }
 
 pub with_one_more : (s : KernelState) (p : Pid) (x : Process) (blocks : ℕ) → IsLawfulState s → IsLawfulProcess x → IsLawfulState (with_child s p x blocks)
 with_one_more s p x blocks h lawful =
-    record { processes = λ q y e. set_or (pid_eq p q) x y (s.records q) lawful (h.processes q y) e; inbox = h.inbox; servers = h.servers }
+    record { records = knows s p (Here x) h lawful; room = same_room s.room _ _ h.room; inbox = h.inbox; servers = h.servers }
 
 pub with_queued : (x : Process) (m : Message) → IsLawfulProcess x → IsLawfulMessage m → IsLawfulProcess (record x { queue = x.queue ++ m ∷ [] })
 with_queued x m h k =

@@ -1,6 +1,6 @@
 -- A machine as the boot file has it may take a turn, and is lawful.
 use Rattle.std.proofs.Common.{◌≡◌, ◌∙◌, ℕ, ◌+◌, ◌*◌, ◌/◌, ◌<◌, ◌≤◌, Bool, true, false, ◌==◌, if◌then◌else◌, List, [], ◌∷◌, ◌++◌, length, Some, None, slice_get, refl, ap, sym, subst, arith}
-use Rattle.std.specs.Prelude.{◌&&◌, ◌||◌, nat_le, not}
+use Rattle.std.specs.Prelude.{⊤, ◌&&◌, ◌||◌, nat_le, not}
 use Rattle.std.specs.List.{All}
 use Rattle.std.specs.Option.{IfSome}
 use Rattle.std.proofs.lemmas.Grind.{common_steps}
@@ -18,21 +18,23 @@ use Rattle.dm_message.specs.Lawful.{IsLawfulMessage}
 use Rattle.dm_process.specs.declared.process.Process.{Process}
 use Rattle.dm_process.specs.Lawful.{IsLawfulProcess}
 use Rattle.dm_room.specs.Room.{HasTaken, Taken, with_reserved}
-use Rattle.dm_forward.specs.declared.record.Record.TheVariants.{Here}
+use Rattle.dm_forward.specs.declared.record.Record.TheVariants.{Here, Frozen, Incoming, Forward, Ended}
 use Rattle.dm_onekernel.specs.declared.boot.Boot.{Boot}
 use Rattle.dm_onekernel.specs.declared.boot.BootImage.{BootImage}
+use Rattle.dm_onekernel.specs.declared.boot.BootMachine.{BootMachine}
 use Rattle.dm_onekernel.specs.declared.boot.BootProcess.{BootProcess}
-use Rattle.dm_onekernel.specs.Boot.{IsValid, blocks_of_image, controls_child, image_is_valid, images_are_valid, leads_somewhere, leads_to_process, leads_to_server, link_is_valid, links_are_valid, manager, memory_size, process_is_valid, process_named, processes_are_valid, slots_of, starting_at, switchboard}
+use Rattle.dm_onekernel.specs.Boot.{IsValid, blocks_at, blocks_of_image, controls_child, image_is_valid, images_are_valid, leads_somewhere, leads_to_process, leads_to_server, link_is_valid, links_are_valid, machine_is_valid, manager, memory_size, process_is_valid, process_named, processes_are_valid, slots_of, starting_at, switchboard}
 use Rattle.dm_onekernel.specs.Start.{memory_of}
 use Rattle.dm_procman.proofs.Lawful.{started_lawful}
 use Rattle.dm_procman.specs.Managing.{starting}
 use Rattle.dm_switchboard.specs.Lawful.{IsLawfulNamed}
-use Rattle.dm_kernel.specs.Begun.{begins, child_of, empty, opened, with_all, with_child}
-use Rattle.dm_kernel.specs.Lawful.{IsLawfulPair, IsLawfulState}
+use Rattle.dm_kernel.specs.Begun.{begins, child_of, empty, opened, room_of, with_all, with_child}
+use Rattle.dm_kernel.specs.Lawful.{IsLawfulKnown, IsLawfulPair, IsLawfulRoom, IsLawfulState}
 use Rattle.dm_kernel.specs.May.{FrontMay, MayTurn}
 use Rattle.dm_kernel.specs.State.{KernelState, Known, blocks_of}
 use Rattle.dm_kernel.proofs.Making.{image_fits}
-use Rattle.dm_kernel.proofs.LawfulRows.{child_lawfully}
+use Rattle.dm_kernel.proofs.LawfulRows.{child_lawfully, same_room}
+use Rattle.dm_kernel.proofs.Opening.{machine_fits}
 
 -- where a link of a boot file leads
 record Leads (l : Link) : Type 0 where
@@ -226,6 +228,63 @@ fresh_at_first b m valid =
     all_fresh b [] b.processes (empty b m) valid (few_machines (length b.machines) valid.few_machines) valid.processes
     (record { processes = λ p x e. absurd (cc); inbox = refl; servers = servers_lawfully b (m == 0) valid })
 
+-- what each event keeps that a machine opens with: no process leaves, comes or has gone, and it has no more than packets
+-- can tell of; its kernel has sent nothing yet
+abbrev NoneMoves : Option Known → Type 0
+NoneMoves None = ⊤
+NoneMoves (Some (Here x)) = ⊤
+NoneMoves (Some (Frozen leaving)) = ⊥
+NoneMoves (Some (Incoming arriving)) = ⊥
+NoneMoves (Some (Forward machine moves)) = ⊥
+NoneMoves (Some (Ended y)) = ⊥
+
+record Opens (s : KernelState) : Type 0 where
+  known : (p : Pid) → NoneMoves (s.records p)
+  room : IsLawfulRoom s.room
+  sent : s.sent ≡ 0
+
+none_or : (test : Bool) (x : Process) (o : Option Known) → NoneMoves o → NoneMoves (if test then Some (Here x) else o)
+none_or true x o h = tt
+none_or false x o h = h
+
+child_opens : (s : KernelState) (p : Pid) (x : Process) (blocks : ℕ) → Opens s → Opens (with_child s p x blocks)
+child_opens s p x blocks h =
+    record { known = λ q. none_or (pid_eq p q) x (s.records q) (h.known q); room = same_room s.room _ _ h.room; sent = h.sent }
+
+opens_or : (test : Bool) (s t : KernelState) → Opens t → Opens s → Opens (if test then t else s)
+opens_or true s t h k = h
+opens_or false s t h k = k
+
+begins_open : (b : Boot) (s : KernelState) (p : BootProcess) (o : Option BootImage) → Opens s → Opens (begins b s p o)
+begins_open b s p None h = h
+begins_open b s p (Some i) h =
+    opens_or (p.pid.home == s.here) s (with_child s p.pid (child_of b p.pid i p.links) i.blocks) (child_opens s p.pid (child_of b p.pid i p.links) i.blocks h) h
+
+all_open : (b : Boot) (s : KernelState) (ps : List BootProcess) → Opens s → Opens (with_all b s ps)
+all_open b s [] h = h
+all_open b s (p ∷ ps) h = all_open b (begins b s p (slice_get b.images p.image)) ps (begins_open b s p (slice_get b.images p.image) h)
+
+few_of : (b : Boot) (n : ℕ) (r : BootMachine) → machine_is_valid b n r ≡ true → IsLawfulRoom (room_of (Some r))
+few_of b n r valid =
+    let few = and_parts (nat_le r.slots 64) (nat_le r.blocks 4096 && (nat_le (starting_at n b.processes) r.slots && nat_le (blocks_at n b.images b.processes) r.blocks)) valid in
+    let more = and_parts (nat_le r.blocks 4096) (nat_le (starting_at n b.processes) r.slots && nat_le (blocks_at n b.images b.processes) r.blocks) few.1 in
+    record { slots = grind (arith, nat_tests, few.0); blocks = grind (arith, nat_tests, more.0) }
+
+room_fits : (b : Boot) (m : ℕ) (o : Option BootMachine) → IsValid b → slice_get b.machines m ≡ o → IsLawfulRoom (room_of o)
+room_fits b m None valid at = record { slots = omega arith; blocks = omega arith }
+room_fits b m (Some r) valid at = few_of b (0 + m) r (machine_fits b 0 b.machines m r valid.machines at)
+
+opens : (b : Boot) (m : ℕ) → IsValid b → Opens (opened b m)
+opens b m valid = all_open b (empty b m) b.processes (record { known = λ p. tt; room = room_fits b m (slice_get b.machines m) valid refl; sent = refl })
+
+known_lawful : (o : Option Known) → NoneMoves o → ((x : Process) → o ≡ Some (Here x) → IsLawfulProcess x) → IfSome o IsLawfulKnown
+known_lawful None h k = tt
+known_lawful (Some (Here x)) h k = k x refl
+known_lawful (Some (Frozen leaving)) h k = absurd h
+known_lawful (Some (Incoming arriving)) h k = absurd h
+known_lawful (Some (Forward machine moves)) h k = absurd h
+known_lawful (Some (Ended y)) h k = absurd h
+
 -- a machine that opens may take a turn
 pub opened_may : (b : Boot) (m : ℕ) → IsValid b → m < length b.machines → MayTurn b (opened b m)
 opened_may b m valid h =
@@ -234,6 +293,7 @@ opened_may b m valid h =
     let here : (opened b m).here ≡ m = here_always b (empty b m) b.processes in
     record {
       here = subst (λ (k : ℕ). k < 16) (sym here) (omega arith);
+      sent = subst (λ (n : ℕ). n < 4294967295) (sym (opens b m valid).sent) (omega arith);
       processes =
           λ p x e.
           let f : Fresh (opened b m) p x = fresh.processes p x e in
@@ -246,7 +306,8 @@ pub opened_lawful : (b : Boot) (m : ℕ) → IsValid b → IsLawfulState (opened
 opened_lawful b m valid =
     let fresh : AreFresh (opened b m) = fresh_at_first b m valid in
     record {
-      processes = λ p x e. let f : Fresh (opened b m) p x = fresh.processes p x e in f.lawful;
+      records = λ p. known_lawful ((opened b m).records p) ((opens b m valid).known p) (λ x e. let f : Fresh (opened b m) p x = fresh.processes p x e in f.lawful);
+      room = (opens b m valid).room;
       inbox = subst (All IsLawfulMessage) (sym fresh.inbox) (All-nil IsLawfulMessage);
       servers = fresh.servers;
     }

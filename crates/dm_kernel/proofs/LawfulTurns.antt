@@ -1,5 +1,5 @@
 -- What a turn gives is lawful.
-use Rattle.std.proofs.Common.{◌≡◌, ◌∙◌, ℕ, suc, ◌<◌, ◌≤◌, Bool, true, false, ◌==◌, if◌then◌else◌, List, [], ◌∷◌, length, map, remove, slice_get, Some, None, refl, sym, subst, arith}
+use Rattle.std.proofs.Common.{◌≡◌, ◌∙◌, ℕ, suc, ◌<◌, ◌≤◌, Bool, true, false, ◌==◌, if◌then◌else◌, List, [], ◌∷◌, length, map, remove, slice_get, Some, None, refl, sym, subst, ap, arith}
 use Rattle.std.specs.List.{All}
 use Rattle.std.specs.Option.{IfSome}
 use Rattle.std.proofs.lemmas.Grind.{common_steps}
@@ -8,19 +8,24 @@ use Rattle.std.specs.declared.option.Option.{Option}
 use Rattle.std.specs.declared.result.Result.TheVariants.{Ok}
 use Rattle.dm_link.specs.declared.Link.{Link}
 use Rattle.dm_link.specs.declared.Pid.{Pid}
-use Rattle.dm_link.specs.Lawful.{IsLawfulEnclosed}
+use Rattle.dm_link.specs.Lawful.{IsLawfulEnclosed, IsMachine}
 use Rattle.dm_link.specs.Names.{pid_eq}
 use Rattle.dm_link.specs.Plain.{plain_link}
 use Rattle.dm_message.specs.declared.Message.{Message}
 use Rattle.dm_message.specs.declared.What.{What}
 use Rattle.dm_message.specs.declared.What.TheVariants as what
-use Rattle.dm_message.specs.Lawful.{IsLawfulMessage, IsLawfulWhat}
+use Rattle.dm_message.specs.Lawful.{IsLawfulMessage, IsLawfulWhat, IsServer}
 use Rattle.dm_process.specs.declared.process.Process.{Process}
 use Rattle.dm_process.specs.declared.process.Status.{Status}
 use Rattle.dm_process.specs.declared.process.Status.TheVariants as status
 use Rattle.dm_process.specs.Lawful.{IsLawfulProcess}
 use Rattle.dm_process.specs.Mail.{first_on, is_on, without_first_on}
 use Rattle.dm_forward.specs.declared.record.Record.TheVariants.{Here, Frozen, Incoming, Forward, Ended}
+use Rattle.dm_forward.specs.Records.{frozen_of, incoming_of}
+use Rattle.dm_migrate.specs.Arrival.{Arrival}
+use Rattle.dm_migrate.specs.Departure.{Departure}
+use Rattle.dm_migrate.specs.Pieces.{HasChunk, block_of, chunk_of, state_of}
+use Rattle.dm_onekernel.specs.Options.{bind}
 use Rattle.dm_datamove.specs.declared.Landed.{Landed}
 use Rattle.dm_datamove.specs.declared.Landed.TheVariants as landed
 use Rattle.dm_datamove.specs.Landing.{Landing, IsAwaited, IsLawfulLanded, landing}
@@ -53,16 +58,20 @@ use Rattle.dm_syscall.proofs.LawfulCalls.{IsLawfulDone, call_lawfully}
 use Rattle.dm_kernel.specs.declared.kernel.Servers.{Servers}
 use Rattle.dm_kernel.specs.declared.run.Halt.{Halt}
 use Rattle.dm_kernel.specs.declared.run.Halt.TheVariants as halt
+use Rattle.dm_kernel.specs.Asking.{asks_move}
 use Rattle.dm_kernel.specs.Begun.{child_of}
-use Rattle.dm_kernel.specs.Handle.{answers_with, board_handles, board_took, ended_handles, handles, has_room, here_handles, kernel_handles, lands, lands_as, makes, makes_of, manager_handles, manager_took, next_pid, process_handles}
-use Rattle.dm_kernel.specs.Lawful.{IsLawfulPair, IsLawfulState, IsLawfulTurned}
-use Rattle.dm_kernel.specs.May.{FitsEnded, FitsHere, FitsKernel, FrontMay, FitsKnown, FitsManager, MayHandle, MayTurn}
+use Rattle.dm_kernel.specs.Coming.{restarts, takes_piece}
+use Rattle.dm_kernel.specs.Departing.{gives_piece, leaves, stays}
+use Rattle.dm_kernel.specs.Handle.{answers_with, board_handles, board_handles_what, board_took, ended_handles, handles, has_room, here_handles, kernel_handles, lands, lands_as, makes, makes_of, manager_handles, manager_handles_what, manager_took, next_pid, process_handles}
+use Rattle.dm_kernel.specs.Lawful.{IsLawfulArrival, IsLawfulDeparture, IsLawfulKnown, IsLawfulPair, IsLawfulState, IsLawfulTurned}
+use Rattle.dm_kernel.specs.May.{FitsEnded, FitsHere, FitsKernel, FrontMay, FitsKnown, FitsManager, FitsManagerWhat, IsSuch, MayHandle, MayRestart, MayTurn}
 use Rattle.dm_kernel.specs.Serve.{called_with, ends, halts, processor_of, ran, received_by, receives, serves, serves_status, with_machine}
 use Rattle.dm_kernel.specs.State.{KernelState, Known, Turned, with_here}
 use Rattle.dm_kernel.specs.Turn.{first_runnable, goes_round, turn, turns}
 use Rattle.dm_kernel.proofs.Making.{image_fits}
 use Rattle.dm_kernel.proofs.Serving.{first_is_on, has_run, runs_lawfully}
-use Rattle.dm_kernel.proofs.LawfulRows.{Lawfully, all_dropped, answer_lawfully, child_lawfully, enough, if_lawfully, none_said, routed, routes_lawfully, said, with_one_more, with_process, with_queued, with_stopped, without}
+use Rattle.dm_kernel.proofs.LawfulMoves.{asks_lawfully, asks_move_lawfully, board_follows_lawfully, chunk_lawfully, forwards_lawfully, gives_lawfully, holds_arriving_lawfully, holds_leaving_lawfully, leaves_lawfully, manager_follows_lawfully, migrates_lawfully, not_server, process_follows_lawfully, restarts_lawfully, stays_lawfully, takes_lawfully}
+use Rattle.dm_kernel.proofs.LawfulRows.{Lawfully, all_dropped, answer_lawfully, child_lawfully, enough, if_lawfully, none_said, of_known, routed, routes_lawfully, said, with_one_more, with_process, with_queued, with_stopped, without}
 
 -- a process that executes
 ends_lawfully : (s : KernelState) (p : Pid) (k : ℕ) (x : Process) (y : Why) → IsLawfulState s → Lawfully (ends s p k x y)
@@ -151,7 +160,7 @@ status_lawfully quantum s p x (status.Moving dir owner base own left pending) ma
 
 serves_known : (quantum : ℕ) (s : KernelState) (p : Pid) (o : Option Known) → s.here < 16 → IsLawfulState s → s.records p ≡ o → Lawfully (serves quantum s p o)
 serves_known quantum s p None machine h e = tt
-serves_known quantum s p (Some (Here x)) machine h e = status_lawfully quantum s p x x.status machine h (h.processes p x e) refl
+serves_known quantum s p (Some (Here x)) machine h e = status_lawfully quantum s p x x.status machine h (of_known s p (Some (Here x)) h e) refl
 serves_known quantum s p (Some (Frozen leaving)) machine h e = tt
 serves_known quantum s p (Some (Incoming arriving)) machine h e = tt
 serves_known quantum s p (Some (Forward place moves)) machine h e = tt
@@ -178,22 +187,24 @@ lands_here s m x (Some d) machine h lawful awaited e =
     let both : IsLawfulLanding d = lands_lawfully s.here x d.process m d.landed machine lawful awaited e in
     lands_as_lawfully s m d.process d.landed h both.process both.landed
 
-here_lawfully : (s : KernelState) (m : Message) (x : Process) (w : What) → s.here < 16 → IsLawfulState s → IsLawfulMessage m → IsLawfulProcess x → FitsHere m x w
-    → Lawfully (here_handles s m x w)
-here_lawfully s m x (what.User code channel body links) machine h message lawful fits =
+here_lawfully : (s : KernelState) (m : Message) (x : Process) (w : What) → s.here < 16 → IsLawfulState s → IsLawfulMessage m → IsLawfulWhat w → IsLawfulProcess x → ¬ IsServer x.pid
+    → FitsHere m x w → Lawfully (here_handles s m x w)
+here_lawfully s m x (what.User code channel body links) machine h message what lawful none fits =
     record { state = with_process s m.to.pid _ h (with_queued x m lawful message); parts = said none_said }
-here_lawfully s m x what.Stop machine h message lawful fits =
+here_lawfully s m x what.Stop machine h message what lawful none fits =
     record { state = with_process s m.to.pid _ h (with_stopped x true lawful); parts = said none_said }
-here_lawfully s m x what.Resume machine h message lawful fits =
+here_lawfully s m x what.Resume machine h message what lawful none fits =
     record { state = with_process s m.to.pid _ h (with_stopped x false lawful); parts = said none_said }
-here_lawfully s m x what.Kill machine h message lawful fits =
+here_lawfully s m x what.Kill machine h message what lawful none fits =
     record { state = without s m.to.pid x why.Killed h; parts = said (all_dropped x.queue) }
-here_lawfully s m x (what.Read base len) machine h message lawful fits = answers_with_lawfully s m x (serving_answer s.here x m) machine h message lawful fits refl
-here_lawfully s m x (what.Write base bytes) machine h message lawful fits = answers_with_lawfully s m x (serving_answer s.here x m) machine h message lawful fits refl
-here_lawfully s m x (what.Block bytes) machine h message lawful fits = lands_here s m x (landing s.here x m.what x.status) machine h lawful fits refl
-here_lawfully s m x what.Written machine h message lawful fits = lands_here s m x (landing s.here x m.what x.status) machine h lawful fits refl
-here_lawfully s m x what.Gone machine h message lawful fits = lands_here s m x (landing s.here x m.what x.status) machine h lawful fits refl
-here_lawfully s m x w machine h message lawful fits = absurd fits
+here_lawfully s m x (what.Read base len) machine h message what lawful none fits = answers_with_lawfully s m x (serving_answer s.here x m) machine h message lawful fits refl
+here_lawfully s m x (what.Write base bytes) machine h message what lawful none fits = answers_with_lawfully s m x (serving_answer s.here x m) machine h message lawful fits refl
+here_lawfully s m x (what.Block bytes) machine h message what lawful none fits = lands_here s m x (landing s.here x m.what x.status) machine h lawful fits refl
+here_lawfully s m x what.Written machine h message what lawful none fits = lands_here s m x (landing s.here x m.what x.status) machine h lawful fits refl
+here_lawfully s m x what.Gone machine h message what lawful none fits = lands_here s m x (landing s.here x m.what x.status) machine h lawful fits refl
+here_lawfully s m x (what.Migrate to) machine h message what lawful none fits = migrates_lawfully s m x to machine h lawful none what
+here_lawfully s m x (what.Update about) machine h message what lawful none fits = process_follows_lawfully s m x about h lawful what
+here_lawfully s m x w machine h message what lawful none fits = absurd fits
 
 gone_lawfully : (s : KernelState) (m : Message) → s.here < 16 → IsLawfulMessage m → IsLawfulMessage (gone_answer s.here m)
 gone_lawfully s m machine message = answer_lawfully s.here m.to.moves m what.Gone machine message refl tt
@@ -208,15 +219,18 @@ ended_lawfully s m what.Kill machine h message fits = record { state = h; parts 
 ended_lawfully s m (what.Block bytes) machine h message fits = record { state = h; parts = said none_said }
 ended_lawfully s m what.Written machine h message fits = record { state = h; parts = said none_said }
 ended_lawfully s m what.Gone machine h message fits = record { state = h; parts = said none_said }
+ended_lawfully s m (what.Migrate to) machine h message fits = record { state = h; parts = said none_said }
+ended_lawfully s m (what.Update about) machine h message fits = record { state = h; parts = said none_said }
 ended_lawfully s m w machine h message fits = absurd fits
 
-known_lawfully : (s : KernelState) (m : Message) (o : Option Known) → s.here < 16 → IsLawfulState s → IsLawfulMessage m → FitsKnown m o → s.records m.to.pid ≡ o → Lawfully (process_handles s m o)
-known_lawfully s m None machine h message fits e = tt
-known_lawfully s m (Some (Here x)) machine h message fits e = here_lawfully s m x m.what machine h message (h.processes m.to.pid x e) fits
-known_lawfully s m (Some (Frozen leaving)) machine h message fits e = tt
-known_lawfully s m (Some (Incoming arriving)) machine h message fits e = tt
-known_lawfully s m (Some (Forward place moves)) machine h message fits e = tt
-known_lawfully s m (Some (Ended y)) machine h message fits e = ended_lawfully s m m.what machine h message fits
+known_lawfully : (s : KernelState) (m : Message) (o : Option Known) → s.here < 16 → IsLawfulState s → IsLawfulMessage m → ((x : Process) → o ≡ Some (Here x) → ¬ IsServer x.pid) → FitsKnown m o
+    → s.records m.to.pid ≡ o → Lawfully (process_handles s m o)
+known_lawfully s m None machine h message none fits e = tt
+known_lawfully s m (Some (Here x)) machine h message none fits e = here_lawfully s m x m.what machine h message message.what (of_known s m.to.pid (Some (Here x)) h e) (none x refl) fits
+known_lawfully s m (Some (Frozen d)) machine h message none fits e = holds_leaving_lawfully s m d h (of_known s m.to.pid (Some (Frozen d)) h e) message
+known_lawfully s m (Some (Incoming a)) machine h message none fits e = holds_arriving_lawfully s m a h (of_known s m.to.pid (Some (Incoming a)) h e) message
+known_lawfully s m (Some (Forward place moves)) machine h message none fits e = forwards_lawfully s m place moves machine (of_known s m.to.pid (Some (Forward place moves)) h e) h message
+known_lawfully s m (Some (Ended y)) machine h message none fits e = ended_lawfully s m m.what machine h message fits
 
 -- a message for the kernel
 makes_lawfully : (b : Boot) (s : KernelState) (m : Message) (links : List Link) (i : BootImage) (room : Bool) → s.here < 16 → IsLawfulState s → IsLawfulMessage m
@@ -236,10 +250,50 @@ makes_of_lawfully : (b : Boot) (s : KernelState) (m : Message) (links : List Lin
 makes_of_lawfully b s m links None machine h message valid few lawful = tt
 makes_of_lawfully b s m links (Some i) machine h message valid few lawful = makes_lawfully b s m links i (has_room s.room i.blocks) machine h message (valid i refl) few lawful
 
+-- a message about a process that leaves, or comes
+each_leaving : (o : Option Known) (go : Departure → Option Turned) → IfSome o IsLawfulKnown → ((d : Departure) → frozen_of o ≡ Some d → IsLawfulDeparture d → Lawfully (go d)) → Lawfully (bind (frozen_of o) go)
+each_leaving None go h k = tt
+each_leaving (Some (Here x)) go h k = tt
+each_leaving (Some (Frozen d)) go h k = k d refl h
+each_leaving (Some (Incoming a)) go h k = tt
+each_leaving (Some (Forward place moves)) go h k = tt
+each_leaving (Some (Ended y)) go h k = tt
+
+each_arriving : (o : Option Known) (go : Arrival → Option Turned) → IfSome o IsLawfulKnown → ((a : Arrival) → incoming_of o ≡ Some a → IsLawfulArrival a → Lawfully (go a)) → Lawfully (bind (incoming_of o) go)
+each_arriving None go h k = tt
+each_arriving (Some (Here x)) go h k = tt
+each_arriving (Some (Frozen d)) go h k = tt
+each_arriving (Some (Incoming a)) go h k = k a refl h
+each_arriving (Some (Forward place moves)) go h k = tt
+each_arriving (Some (Ended y)) go h k = tt
+
+such : {X : Type 0} (P : X → Type 0) (o : Option X) (x : X) → o ≡ Some x → IsSuch P o → P x
+such P None x e h = absurd h
+such P (Some y) x e h = let same : y ≡ x = cc in subst P same h
+
 kernel_lawfully : (b : Boot) (s : KernelState) (m : Message) (w : What) → s.here < 16 → images_are_valid b.images ≡ true → IsLawfulState s → IsLawfulMessage m → IsLawfulWhat w → FitsKernel b s w
     → Lawfully (kernel_handles b s m w)
 kernel_lawfully b s m (what.Create image links) machine images h message lawful fits =
     makes_of_lawfully b s m links.items (slice_get b.images image) machine h message (λ i at. image_fits b.images image i images at) lawful.0 lawful.1
+kernel_lawfully b s m (what.Ask pid blocks moves size asker) machine images h message lawful fits = asks_lawfully b s m pid blocks moves size asker machine h message lawful.0
+kernel_lawfully b s m (what.Refuse pid slots blocks) machine images h message lawful fits = each_leaving (s.records pid) (stays s pid) (h.records pid) (λ d e leaving. stays_lawfully s pid d h leaving)
+kernel_lawfully b s m (what.PullState pid chunk) machine images h message lawful fits =
+    each_leaving (s.records pid) (λ d. gives_piece s m (chunk_of d.process.pid (state_of d.process) chunk)) (h.records pid)
+    (λ d e leaving.
+    gives_lawfully s m (chunk_of d.process.pid (state_of d.process) chunk) machine h message refl
+    (chunk_lawfully d.process chunk leaving.process.home (such (λ (d : Departure). HasChunk (state_of d.process) chunk) (frozen_of (s.records pid)) d e fits)))
+kernel_lawfully b s m (what.State pid chunk last bytes) machine images h message lawful fits =
+    each_arriving (s.records pid) (takes_piece s m pid) (h.records pid) (λ a e arriving. takes_lawfully s m pid a machine h message arriving)
+kernel_lawfully b s m (what.PullBlock pid block) machine images h message lawful fits =
+    each_leaving (s.records pid) (λ d. gives_piece s m (block_of d.process.pid d.process.memory block)) (h.records pid)
+    (λ d e leaving. gives_lawfully s m (block_of d.process.pid d.process.memory block) machine h message refl leaving.process.home)
+kernel_lawfully b s m (what.Memory pid block bytes) machine images h message lawful fits =
+    each_arriving (s.records pid) (takes_piece s m pid) (h.records pid) (λ a e arriving. takes_lawfully s m pid a machine h message arriving)
+kernel_lawfully b s m (what.AllTaken pid) machine images h message lawful fits =
+    each_leaving (s.records pid) (leaves s pid) (h.records pid) (λ d e leaving. leaves_lawfully s pid d machine lawful h leaving)
+kernel_lawfully b s m (what.Restart pid) machine images h message lawful fits =
+    each_arriving (s.records pid) (restarts s pid) (h.records pid)
+    (λ a e arriving. restarts_lawfully s pid a h arriving (such MayRestart (incoming_of (s.records pid)) a e fits))
 kernel_lawfully b s m w machine images h message lawful fits = absurd fits
 
 -- a message for a server
@@ -249,7 +303,8 @@ board_what s m v (what.User code channel body links) h pair message is =
     record {
       state =
           record {
-            processes = h.processes;
+            records = h.records;
+            room = h.room;
             inbox = h.inbox;
             servers =
                 record {
@@ -261,9 +316,14 @@ board_what s m v (what.User code channel body links) h pair message is =
     }
 board_what s m v w h pair message is = tt
 
+board_handles_lawfully : (s : KernelState) (m : Message) (v : Servers) (w : What) → IsLawfulState s → IsLawfulPair v → IsLawfulMessage m → IsLawfulWhat w → m.what ≡ w
+    → Lawfully (board_handles_what s m v w)
+board_handles_lawfully s m v (what.Update about) h pair message lawful is = board_follows_lawfully s m v about h pair lawful
+board_handles_lawfully s m v w h pair message lawful is = board_what s m v w h pair message is
+
 board_lawfully : (s : KernelState) (m : Message) (o : Option Servers) → IsLawfulState s → IfSome o IsLawfulPair → IsLawfulMessage m → Lawfully (board_handles s m o)
 board_lawfully s m None h pair message = tt
-board_lawfully s m (Some v) h pair message = board_what s m v m.what h pair message refl
+board_lawfully s m (Some v) h pair message = board_handles_lawfully s m v m.what h pair message message.what refl
 
 manager_what : (s : KernelState) (m : Message) (v : Servers) (o : Option manage.Taken) → IsLawfulState s → IsLawfulPair v → IsLawfulMessage m → manage.IsForManager v.manager m.id.n m.what
     → manage.takes v.manager m.id.n m.what ≡ o → Lawfully (manager_took s m v o)
@@ -272,7 +332,8 @@ manager_what s m v (Some t) h pair message fits e =
     record {
       state =
           record {
-            processes = h.processes;
+            records = h.records;
+            room = h.room;
             inbox = h.inbox;
             servers =
                 record {
@@ -283,13 +344,26 @@ manager_what s m v (Some t) h pair message fits e =
       parts = said (routes_lawfully t.message (message_after (Ok t.message) v.manager t.manager m (heard v.manager m.id.n m.what fits) e pair.manager message));
     }
 
+manager_handles_lawfully : (s : KernelState) (m : Message) (v : Servers) (w : What) → IsLawfulState s → IsLawfulPair v → IsLawfulMessage m → IsLawfulWhat w → FitsManagerWhat v m.id.n w → m.what ≡ w
+    → Lawfully (manager_handles_what s m v w)
+manager_handles_lawfully s m v (what.Update about) h pair message lawful fits is = manager_follows_lawfully s m v about h pair lawful
+manager_handles_lawfully s m v w h pair message lawful fits is =
+    manager_what s m v (manage.takes v.manager m.id.n w) h pair message (subst (manage.IsForManager v.manager m.id.n) (sym is) fits.0) (ap (manage.takes v.manager m.id.n) is)
+
 manager_lawfully : (s : KernelState) (m : Message) (o : Option Servers) → IsLawfulState s → IfSome o IsLawfulPair → IsLawfulMessage m → FitsManager m o → Lawfully (manager_handles s m o)
 manager_lawfully s m None h pair message fits = tt
-manager_lawfully s m (Some v) h pair message fits = manager_what s m v (manage.takes v.manager m.id.n m.what) h pair message fits.0 refl
+manager_lawfully s m (Some v) h pair message fits = manager_handles_lawfully s m v m.what h pair message message.what fits refl
+
+-- each process that is here bears its name
+abbrev AreNamed : KernelState → Type 0
+AreNamed s = (p : Pid) (x : Process) → s.records p ≡ Some (Here x) → x.pid ≡ p
+
+no_server_here : (s : KernelState) (p : Pid) → AreNamed s → pid_eq p switchboard ≡ false → pid_eq p manager ≡ false → (x : Process) → s.records p ≡ Some (Here x) → ¬ IsServer x.pid
+no_server_here s p named one two x e server = not_server p one two (subst IsServer (named p x e) server)
 
 -- a message
-handles_lawfully : (b : Boot) (s : KernelState) (m : Message) → s.here < 16 → images_are_valid b.images ≡ true → IsLawfulState s → MayHandle b s m → Lawfully (handles b s m)
-handles_lawfully b s m machine images h may =
+handles_lawfully : (b : Boot) (s : KernelState) (m : Message) → s.here < 16 → images_are_valid b.images ≡ true → IsLawfulState s → AreNamed s → MayHandle b s m → Lawfully (handles b s m)
+handles_lawfully b s m machine images h named may =
     if_lawfully (m.to.pid.num == 0) (kernel_handles b s m m.what) _
     (λ is. kernel_lawfully b s m m.what machine images h may.lawful may.lawful.what (may.for_kernel is))
     (λ no.
@@ -298,34 +372,42 @@ handles_lawfully b s m machine images h may =
     (λ nor.
     if_lawfully (pid_eq m.to.pid manager) (manager_handles s m s.servers) (process_handles s m (s.records m.to.pid))
     (λ is. manager_lawfully s m s.servers h h.servers may.lawful (may.for_manager is))
-    (λ none. known_lawfully s m (s.records m.to.pid) machine h may.lawful (may.for_process no nor none) refl)))
+    (λ none. known_lawfully s m (s.records m.to.pid) machine h may.lawful (no_server_here s m.to.pid named nor none) (may.for_process no nor none) refl)))
 
 -- without the message that is taken, and with the ring turned
 without_front : (s : KernelState) (m : Message) (rest : List Message) → s.inbox ≡ m ∷ rest → IsLawfulState s → IsLawfulState (record s { inbox = rest })
 without_front s m rest e h =
-    record { processes = h.processes; inbox = All-tail IsLawfulMessage m rest (subst (All IsLawfulMessage) e h.inbox); servers = h.servers }
+    record { records = h.records; room = h.room; inbox = All-tail IsLawfulMessage m rest (subst (All IsLawfulMessage) e h.inbox); servers = h.servers }
 
 with_ring : (s : KernelState) (ring : List Pid) → IsLawfulState s → IsLawfulState (record s { ring = ring })
-with_ring s ring h = record { processes = h.processes; inbox = h.inbox; servers = h.servers }
+with_ring s ring h = record { records = h.records; room = h.room; inbox = h.inbox; servers = h.servers }
+
+fits_still : (b : Boot) (s : KernelState) (rest : List Message) (w : What) → FitsKernel b s w → FitsKernel b (record s { inbox = rest }) w
+fits_still b s rest (what.Create image links) h = h
+fits_still b s rest w h = h
 
 may_front : (b : Boot) (s : KernelState) (m : Message) (rest : List Message) → MayHandle b s m → MayHandle b (record s { inbox = rest }) m
 may_front b s m rest h =
-    record { lawful = h.lawful; for_kernel = h.for_kernel; for_board = h.for_board; for_manager = h.for_manager; for_process = h.for_process }
+    record { lawful = h.lawful; for_kernel = λ is. fits_still b s rest m.what (h.for_kernel is); for_board = h.for_board; for_manager = h.for_manager; for_process = h.for_process }
 
 round_lawfully : (b : Boot) (s : KernelState) (o : Option Pid) → s.here < 16 → IsLawfulState s → Lawfully (goes_round b s o)
 round_lawfully b s None machine h = record { state = h; parts = said none_said }
 round_lawfully b s (Some p) machine h =
     serves_known b.quantum (record s { ring = moved_back p s.ring }) p (s.records p) machine (with_ring s (moved_back p s.ring) h) refl
 
-turns_lawfully : (b : Boot) (s : KernelState) (inbox : List Message) → s.inbox ≡ inbox → s.here < 16 → images_are_valid b.images ≡ true → IsLawfulState s → FrontMay b s inbox
-    → Lawfully (turns b s inbox)
-turns_lawfully b s [] e machine images h may = round_lawfully b s (first_runnable s.records s.ring) machine h
-turns_lawfully b s (m ∷ rest) e machine images h may =
-    handles_lawfully b (record s { inbox = rest }) m machine images (without_front s m rest e h) (may_front b s m rest may)
+turns_lawfully : (b : Boot) (s : KernelState) (inbox : List Message) → s.inbox ≡ inbox → s.here < 16 → images_are_valid b.images ≡ true → IsLawfulState s → AreNamed s
+    → FrontMay b s inbox → Lawfully (turns b s inbox)
+turns_lawfully b s [] e machine images h named may = round_lawfully b s (first_runnable s.records s.ring) machine h
+turns_lawfully b s (m ∷ rest) e machine images h named may =
+    handles_lawfully b (record s { inbox = rest }) m machine images (without_front s m rest e h) named (may_front b s m rest may)
 
 some_lawfully : (o : Option Turned) (t : Turned) → o ≡ Some t → Lawfully o → IsLawfulTurned t
 some_lawfully None t e h = absurd (cc)
 some_lawfully (Some u) t e h = let same : u ≡ t = cc in subst IsLawfulTurned same h
 
 pub turn_lawful : (b : Boot) (s : KernelState) (t : Turned) → images_are_valid b.images ≡ true → MayTurn b s → IsLawfulState s → turn b s ≡ Some t → IsLawfulTurned t
-turn_lawful b s t images may h e = some_lawfully (turn b s) t e (turns_lawfully b s s.inbox refl may.here images h may.front)
+turn_lawful b s t images may h e = some_lawfully (turn b s) t e (turns_lawfully b s s.inbox refl may.here images h (λ p x e. (may.processes p x e).pid) may.front)
+
+-- asking for a move
+pub asked_lawful : (s : KernelState) (p : Pid) (machine : ℕ) (t : Turned) → s.here < 16 → IsMachine machine → IsLawfulState s → asks_move s p machine ≡ Some t → IsLawfulTurned t
+asked_lawful s p machine t here to h e = some_lawfully (asks_move s p machine) t e (asks_move_lawfully s p machine here to h)

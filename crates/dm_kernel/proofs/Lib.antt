@@ -5,6 +5,7 @@ pub mod Serving
 pub mod Making
 pub mod Opening
 pub mod LawfulRows
+pub mod LawfulMoves
 pub mod LawfulTurns
 pub mod LawfulStart
 pub mod Worked

@@ -25,6 +25,7 @@ is_state k s h =
       ring = h.ring i;
       inbox = h.inbox i;
       made = h.made i;
+      sent = h.sent i;
       room = h.room i;
       servers = h.servers i;
     }
@@ -57,7 +58,7 @@ pub room_then : (b : Boot) (m : ℕ) (s : KernelState) (p : BootProcess) (ps : L
 room_then b m s p ps h = begun b m s p ps (slice_get b.images p.image) h.slots h.blocks h.made h.here
 
 -- a machine of a boot file has room for all its processes
-machine_fits : (b : Boot) (j : ℕ) (rs : List BootMachine) (i : ℕ) (r : BootMachine) → machines_are_valid b j rs ≡ true → slice_get rs i ≡ Some r → machine_is_valid b (j + i) r ≡ true
+pub machine_fits : (b : Boot) (j : ℕ) (rs : List BootMachine) (i : ℕ) (r : BootMachine) → machines_are_valid b j rs ≡ true → slice_get rs i ≡ Some r → machine_is_valid b (j + i) r ≡ true
 machine_fits b j [] i r valid at = absurd (grind arith)
 machine_fits b j (x ∷ xs) zero r valid at =
     let is : x ≡ r = grind (arith, common_steps) in

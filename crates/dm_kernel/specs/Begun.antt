@@ -58,6 +58,7 @@ empty b m =
       ring = [];
       inbox = [];
       made = 0;
+      sent = 0;
       room = room_of (slice_get b.machines m);
       servers = servers_of b m;
     }

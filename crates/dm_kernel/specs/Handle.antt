@@ -11,6 +11,8 @@ use Rattle.dm_message.specs.declared.What.TheVariants as what
 use Rattle.dm_process.specs.declared.process.Process.{Process}
 use Rattle.dm_room.specs.Room.{Taken, free_slots, free_blocks}
 use Rattle.dm_forward.specs.declared.record.Record.TheVariants.{Here, Frozen, Incoming, Forward, Ended}
+use Rattle.dm_forward.specs.Records.{frozen_of, incoming_of}
+use Rattle.dm_migrate.specs.Pieces.{block_of, chunk_of, state_of}
 use Rattle.dm_datamove.specs.declared.Landed.{Landed}
 use Rattle.dm_datamove.specs.declared.Landed.TheVariants as landed
 use Rattle.dm_datamove.specs.Landing.{Landing, landing}
@@ -22,11 +24,15 @@ use Rattle.dm_onekernel.specs.declared.boot.BootImage.{BootImage}
 use Rattle.dm_onekernel.specs.declared.label.Label.TheVariants as label
 use Rattle.dm_onekernel.specs.declared.label.Why.TheVariants as why
 use Rattle.dm_onekernel.specs.Boot.{first_number, switchboard, manager}
+use Rattle.dm_onekernel.specs.Options.{bind}
 use Rattle.dm_rule.specs.declared.line.Line.TheVariants as line
 use Rattle.dm_kernel.specs.declared.part.Part.{Part}
 use Rattle.dm_kernel.specs.declared.part.Part.TheVariants.{Says, Routes}
 use Rattle.dm_kernel.specs.Begun.{child_of, with_child}
 use Rattle.dm_kernel.specs.declared.kernel.Servers.{Servers}
+use Rattle.dm_kernel.specs.Coming.{answers_ask, holds_arriving, restarts, takes_piece}
+use Rattle.dm_kernel.specs.Departing.{gives_piece, holds_leaving, leaves, migrates, stays}
+use Rattle.dm_kernel.specs.Following.{board_follows, forwards, manager_follows, process_follows, updated}
 use Rattle.dm_kernel.specs.State.{KernelState, Known, Turned, turned, says, with_here, without_process, drops}
 
 -- a process that is here: its queue takes user messages
@@ -71,8 +77,8 @@ here_handles s m x what.Gone = lands s m (landing s.here x m.what x.status)
 here_handles s m x (what.Create image links) = None
 here_handles s m x (what.Created pid) = None
 here_handles s m x what.NoRoom = None
-here_handles s m x (what.Migrate machine) = None
-here_handles s m x (what.Update about) = None
+here_handles s m x (what.Migrate machine) = migrates s m x machine
+here_handles s m x (what.Update about) = process_follows s m x about
 here_handles s m x (what.Ask pid blocks moves size asker) = None
 here_handles s m x (what.Refuse pid free_slots free_blocks) = None
 here_handles s m x (what.PullState pid chunk) = None
@@ -106,8 +112,8 @@ ended_handles s m what.Gone = is_dropped s m
 ended_handles s m (what.Create image links) = None
 ended_handles s m (what.Created pid) = None
 ended_handles s m what.NoRoom = None
-ended_handles s m (what.Migrate machine) = None
-ended_handles s m (what.Update about) = None
+ended_handles s m (what.Migrate machine) = turned s (Says (line.NoMove m.id) ∷ [])
+ended_handles s m (what.Update about) = turned s (updated m 0)
 ended_handles s m (what.Ask pid blocks moves size asker) = None
 ended_handles s m (what.Refuse pid free_slots free_blocks) = None
 ended_handles s m (what.PullState pid chunk) = None
@@ -121,13 +127,13 @@ ended_handles s m (what.Moved outcome) = None
 ended_handles s m (what.CallOff pid) = None
 ended_handles s m (what.Bury pid) = None
 
--- by what is known of the receiver; what migration adds has its rows with migration
+-- by what is known of the receiver
 abbrev pub process_handles : KernelState → Message → Option Known → Option Turned
 process_handles s m None = None
 process_handles s m (Some (Here x)) = here_handles s m x m.what
-process_handles s m (Some (Frozen leaving)) = None
-process_handles s m (Some (Incoming arriving)) = None
-process_handles s m (Some (Forward machine moves)) = None
+process_handles s m (Some (Frozen leaving)) = holds_leaving s m leaving
+process_handles s m (Some (Incoming arriving)) = holds_arriving s m arriving
+process_handles s m (Some (Forward machine moves)) = forwards s m machine moves
 process_handles s m (Some (Ended y)) = ended_handles s m m.what
 
 -- a process is made, the next of this home, or what is free is said
@@ -162,20 +168,20 @@ kernel_handles b s m (what.Created pid) = None
 kernel_handles b s m what.NoRoom = None
 kernel_handles b s m (what.Migrate machine) = None
 kernel_handles b s m (what.Update about) = None
-kernel_handles b s m (what.Ask pid blocks moves size asker) = None
-kernel_handles b s m (what.Refuse pid free_slots free_blocks) = None
-kernel_handles b s m (what.PullState pid chunk) = None
-kernel_handles b s m (what.State pid chunk last bytes) = None
-kernel_handles b s m (what.PullBlock pid block) = None
-kernel_handles b s m (what.Memory pid block bytes) = None
-kernel_handles b s m (what.AllTaken pid) = None
-kernel_handles b s m (what.Restart pid) = None
+kernel_handles b s m (what.Ask pid blocks moves size asker) = answers_ask b s m pid blocks moves size asker
+kernel_handles b s m (what.Refuse pid free_slots free_blocks) = bind (frozen_of (s.records pid)) (stays s pid)
+kernel_handles b s m (what.PullState pid chunk) = bind (frozen_of (s.records pid)) (λ d. gives_piece s m (chunk_of d.process.pid (state_of d.process) chunk))
+kernel_handles b s m (what.State pid chunk last bytes) = bind (incoming_of (s.records pid)) (takes_piece s m pid)
+kernel_handles b s m (what.PullBlock pid block) = bind (frozen_of (s.records pid)) (λ d. gives_piece s m (block_of d.process.pid d.process.memory block))
+kernel_handles b s m (what.Memory pid block bytes) = bind (incoming_of (s.records pid)) (takes_piece s m pid)
+kernel_handles b s m (what.AllTaken pid) = bind (frozen_of (s.records pid)) (leaves s pid)
+kernel_handles b s m (what.Restart pid) = bind (incoming_of (s.records pid)) (restarts s pid)
 kernel_handles b s m (what.Move machine) = None
 kernel_handles b s m (what.Moved outcome) = None
 kernel_handles b s m (what.CallOff pid) = None
 kernel_handles b s m (what.Bury pid) = None
 
--- a server takes a message, and sends at most one
+-- a server takes a message, and sends at most one; or its links follow a process
 abbrev pub routes : Option Message → List Part
 routes None = []
 routes (Some m) = Routes m ∷ []
@@ -184,17 +190,25 @@ abbrev pub board_took : KernelState → Message → Servers → Option board.Tak
 board_took s m v None = None
 board_took s m v (Some t) = turned (record s { servers = Some (record v { board = t.board }) }) (says (label.Took m.id) ∷ routes t.took.answer)
 
+abbrev pub board_handles_what : KernelState → Message → Servers → What → Option Turned
+board_handles_what s m v (what.Update about) = board_follows s m v about
+board_handles_what s m v w = board_took s m v (board.takes v.board w)
+
 abbrev pub board_handles : KernelState → Message → Option Servers → Option Turned
 board_handles s m None = None
-board_handles s m (Some v) = board_took s m v (board.takes v.board m.what)
+board_handles s m (Some v) = board_handles_what s m v m.what
 
 abbrev pub manager_took : KernelState → Message → Servers → Option manage.Taken → Option Turned
 manager_took s m v None = None
 manager_took s m v (Some t) = turned (record s { servers = Some (record v { manager = t.manager }) }) (says (label.Took m.id) ∷ routes t.message)
 
+abbrev pub manager_handles_what : KernelState → Message → Servers → What → Option Turned
+manager_handles_what s m v (what.Update about) = manager_follows s m v about
+manager_handles_what s m v w = manager_took s m v (manage.takes v.manager m.id.n w)
+
 abbrev pub manager_handles : KernelState → Message → Option Servers → Option Turned
 manager_handles s m None = None
-manager_handles s m (Some v) = manager_took s m v (manage.takes v.manager m.id.n m.what)
+manager_handles s m (Some v) = manager_handles_what s m v m.what
 
 -- the receiver is a kernel, a server or a process
 abbrev pub handles : Boot → KernelState → Message → Option Turned

@@ -1,26 +1,52 @@
 -- The kernels whose processes state bytes can carry, whose messages packets can carry, and whose servers are such.
-use Rattle.std.specs.Prelude.{◌≡◌, List}
+use Rattle.std.specs.Prelude.{List, ◌≤◌}
 use Rattle.std.specs.List.{All}
 use Rattle.std.specs.Option.{IfSome}
-use Rattle.std.specs.declared.option.Option.TheVariants.{Some}
 use Rattle.dm_link.specs.declared.Pid.{Pid}
+use Rattle.dm_link.specs.Lawful.{IsMachine}
 use Rattle.dm_message.specs.Lawful.{IsLawfulMessage}
-use Rattle.dm_process.specs.declared.process.Process.{Process}
 use Rattle.dm_process.specs.Lawful.{IsLawfulProcess}
-use Rattle.dm_forward.specs.declared.record.Record.TheVariants.{Here}
+use Rattle.dm_room.specs.Room.{Taken}
+use Rattle.dm_forward.specs.declared.record.Record.TheVariants.{Here, Frozen, Incoming, Forward, Ended}
+use Rattle.dm_migrate.specs.Arrival.{Arrival}
+use Rattle.dm_migrate.specs.Departure.{Departure}
 use Rattle.dm_switchboard.specs.Lawful.{IsLawfulBoard}
 use Rattle.dm_procman.specs.Lawful.{IsLawfulManager}
 use Rattle.dm_kernel.specs.declared.kernel.Servers.{Servers}
 use Rattle.dm_kernel.specs.declared.part.Part.{Part}
 use Rattle.dm_kernel.specs.declared.part.Part.TheVariants.{Says, Routes}
-use Rattle.dm_kernel.specs.State.{KernelState, Turned}
+use Rattle.dm_kernel.specs.State.{KernelState, Known, Turned}
 
 pub record IsLawfulPair (v : Servers) : Type 0 where
   pub board : IsLawfulBoard v.board
   pub manager : IsLawfulManager v.manager
 
+-- a process that leaves goes to a machine
+pub record IsLawfulDeparture (d : Departure) : Type 0 where
+  pub process : IsLawfulProcess d.process
+  pub to : IsMachine d.to
+  pub held : All IsLawfulMessage d.held
+
+pub record IsLawfulArrival (a : Arrival) : Type 0 where
+  pub home : IsMachine a.pid.home
+  pub held : All IsLawfulMessage a.held
+
+-- what is known of a process
+abbrev pub IsLawfulKnown : Known → Type 0
+IsLawfulKnown (Here x) = IsLawfulProcess x
+IsLawfulKnown (Frozen d) = IsLawfulDeparture d
+IsLawfulKnown (Incoming a) = IsLawfulArrival a
+IsLawfulKnown (Forward machine moves) = IsMachine machine
+IsLawfulKnown (Ended y) = Unit {0}
+
+-- no machine has more than packets can tell of
+pub record IsLawfulRoom (r : Taken) : Type 0 where
+  pub slots : r.slots ≤ 64
+  pub blocks : r.blocks ≤ 4096
+
 pub record IsLawfulState (s : KernelState) : Type 0 where
-  pub processes : (p : Pid) (x : Process) → s.records p ≡ Some (Here x) → IsLawfulProcess x
+  pub records : (p : Pid) → IfSome (s.records p) IsLawfulKnown
+  pub room : IsLawfulRoom s.room
   pub inbox : All IsLawfulMessage s.inbox
   pub servers : IfSome s.servers IsLawfulPair
 

@@ -1,7 +1,11 @@
 pub mod State
 pub mod Begun
 pub mod Serve
+pub mod Departing
+pub mod Coming
+pub mod Following
 pub mod Handle
+pub mod Asking
 pub mod Turn
 pub mod May
 pub mod Served

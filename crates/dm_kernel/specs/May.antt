@@ -1,5 +1,5 @@
 -- What a machine's turn counts on, as every machine of a good run has it.
-use Rattle.std.specs.Prelude.{◌≡◌, ⊤, ℕ, ◌+◌, ◌<◌, ◌==◌, true, false, List, [], ◌∷◌, length}
+use Rattle.std.specs.Prelude.{◌≡◌, ⊤, ℕ, ◌+◌, ◌^◌, ◌<◌, ◌==◌, true, false, List, [], ◌∷◌, length, IsSome}
 use Rattle.std.specs.declared.option.Option.{Option}
 use Rattle.std.specs.declared.option.Option.TheVariants.{None, Some}
 use Rattle.dm_link.specs.declared.Pid.{Pid}
@@ -7,13 +7,17 @@ use Rattle.dm_link.specs.Names.{pid_eq}
 use Rattle.dm_message.specs.declared.Message.{Message}
 use Rattle.dm_message.specs.declared.What.{What}
 use Rattle.dm_message.specs.declared.What.TheVariants as what
-use Rattle.dm_message.specs.declared.kind.MessageKind.TheVariants as kind
-use Rattle.dm_message.specs.Kinds.{kind_of}
 use Rattle.dm_message.specs.Lawful.{IsLawfulMessage}
 use Rattle.dm_process.specs.declared.process.Process.{Process}
 use Rattle.dm_process.specs.Lawful.{IsLawfulProcess}
-use Rattle.dm_room.specs.Room.{HasTaken}
+use Rattle.dm_room.specs.Room.{HasTaken, Taken}
 use Rattle.dm_forward.specs.declared.record.Record.TheVariants.{Here, Frozen, Incoming, Forward, Ended}
+use Rattle.dm_forward.specs.Records.{frozen_of, incoming_of}
+use Rattle.dm_migrate.specs.declared.arriving.Wanted.TheVariants.{Nothing}
+use Rattle.dm_migrate.specs.Answer.{IsAskOfProcess}
+use Rattle.dm_migrate.specs.Arrival.{Arrival, IsNextPiece, restarted}
+use Rattle.dm_migrate.specs.Departure.{Departure}
+use Rattle.dm_migrate.specs.Pieces.{HasBlock, HasChunk, state_of}
 use Rattle.dm_datamove.specs.Serving.{IsWithin}
 use Rattle.dm_datamove.specs.Landing.{IsAwaited}
 use Rattle.dm_procman.specs.Taking.{IsForManager}
@@ -33,7 +37,8 @@ pub record MayAct (s : KernelState) (p : Pid) (x : Process) : Type 0 where
   pub sent : x.sent < most
   pub room : HasTaken s.room (blocks_of x)
 
--- a message for a process that is here, a row a kind: a piece lies in its memory, an answer is the one that it waits for
+-- a message for a process that is here, a row a kind: a piece lies in its memory, an answer is the one that it waits for,
+-- and it can move once more
 abbrev pub FitsHere : Message → Process → What → Type 0
 FitsHere m x (what.User code channel body links) = ⊤
 FitsHere m x what.Stop = ⊤
@@ -44,6 +49,8 @@ FitsHere m x (what.Write base bytes) = IsWithin (length x.memory) m.what
 FitsHere m x (what.Block bytes) = IsAwaited x.status m
 FitsHere m x what.Written = IsAwaited x.status m
 FitsHere m x what.Gone = IsAwaited x.status m
+FitsHere m x (what.Migrate machine) = x.moves < most
+FitsHere m x (what.Update about) = ⊤
 FitsHere m x w = ⊥
 
 abbrev pub FitsEnded : What → Type 0
@@ -56,29 +63,68 @@ FitsEnded (what.Write base bytes) = ⊤
 FitsEnded (what.Block bytes) = ⊤
 FitsEnded what.Written = ⊤
 FitsEnded what.Gone = ⊤
+FitsEnded (what.Migrate machine) = ⊤
+FitsEnded (what.Update about) = ⊤
 FitsEnded w = ⊥
 
--- the receiver is here or has ended here; what migration adds has its rows with migration
+-- something is known of the receiver; what it may get waits or goes on where it leaves, comes or has gone
 abbrev pub FitsKnown : Message → Option Known → Type 0
 FitsKnown m None = ⊥
 FitsKnown m (Some (Here x)) = FitsHere m x m.what
-FitsKnown m (Some (Frozen leaving)) = ⊥
-FitsKnown m (Some (Incoming arriving)) = ⊥
-FitsKnown m (Some (Forward machine moves)) = ⊥
+FitsKnown m (Some (Frozen leaving)) = ⊤
+FitsKnown m (Some (Incoming arriving)) = ⊤
+FitsKnown m (Some (Forward machine moves)) = ⊤
 FitsKnown m (Some (Ended y)) = FitsEnded m.what
 
--- a kernel is asked for a process of an image that there is
+-- there is such a value
+abbrev pub IsSuch : {X : Type 0} → (X → Type 0) → Option X → Type 0
+IsSuch P None = ⊥
+IsSuch P (Some x) = P x
+
+-- a process that leaves has its slot and its blocks, and what goes on can be counted
+pub record MayLeave (r : Taken) (d : Departure) : Type 0 where
+  pub room : HasTaken r (blocks_of d.process)
+  pub few : length d.process.queue + length d.held < most
+
+-- all of a process that comes has come, and it can be carried
+pub record MayRestart (a : Arrival) : Type 0 where
+  pub whole : a.wanted ≡ Nothing
+  pub process : Process
+  pub restarts : restarted a ≡ Some process
+  pub lawful : IsLawfulProcess process
+
+-- a kernel is asked for a process of an image that there is; a process that can move once more asks to come; and of a
+-- migration that is under way the next message comes: to where the process leaves, an answer to the ask, or a piece is asked
+-- for that there is; to where it comes, the piece that was asked for, or it may go on
 abbrev pub FitsKernel : Boot → KernelState → What → Type 0
 FitsKernel b s (what.Create image links) = (image < length b.images) × (first_number + s.made < most)
+FitsKernel b s (what.Ask pid blocks moves size asker) = IsAskOfProcess (what.Ask pid blocks moves size asker)
+FitsKernel b s (what.Refuse pid free_slots free_blocks) = IsSome (frozen_of (s.records pid))
+FitsKernel b s (what.PullState pid chunk) = IsSuch (λ d. HasChunk (state_of d.process) chunk) (frozen_of (s.records pid))
+FitsKernel b s (what.State pid chunk last bytes) = IsSuch (λ a. IsNextPiece a (what.State pid chunk last bytes)) (incoming_of (s.records pid))
+FitsKernel b s (what.PullBlock pid block) = IsSuch (λ d. HasBlock d.process.memory block) (frozen_of (s.records pid))
+FitsKernel b s (what.Memory pid block bytes) = IsSuch (λ a. IsNextPiece a (what.Memory pid block bytes)) (incoming_of (s.records pid))
+FitsKernel b s (what.AllTaken pid) = IsSuch (MayLeave s.room) (frozen_of (s.records pid))
+FitsKernel b s (what.Restart pid) = IsSuch MayRestart (incoming_of (s.records pid))
 FitsKernel b s w = ⊥
+
+-- a server takes a message that is one for it, and can send one more; the addresses that it keeps can be counted
+abbrev pub FitsBoardWhat : Servers → What → Type 0
+FitsBoardWhat v (what.User code channel body links) = v.board.sent < most
+FitsBoardWhat v (what.Update about) = length v.board.names < 2 ^ 31
+FitsBoardWhat v w = ⊥
 
 abbrev pub FitsBoard : Message → Option Servers → Type 0
 FitsBoard m None = ⊥
-FitsBoard m (Some v) = (kind_of m.what ≡ kind.User) × (v.board.sent < most)
+FitsBoard m (Some v) = FitsBoardWhat v m.what
+
+abbrev pub FitsManagerWhat : Servers → ℕ → What → Type 0
+FitsManagerWhat v n (what.Update about) = length v.manager.children + length v.manager.pending < 2 ^ 31
+FitsManagerWhat v n w = IsForManager v.manager n w × (v.manager.sent < most) × (length v.manager.children < most)
 
 abbrev pub FitsManager : Message → Option Servers → Type 0
 FitsManager m None = ⊥
-FitsManager m (Some v) = IsForManager v.manager m.id.n m.what × (v.manager.sent < most) × (length v.manager.children < most)
+FitsManager m (Some v) = FitsManagerWhat v m.id.n m.what
 
 pub record MayHandle (b : Boot) (s : KernelState) (m : Message) : Type 0 where
   pub lawful : IsLawfulMessage m
@@ -93,5 +139,12 @@ FrontMay b s (m ∷ rest) = MayHandle b s m
 
 pub record MayTurn (b : Boot) (s : KernelState) : Type 0 where
   pub here : s.here < 16
+  pub sent : s.sent < most
   pub processes : (p : Pid) (x : Process) → s.records p ≡ Some (Here x) → MayAct s p x
   pub front : FrontMay b s s.inbox
+
+-- what asking for a move counts on: the machine has the manager, and can send one more message
+pub record MayAskMove (s : KernelState) : Type 0 where
+  pub here : s.here < 16
+  pub sent : s.sent < most
+  pub servers : IsSome s.servers

@@ -13,7 +13,7 @@ use Rattle.dm_kernel.specs.declared.part.Part.{Part}
 use Rattle.dm_kernel.specs.State.{KernelState, Turned}
 
 abbrev pub state_of : Kernel → KernelState
-state_of k = record { here = k.here; records = at k.records; ring = k.ring; inbox = k.inbox; made = k.made; room = k.room; servers = k.servers }
+state_of k = record { here = k.here; records = at k.records; ring = k.ring; inbox = k.inbox; made = k.made; sent = k.sent; room = k.room; servers = k.servers }
 
 -- the kernel is in this state
 pub record IsIn (k : Kernel) (s : KernelState) : Type 0 where
@@ -22,6 +22,7 @@ pub record IsIn (k : Kernel) (s : KernelState) : Type 0 where
   pub ring : k.ring ≡ s.ring
   pub inbox : k.inbox ≡ s.inbox
   pub made : k.made ≡ s.made
+  pub sent : k.sent ≡ s.sent
   pub room : k.room ≡ s.room
   pub servers : k.servers ≡ s.servers
 

@@ -1,5 +1,5 @@
 -- What is known of the process that an event is about.
-use Rattle.std.specs.Prelude.{◌≡◌, ⊤, ℕ, ◌<◌, length, IsSome}
+use Rattle.std.specs.Prelude.{◌≡◌, ⊤, ℕ, ◌+◌, ◌<◌, length, IsSome}
 use Rattle.std.specs.declared.option.Option.{Option}
 use Rattle.std.specs.declared.option.Option.TheVariants.{None, Some}
 use Rattle.dm_link.specs.declared.Pid.{Pid}
@@ -9,12 +9,13 @@ use Rattle.dm_process.specs.declared.process.Process.{Process}
 use Rattle.dm_process.specs.declared.process.Status.{Status}
 use Rattle.dm_process.specs.declared.process.Status.TheVariants.{Ready, Waiting, Moving}
 use Rattle.dm_forward.specs.declared.record.Record.TheVariants.{Here, Frozen, Incoming, Forward, Ended}
-use Rattle.dm_room.specs.Room.{HasTaken}
+use Rattle.dm_room.specs.Room.{HasTaken, Taken}
 use Rattle.dm_kernel.specs.State.{KernelState, Known, blocks_of}
 use Rattle.dm_process.specs.Lawful.{IsLawfulProcess}
 use Rattle.dm_datamove.specs.Serving.{IsWithin}
 use Rattle.dm_datamove.specs.Landing.{IsAwaited}
-use Rattle.dm_kernel.specs.May.{MayAct, FitsHere, most}
+use Rattle.dm_migrate.specs.Departure.{Departure}
+use Rattle.dm_kernel.specs.May.{MayAct, MayLeave, FitsHere, most}
 
 -- it is here, and this holds of it
 abbrev pub IsHere : (Process → Type 0) → Option Known → Type 0
@@ -66,3 +67,14 @@ pub record AwaitsPiece (m : Message) (x : Process) : Type 0 where
   pub lawful : IsLawfulProcess x
   pub sent : x.sent < most
   pub awaited : IsAwaited x.status m
+
+-- it can be carried, and can move once more
+pub record CanFreeze (x : Process) : Type 0 where
+  pub lawful : IsLawfulProcess x
+  pub moves : x.moves < most
+
+-- it leaves for this machine, where it is after so many moves; it has its slot and its blocks, and what goes on can be counted
+pub record LeavesFor (r : Taken) (machine moves : ℕ) (d : Departure) : Type 0 where
+  pub machine_is : d.to ≡ machine
+  pub moves_are : d.process.moves + 1 ≡ moves
+  pub may : MayLeave r d

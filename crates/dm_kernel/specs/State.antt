@@ -1,9 +1,14 @@
 -- The kernel of one machine over plain functions and lists, and what an event gives.
-use Rattle.std.specs.Prelude.{ℕ, ◌/◌, List, length, map}
+use Rattle.std.specs.Prelude.{ℕ, ◌+◌, ◌/◌, false, List, length, map}
 use Rattle.std.specs.declared.option.Option.{Option}
 use Rattle.std.specs.declared.option.Option.TheVariants.{Some}
+use Rattle.dm_link.specs.declared.Addr.{Addr}
 use Rattle.dm_link.specs.declared.Pid.{Pid}
+use Rattle.dm_link.specs.Names.{pid_of}
+use Rattle.dm_linkupdate.specs.Notice.{kernel_at}
 use Rattle.dm_message.specs.declared.Message.{Message}
+use Rattle.dm_message.specs.declared.MsgId.{MsgId}
+use Rattle.dm_message.specs.declared.What.{What}
 use Rattle.dm_process.specs.declared.process.Process.{Process}
 use Rattle.dm_room.specs.Room.{Taken, with_released}
 use Rattle.dm_forward.specs.declared.record.Record as record_
@@ -33,6 +38,8 @@ pub record KernelState : Type 0 where
   pub inbox : List Message
   -- how many processes were made here
   pub made : ℕ
+  -- how many messages of its own the kernel has sent
+  pub sent : ℕ
   pub room : Taken
   pub servers : Option Servers
 
@@ -68,3 +75,18 @@ without_process s p x y =
       ring = without p s.ring;
       room = with_released s.room (blocks_of x);
     }
+
+-- what is known of a process is set
+abbrev pub with_known : KernelState → Pid → Known → KernelState
+with_known s p k = record s { records = with_record s.records p k }
+
+-- a message of the kernel's own bears its name and the count of those before it
+abbrev pub own_id : KernelState → MsgId
+own_id s = record { from = pid_of s.here 0; n = s.sent; answer = false }
+
+abbrev pub own : KernelState → Addr → What → Message
+own s to w = record { id = own_id s; to = to; sender = kernel_at s.here; what = w }
+
+-- one message more is sent
+abbrev pub with_sent : KernelState → KernelState
+with_sent s = record s { sent = s.sent + 1 }

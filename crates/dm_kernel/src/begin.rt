@@ -44,6 +44,7 @@ impl Kernel {
             ring: Queue::new(alloc),
             inbox: Queue::new(alloc),
             made: 0,
+            sent: 0,
             room: Room::new(machine.slots, machine.blocks),
             servers: servers_of(alloc, boot, here)?,
         })

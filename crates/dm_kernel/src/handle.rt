@@ -17,6 +17,7 @@ use dm_link::Pid;
 use dm_memory::NoMemory;
 use dm_message::{Message, What};
 use dm_onekernel::Boot;
+use dm_rule::line::Line;
 
 /// The servers.
 const SWITCHBOARD: Pid = Pid { home: 0, num: 1 };
@@ -29,12 +30,13 @@ impl Kernel {
         requires may { MayHandle boot.now (state_of self.old) message }
         requires images { images_are_valid boot.now.images ≡ true }
         requires here { self.old.here < 16 }
+        requires sent { self.old.sent < 4294967295 }
         requires processes { (p : _) (x : _) → at self.old.records p ≡ Some (Here x) → MayAct (state_of self.old) p x }
         ensures { Answers result self.new (handles boot.now (state_of self.old) message) }
     {
         let to = message.to.pid;
         if to.num == 0 {
-            self.for_kernel(boot, &message)
+            self.for_kernel(boot, message)
         } else if to == SWITCHBOARD {
             self.for_board(&message)
         } else if to == MANAGER {
@@ -48,14 +50,20 @@ impl Kernel {
     fn for_process(&mut self, message: Message) -> Result<Vec<Part>, NoMemory>
         requires lawful { IsLawfulMessage message }
         requires here { self.old.here < 16 }
+        requires sent { self.old.sent < 4294967295 }
         requires fits { FitsKnown message (at self.old.records message.to.pid) }
         requires acts { (x : _) → at self.old.records message.to.pid ≡ Some (Here x) → MayAct (state_of self.old) message.to.pid x }
         ensures { Answers result self.new (process_handles (state_of self.old) message (at self.old.records message.to.pid)) }
     {
         match self.records.borrow(message.to.pid) {
             Record::Here(_) => self.for_here(message),
+            Record::Frozen(_) => self.hold_leaving(message),
+            Record::Incoming(_) => self.hold_arriving(message),
+            Record::Forward { at, moves } => {
+                let (at, moves) = (*at, *moves);
+                self.forward(message, at, moves)
+            }
             Record::Ended(_) => self.for_ended(&message),
-            _ => unreachable!(),
         }
     }
 
@@ -63,6 +71,7 @@ impl Kernel {
     fn for_here(&mut self, message: Message) -> Result<Vec<Part>, NoMemory>
         requires lawful { IsLawfulMessage message }
         requires here { self.old.here < 16 }
+        requires sent { self.old.sent < 4294967295 }
         requires process { IsHere (Handles (state_of self.old) message) (at self.old.records message.to.pid) }
         ensures { Answers result self.new (bind (here_of (at self.old.records message.to.pid)) (λ x. here_handles (state_of self.old) message x message.what)) }
     {
@@ -76,6 +85,8 @@ impl Kernel {
             What::Block { .. } => self.land_piece(&message),
             What::Written => self.land_piece(&message),
             What::Gone => self.land_piece(&message),
+            What::Migrate { machine } => self.migrate(&message, *machine),
+            What::Update { about } => self.follow(&message, *about),
             _ => unreachable!(),
         }
     }
@@ -97,6 +108,8 @@ impl Kernel {
             What::Block { .. } => self.drop_message(message),
             What::Written => self.drop_message(message),
             What::Gone => self.drop_message(message),
+            What::Migrate { .. } => self.say(Line::NoMove(message.id)),
+            What::Update { .. } => self.say_updated(message.id, 0),
             _ => unreachable!(),
         }
     }

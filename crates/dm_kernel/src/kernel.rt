@@ -25,6 +25,8 @@ pub struct Kernel {
     pub inbox: Queue<Message>,
     /// How many processes were made here.
     pub made: u32,
+    /// How many messages of its own the kernel has sent.
+    pub sent: u32,
     /// The slots and blocks.
     pub room: Room,
     /// The servers, on machine 0.

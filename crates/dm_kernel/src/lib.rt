@@ -2,12 +2,17 @@
 //! messages; how messages come to other machines is not its part.
 #![tactic(auto)]
 
+mod arrive;
+mod ask;
 mod begin;
+mod depart;
+mod follow;
 mod handle;
 pub mod kernel;
 mod law;
 mod leave;
 mod make;
+mod own;
 pub mod part;
 mod ring;
 pub mod run;
@@ -18,7 +23,7 @@ mod turn;
 
 pub use dm_memory::NoMemory;
 pub use kernel::{Kernel, Servers};
-pub use law::{machines_open_lawfully, turns_are_lawful};
+pub use law::{machines_open_lawfully, moves_are_asked_lawfully, turns_are_lawful};
 pub use part::Part;
 
 #[cfg(test)]

@@ -32,21 +32,36 @@ use std::alloc::Global;
 const FIRST_NUMBER: u32 = 3;
 
 impl Kernel {
-    /// Handles a message for the machine's kernel: it makes a process.
+    /// Handles a message for the machine's kernel: it makes a process, or lets one leave or come.
     pub(crate) fn for_kernel(
         &mut self,
         boot: &Boot,
-        message: &Message,
+        message: Message,
     ) -> Result<Vec<Part>, NoMemory>
-        requires lawful { IsLawfulMessage message.now }
+        requires lawful { IsLawfulMessage message }
         requires images { images_are_valid boot.now.images ≡ true }
-        requires fits { FitsKernel boot.now (state_of self.old) message.now.what }
-        ensures { Answers result self.new (kernel_handles boot.now (state_of self.old) message.now message.now.what) }
+        requires sent { self.old.sent < 4294967295 }
+        requires fits { FitsKernel boot.now (state_of self.old) message.what }
+        ensures { Answers result self.new (kernel_handles boot.now (state_of self.old) message message.what) }
     {
         match &message.what {
             What::Create { image, links } => {
-                self.make(boot, message, image_of(boot, *image), links.as_slice())
+                self.make(boot, &message, image_of(boot, *image), links.as_slice())
             }
+            What::Ask { .. } => self.answer(boot, &message),
+            What::Refuse { pid, .. } => self.stay(*pid),
+            What::PullState { pid, chunk } => self.give_chunk(&message, *pid, *chunk),
+            What::State { pid, .. } => {
+                let pid = *pid;
+                self.take_piece(message, pid)
+            }
+            What::PullBlock { pid, block } => self.give_block(&message, *pid, *block),
+            What::Memory { pid, .. } => {
+                let pid = *pid;
+                self.take_piece(message, pid)
+            }
+            What::AllTaken { pid } => self.let_go(*pid),
+            What::Restart { pid } => self.restart(*pid),
             _ => unreachable!(),
         }
     }

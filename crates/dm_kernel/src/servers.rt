@@ -1,23 +1,43 @@
 //! What the servers do with a message.
-ghost use Rattle.std.specs.Prelude.{◌≡◌, ◌∷◌, IfOk};
+ghost use Rattle.std.specs.Prelude.{◌≡◌, ◌<◌, ◌∷◌, IfOk, length};
+ghost use Rattle.dm_message.specs.Kinds.{kind_of};
+ghost use Rattle.dm_message.specs.declared.kind.MessageKind.TheVariants as kind;
+ghost use Rattle.dm_onekernel.specs.Options.{bind};
 ghost use Rattle.dm_onekernel.specs.declared.label.Label.TheVariants as label_;
-ghost use Rattle.dm_kernel.specs.Handle.{board_handles, manager_handles, routes};
-ghost use Rattle.dm_kernel.specs.May.{FitsBoard, FitsManager};
+ghost use Rattle.dm_procman.specs.Taking as manage;
+ghost use Rattle.dm_procman.specs.Taking.{IsForManager};
+ghost use Rattle.dm_switchboard.specs.Taking.{takes};
+ghost use Rattle.dm_kernel.specs.Handle.{board_handles, board_took, manager_handles, manager_took, routes};
+ghost use Rattle.dm_kernel.specs.May.{FitsBoard, FitsManager, IsSuch};
+ghost use Rattle.dm_kernel.specs.declared.kernel.Servers.{Servers};
 ghost use Rattle.dm_kernel.specs.Meets.{Answers, state_of};
 ghost use Rattle.dm_kernel.specs.State.{says};
 
 use crate::kernel::Kernel;
 use crate::part::Part;
 use dm_memory::NoMemory;
-use dm_message::{Message, MsgId};
+use dm_message::{Message, MsgId, What};
 use dm_onekernel::Label;
 use dm_rule::line::Line;
 
 impl Kernel {
-    /// Lets the switchboard take a message.
+    /// Handles a message for the switchboard.
     pub(crate) fn for_board(&mut self, message: &Message) -> Result<Vec<Part>, NoMemory>
         requires { FitsBoard message.now self.old.servers }
         ensures { Answers result self.new (board_handles (state_of self.old) message.now self.old.servers) }
+    {
+        match &message.what {
+            What::User { .. } => self.take_for_board(message),
+            What::Update { about } => self.follow_board(message, *about),
+            _ => unreachable!(),
+        }
+    }
+
+    /// Lets the switchboard take a user message.
+    fn take_for_board(&mut self, message: &Message) -> Result<Vec<Part>, NoMemory>
+        requires user { kind_of message.now.what ≡ kind.User }
+        requires fits { IsSuch (λ (v : Servers). v.board.sent < 4294967295) self.old.servers }
+        ensures { Answers result self.new (bind self.old.servers (λ v. board_took (state_of self.old) message.now v (takes v.board message.now.what))) }
     {
         match &mut self.servers {
             Some(servers) => {
@@ -28,10 +48,24 @@ impl Kernel {
         }
     }
 
-    /// Lets the process manager take a message.
+    /// Handles a message for the process manager.
     pub(crate) fn for_manager(&mut self, message: &Message) -> Result<Vec<Part>, NoMemory>
         requires { FitsManager message.now self.old.servers }
         ensures { Answers result self.new (manager_handles (state_of self.old) message.now self.old.servers) }
+    {
+        match &message.what {
+            What::User { .. } => self.take_for_manager(message),
+            What::Created { .. } => self.take_for_manager(message),
+            What::NoRoom => self.take_for_manager(message),
+            What::Update { about } => self.follow_manager(message, *about),
+            _ => unreachable!(),
+        }
+    }
+
+    /// Lets the process manager take a user message, or an answer that it waits for.
+    fn take_for_manager(&mut self, message: &Message) -> Result<Vec<Part>, NoMemory>
+        requires fits { IsSuch (λ (v : Servers). IsForManager v.manager message.now.id.n message.now.what × (v.manager.sent < 4294967295) × (length v.manager.children < 4294967295)) self.old.servers }
+        ensures { Answers result self.new (bind self.old.servers (λ v. manager_took (state_of self.old) message.now v (manage.takes v.manager message.now.id.n message.now.what))) }
     {
         match &mut self.servers {
             Some(servers) => {

@@ -1,1 +1,1 @@
-mod Lawful
+pub mod Lawful

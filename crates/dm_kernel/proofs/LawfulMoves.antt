@@ -1,0 +1,316 @@
+-- What the rows of a migration give is lawful.
+use Rattle.std.proofs.Common.{◌≡◌, ◌∙◌, ℕ, ◌+◌, ◌-◌, ◌*◌, ◌/◌, min, ◌<◌, ◌≤◌, Bool, true, false, ◌==◌, List, [], ◌∷◌, ◌++◌, length, map, drop, Some, None, refl, sym, subst, ap, arith, inl, inr}
+use Rattle.std.specs.List.{All}
+use Rattle.std.specs.Option.{IfSome}
+use Rattle.std.specs.Prelude.{IfOk}
+use Rattle.std.specs.declared.result.Result.{Result}
+use Rattle.std.specs.declared.result.Result.TheVariants.{Ok, Err}
+use Rattle.std.proofs.lemmas.List.{length-drop, length-take}
+use Rattle.std.proofs.lemmas.List.Elements.{All-append, All-cons, All-head, All-nil, All-push, All-tail}
+use Rattle.std.proofs.lemmas.Bool.Decides.{nat_tests}
+use Rattle.std.specs.declared.option.Option.{Option}
+use Rattle.dm_link.specs.declared.Addr.{Addr}
+use Rattle.dm_link.specs.declared.Pid.{Pid}
+use Rattle.dm_link.specs.Lawful.{IsMachine, IsLawfulAddr}
+use Rattle.dm_link.specs.Names.{pid_eq}
+use Rattle.dm_linkupdate.specs.Notice.{has_update, kernel_at, update_of}
+use Rattle.dm_linkupdate.proofs.Lawful.{applied_lawful}
+use Rattle.dm_message.specs.declared.Asker.{Asker}
+use Rattle.dm_message.specs.declared.Message.{Message}
+use Rattle.dm_message.specs.declared.What.{What}
+use Rattle.dm_message.specs.declared.What.TheVariants as what
+use Rattle.dm_message.specs.Kinds.{kind_of}
+use Rattle.dm_message.specs.Lawful.{IsLawfulMessage, IsLawfulWhat, IsServer, is_answer}
+use Rattle.dm_process.specs.declared.process.Process.{Process}
+use Rattle.dm_process.specs.Lawful.{IsLawfulProcess}
+use Rattle.dm_room.specs.Room.{Taken, free_blocks, free_slots, has_room}
+use Rattle.dm_forward.specs.declared.record.Record.TheVariants.{Here, Frozen, Incoming, Forward}
+use Rattle.dm_migrate.specs.declared.arriving.Wanted.{Wanted}
+use Rattle.dm_migrate.specs.declared.arriving.Wanted.TheVariants.{Chunk, Block, Nothing}
+use Rattle.dm_migrate.specs.Arrival.{Arrival, expected, pull, with_block, with_chunk, with_held as with_held_too, with_piece}
+use Rattle.dm_migrate.specs.Departure.{Departure, all_sent_on, ask_of, frozen, sent_on, with_held}
+use Rattle.dm_migrate.specs.Pieces.{HasChunk, chunk_bytes, chunk_of, state_of}
+use Rattle.dm_migrate.proofs.Messages.{lawful_all}
+use Rattle.dm_onekernel.specs.declared.boot.Boot.{Boot}
+use Rattle.dm_onekernel.specs.Boot.{manager, slots_of, switchboard}
+use Rattle.dm_procman.specs.declared.moving.MoveNo.{MoveNo}
+use Rattle.dm_procman.specs.declared.moving.MoveNo.TheVariants as no
+use Rattle.dm_procman.specs.Moving.{moves_child}
+use Rattle.dm_procman.proofs.Lawful.{moves_lawful}
+use Rattle.dm_procman.proofs.Lawful as manage
+use Rattle.dm_switchboard.proofs.Lawful as board
+use Rattle.dm_kernel.specs.declared.kernel.Servers.{Servers}
+use Rattle.dm_kernel.specs.declared.part.Part.{Part}
+use Rattle.dm_kernel.specs.declared.part.Part.TheVariants.{Routes}
+use Rattle.dm_kernel.specs.Asking.{asks_manager, asks_move, told_to_move}
+use Rattle.dm_kernel.specs.Coming.{accepts, answers_ask, holds_arriving, restarts, restarts_as, takes_piece, took_piece}
+use Rattle.dm_kernel.specs.Departing.{freezes, gives_piece, holds_leaving, leaves, migrates, stays}
+use Rattle.dm_kernel.specs.Following.{board_follows, forwards, forwards_and, manager_follows, process_follows}
+use Rattle.dm_kernel.specs.Lawful.{AreLawful, IsLawfulArrival, IsLawfulDeparture, IsLawfulPair, IsLawfulPart, IsLawfulState}
+use Rattle.dm_kernel.specs.May.{MayRestart}
+use Rattle.dm_kernel.specs.State.{KernelState, own, own_id}
+use Rattle.dm_kernel.proofs.LawfulRows.{Lawfully, if_lawfully, knows, none_said, routed, said, same_room, with_process}
+
+-- messages of the kernel's own, and messages that go on
+pub kernel_address : (here : ℕ) → here < 16 → IsLawfulAddr (kernel_at here)
+kernel_address here machine = record { home = omega arith; at = omega arith }
+
+pub own_lawfully : (s : KernelState) (to : Addr) (w : What) → s.here < 16 → IsLawfulAddr to → is_answer (kind_of w) ≡ false → IsLawfulWhat w → IsLawfulMessage (own s to w)
+own_lawfully s to w machine lawful no_answer what =
+    record { from = omega arith; answer = sym no_answer; to = lawful; sender = kernel_address s.here machine; what = what }
+
+on_lawfully : (at moves : ℕ) (m : Message) → IsMachine at → IsLawfulMessage m → IsLawfulMessage (sent_on at moves m)
+on_lawfully at moves m machine h =
+    record { from = h.from; answer = h.answer; to = record { home = h.to.home; at = machine }; sender = h.sender; what = h.what }
+
+update_lawfully : (s : KernelState) (m : Message) (at moves : ℕ) → s.here < 16 → IsMachine at → IsLawfulMessage m → IsLawfulMessage (update_of m (own_id s) s.here at moves)
+update_lawfully s m at moves here machine h =
+    record { from = omega arith; answer = refl; to = h.sender; sender = kernel_address s.here here; what = record { home = h.to.home; at = machine } }
+
+routed_and : (m : Message) (parts : List Part) → IsLawfulMessage m → AreLawful parts → AreLawful (Routes m ∷ parts)
+routed_and m parts h rest = record { each = All-cons IsLawfulPart (Routes m) parts h rest.each }
+
+all_routed : (ms : List Message) (parts : List Part) → All IsLawfulMessage ms → AreLawful parts → AreLawful (map Routes ms ++ parts)
+all_routed [] parts h rest = rest
+all_routed (m ∷ ms) parts h rest =
+    routed_and m (map Routes ms ++ parts) (All-head IsLawfulMessage m ms h) (all_routed ms parts (All-tail IsLawfulMessage m ms h) rest)
+
+-- a message goes on
+forwards_lawfully_and : (s : KernelState) (m : Message) (at moves : ℕ) (told : Bool) → s.here < 16 → IsMachine at → IsLawfulState s → IsLawfulMessage m → Lawfully (forwards_and s m at moves told)
+forwards_lawfully_and s m at moves true here machine h message =
+    record {
+      state = record { records = h.records; room = h.room; inbox = h.inbox; servers = h.servers };
+      parts = said (routed_and _ _ (on_lawfully at moves m machine message) (routed _ (update_lawfully s m at moves here machine message)));
+    }
+forwards_lawfully_and s m at moves false here machine h message = record { state = h; parts = said (routed _ (on_lawfully at moves m machine message)) }
+
+pub forwards_lawfully : (s : KernelState) (m : Message) (at moves : ℕ) → s.here < 16 → IsMachine at → IsLawfulState s → IsLawfulMessage m → Lawfully (forwards s m at moves)
+forwards_lawfully s m at moves here machine h message = forwards_lawfully_and s m at moves (has_update (kind_of m.what)) here machine h message
+
+-- links follow
+pub process_follows_lawfully : (s : KernelState) (m : Message) (x : Process) (about : Addr) → IsLawfulState s → IsLawfulProcess x → IsLawfulAddr about → Lawfully (process_follows s m x about)
+process_follows_lawfully s m x about h lawful addr =
+    record { state = with_process s m.to.pid _ h (applied_lawful about.pid about.at about.moves x addr.at lawful); parts = said none_said }
+
+pub board_follows_lawfully : (s : KernelState) (m : Message) (v : Servers) (about : Addr) → IsLawfulState s → IsLawfulPair v → IsLawfulAddr about → Lawfully (board_follows s m v about)
+board_follows_lawfully s m v about h pair addr =
+    record {
+      state =
+          record {
+            records = h.records;
+            room = h.room;
+            inbox = h.inbox;
+            servers = record { board = board.retargeted_lawful about.pid about.at about.moves v.board.names addr.at pair.board; manager = pair.manager };
+          };
+      parts = said none_said;
+    }
+
+pub manager_follows_lawfully : (s : KernelState) (m : Message) (v : Servers) (about : Addr) → IsLawfulState s → IsLawfulPair v → IsLawfulAddr about → Lawfully (manager_follows s m v about)
+manager_follows_lawfully s m v about h pair addr =
+    record {
+      state =
+          record {
+            records = h.records;
+            room = h.room;
+            inbox = h.inbox;
+            servers = record { board = pair.board; manager = manage.retargeted_lawful about.pid about.at about.moves v.manager addr.at pair.manager };
+          };
+      parts = said none_said;
+    }
+
+-- a process leaves
+pub not_server : (p : Pid) → pid_eq p switchboard ≡ false → pid_eq p manager ≡ false → IsServer p → ⊥
+not_server p one two (home, inl num) = grind (arith, nat_tests)
+not_server p one two (home, inr num) = grind (arith, nat_tests)
+
+blocks_are : (memory : List ℕ) (blocks : ℕ) → length memory ≡ 256 * blocks → length memory / 256 ≡ blocks
+blocks_are memory blocks h = omega arith
+
+ask_lawfully : (x : Process) → IsLawfulProcess x → ¬ IsServer x.pid → IsLawfulWhat (ask_of x None)
+ask_lawfully x h none =
+    let blocks : length x.memory / 256 ≡ h.size.0 = blocks_are x.memory h.size.0 h.size.1 in
+    let least : 1 ≤ h.size.0 = h.size.2 in
+    let most : h.size.0 ≤ 256 = h.size.3 in
+    (h.home, ((omega arith), ((λ (zero : length x.memory / 256 ≡ 0). absurd (omega arith)), (λ (server : IsServer x.pid). absurd (none server)))), tt)
+
+freezes_lawfully : (s : KernelState) (p : Pid) (x : Process) (machine : ℕ) → s.here < 16 → IsLawfulState s → IsLawfulProcess x → ¬ IsServer x.pid → IsMachine machine
+    → Lawfully (freezes s p x machine)
+freezes_lawfully s p x machine here h lawful none to =
+    record {
+      state =
+          record {
+            records = knows s p (Frozen (frozen x machine None)) h (record { process = lawful; to = to; held = All-nil IsLawfulMessage });
+            room = h.room;
+            inbox = h.inbox;
+            servers = h.servers;
+          };
+      parts = said (said (routed _ (own_lawfully s (kernel_at machine) (ask_of x None) here (kernel_address machine (omega arith)) refl (ask_lawfully x lawful none))));
+    }
+
+pub migrates_lawfully : (s : KernelState) (m : Message) (x : Process) (machine : ℕ) → s.here < 16 → IsLawfulState s → IsLawfulProcess x → ¬ IsServer x.pid → IsMachine machine
+    → Lawfully (migrates s m x machine)
+migrates_lawfully s m x machine here h lawful none to =
+    if_lawfully (machine == s.here) _ _ (λ same. record { state = h; parts = said none_said }) (λ other. freezes_lawfully s m.to.pid x machine here h lawful none to)
+
+pub holds_leaving_lawfully : (s : KernelState) (m : Message) (d : Departure) → IsLawfulState s → IsLawfulDeparture d → IsLawfulMessage m → Lawfully (holds_leaving s m d)
+holds_leaving_lawfully s m d h lawful message =
+    record {
+      state =
+          record {
+            records = knows s m.to.pid (Frozen (with_held d m)) h (record { process = lawful.process; to = lawful.to; held = All-push IsLawfulMessage d.held m lawful.held message });
+            room = h.room;
+            inbox = h.inbox;
+            servers = h.servers;
+          };
+      parts = said none_said;
+    }
+
+pub stays_lawfully : (s : KernelState) (p : Pid) (d : Departure) → IsLawfulState s → IsLawfulDeparture d → Lawfully (stays s p d)
+stays_lawfully s p d h lawful =
+    record {
+      state =
+          record {
+            records = knows s p (Here d.process) h lawful.process;
+            room = h.room;
+            inbox = All-append IsLawfulMessage d.held s.inbox lawful.held h.inbox;
+            servers = h.servers;
+          };
+      parts = said none_said;
+    }
+
+pub gives_lawfully : (s : KernelState) (m : Message) (w : What) → s.here < 16 → IsLawfulState s → IsLawfulMessage m → is_answer (kind_of w) ≡ false → IsLawfulWhat w → Lawfully (gives_piece s m w)
+gives_lawfully s m w here h message no_answer lawful =
+    record {
+      state = record { records = h.records; room = h.room; inbox = h.inbox; servers = h.servers };
+      parts = said (routed _ (own_lawfully s m.sender w here message.sender no_answer lawful));
+    }
+
+chunk_length : (state : List ℕ) (k : ℕ) → length (chunk_bytes state k) ≡ min 512 (length state - 512 * k)
+chunk_length state k = length-take 512 (drop (512 * k) state) ∙ ap (λ n. min 512 n) (length-drop (512 * k) state)
+
+chunk_size : (state : List ℕ) (k : ℕ) → HasChunk state k → (1 ≤ length (chunk_bytes state k)) × (length (chunk_bytes state k) ≤ 512)
+chunk_size state k h =
+    let n : length (chunk_bytes state k) ≡ min 512 (length state - 512 * k) = chunk_length state k in
+    let some : 512 * k < length state = h in
+    (omega arith, omega arith)
+
+pub chunk_lawfully : (x : Process) (k : ℕ) → IsMachine x.pid.home → HasChunk (state_of x) k → IsLawfulWhat (chunk_of x.pid (state_of x) k)
+chunk_lawfully x k home h =
+    let size : (1 ≤ length (chunk_bytes (state_of x) k)) × (length (chunk_bytes (state_of x) k) ≤ 512) = chunk_size (state_of x) k h in (home, size.0, size.1)
+
+pub leaves_lawfully : (s : KernelState) (p : Pid) (d : Departure) → s.here < 16 → IsMachine p.home → IsLawfulState s → IsLawfulDeparture d → Lawfully (leaves s p d)
+leaves_lawfully s p d here home h lawful =
+    let on : All IsLawfulMessage (all_sent_on d) =
+    lawful_all d.to (d.process.moves + 1) (all_sent_on d) d.process.queue d.held refl lawful.to lawful.process.queue lawful.held
+    in
+    let to : IsMachine d.to = lawful.to in
+    record {
+      state =
+          record {
+            records = knows s p (Forward d.to (d.process.moves + 1)) h lawful.to;
+            room = same_room s.room _ _ h.room;
+            inbox = h.inbox;
+            servers = h.servers;
+          };
+      parts = said (all_routed (all_sent_on d) _ on (said (routed _ (own_lawfully s (kernel_at d.to) (what.Restart p) here (kernel_address d.to (omega arith)) refl home))));
+    }
+
+-- a process comes
+free_lawfully : (r : Taken) → r.slots ≤ 64 → r.blocks ≤ 4096 → (free_slots r ≤ 64) × (free_blocks r ≤ 4096)
+free_lawfully r slots blocks = (omega arith, omega arith)
+
+accepts_lawfully : (b : Boot) (s : KernelState) (m : Message) (p : Pid) (blocks moves size : ℕ) (asker : Option Asker) (room : Bool) → s.here < 16 → IsLawfulState s → IsLawfulMessage m
+    → IsMachine p.home → Lawfully (accepts b s m p blocks moves size asker room)
+accepts_lawfully b s m p blocks moves size asker true here h message home =
+    record {
+      state =
+          record {
+            records = knows s p (Incoming (expected p blocks moves size asker (slots_of b.format))) h (record { home = home; held = All-nil IsLawfulMessage });
+            room = same_room s.room _ _ h.room;
+            inbox = h.inbox;
+            servers = h.servers;
+          };
+      parts = said (routed _ (own_lawfully s m.sender (what.PullState p 0) here message.sender refl home));
+    }
+accepts_lawfully b s m p blocks moves size asker false here h message home =
+    let free : (free_slots s.room ≤ 64) × (free_blocks s.room ≤ 4096) = free_lawfully s.room h.room.slots h.room.blocks in
+    record {
+      state = record { records = h.records; room = h.room; inbox = h.inbox; servers = h.servers };
+      parts = said (routed _ (own_lawfully s m.sender (what.Refuse p (free_slots s.room) (free_blocks s.room)) here message.sender refl (home, free.0, free.1)));
+    }
+
+pub asks_lawfully : (b : Boot) (s : KernelState) (m : Message) (p : Pid) (blocks moves size : ℕ) (asker : Option Asker) → s.here < 16 → IsLawfulState s → IsLawfulMessage m → IsMachine p.home
+    → Lawfully (answers_ask b s m p blocks moves size asker)
+asks_lawfully b s m p blocks moves size asker here h message home = accepts_lawfully b s m p blocks moves size asker (has_room s.room blocks) here h message home
+
+pub holds_arriving_lawfully : (s : KernelState) (m : Message) (a : Arrival) → IsLawfulState s → IsLawfulArrival a → IsLawfulMessage m → Lawfully (holds_arriving s m a)
+holds_arriving_lawfully s m a h lawful message =
+    record {
+      state =
+          record {
+            records = knows s m.to.pid (Incoming (with_held_too a m)) h (record { home = lawful.home; held = All-push IsLawfulMessage a.held m lawful.held message });
+            room = h.room;
+            inbox = h.inbox;
+            servers = h.servers;
+          };
+      parts = said none_said;
+    }
+
+pull_lawfully : (p : Pid) (w : Wanted) → IsMachine p.home → IsLawfulWhat (pull p w)
+pull_lawfully p (Chunk k) home = home
+pull_lawfully p (Block k) home = home
+pull_lawfully p Nothing home = home
+
+pull_asks : (p : Pid) (w : Wanted) → is_answer (kind_of (pull p w)) ≡ false
+pull_asks p (Chunk k) = refl
+pull_asks p (Block k) = refl
+pull_asks p Nothing = refl
+
+took_lawfully : (s : KernelState) (m : Message) (p : Pid) (a : Arrival) → s.here < 16 → IsLawfulState s → IsLawfulMessage m → IsLawfulArrival a → Lawfully (took_piece s m p (Some a))
+took_lawfully s m p a here h message lawful =
+    record {
+      state = record { records = knows s p (Incoming a) h lawful; room = h.room; inbox = h.inbox; servers = h.servers };
+      parts = said (routed _ (own_lawfully s m.sender (pull a.pid a.wanted) here message.sender (pull_asks a.pid a.wanted) (pull_lawfully a.pid a.wanted lawful.home)));
+    }
+
+piece_lawfully : (s : KernelState) (m : Message) (p : Pid) (a : Arrival) (w : What) → s.here < 16 → IsLawfulState s → IsLawfulMessage m → IsLawfulArrival a → Lawfully (took_piece s m p (with_piece a w))
+piece_lawfully s m p a (what.State q k last bytes) here h message lawful =
+    took_lawfully s m p (with_chunk a k last bytes.items) here h message (record { home = lawful.home; held = lawful.held })
+piece_lawfully s m p a (what.Memory q k bytes) here h message lawful =
+    took_lawfully s m p (with_block a k bytes) here h message (record { home = lawful.home; held = lawful.held })
+piece_lawfully s m p a w here h message lawful = tt
+
+pub takes_lawfully : (s : KernelState) (m : Message) (p : Pid) (a : Arrival) → s.here < 16 → IsLawfulState s → IsLawfulMessage m → IsLawfulArrival a → Lawfully (takes_piece s m p a)
+takes_lawfully s m p a here h message lawful = piece_lawfully s m p a m.what here h message lawful
+
+restarts_as_lawfully : (s : KernelState) (p : Pid) (a : Arrival) (x : Process) → IsLawfulState s → IsLawfulArrival a → IsLawfulProcess x → Lawfully (restarts_as s p a (Some x))
+restarts_as_lawfully s p a x h lawful process =
+    record {
+      state =
+          record {
+            records = knows s p (Here x) h process;
+            room = h.room;
+            inbox = All-append IsLawfulMessage a.held s.inbox lawful.held h.inbox;
+            servers = h.servers;
+          };
+      parts = said none_said;
+    }
+
+pub restarts_lawfully : (s : KernelState) (p : Pid) (a : Arrival) → IsLawfulState s → IsLawfulArrival a → MayRestart a → Lawfully (restarts s p a)
+restarts_lawfully s p a h lawful may =
+    subst (λ (o : Option Process). Lawfully (restarts_as s p a o)) (sym may.restarts) (restarts_as_lawfully s p a may.process h lawful may.lawful)
+
+-- a process is told to move
+told_lawfully : (s : KernelState) (p : Pid) (r : Result Message MoveNo) → IsLawfulState s → IfOk r IsLawfulMessage → Lawfully (told_to_move s p r)
+told_lawfully s p (Ok m) h lawful =
+    record { state = record { records = h.records; room = h.room; inbox = h.inbox; servers = h.servers }; parts = routed m lawful }
+told_lawfully s p (Err no.Unknown) h lawful = record { state = h; parts = said none_said }
+told_lawfully s p (Err no.Pinned) h lawful = record { state = h; parts = said none_said }
+
+asks_manager_lawfully : (s : KernelState) (p : Pid) (machine : ℕ) (o : Option Servers) → s.here < 16 → IsMachine machine → IsLawfulState s → IfSome o IsLawfulPair → Lawfully (asks_manager s p machine o)
+asks_manager_lawfully s p machine None here to h pair = tt
+asks_manager_lawfully s p machine (Some v) here to h pair =
+    told_lawfully s p (moves_child v.manager.children p machine (own_id s)) h (moves_lawful v.manager.children p machine (own_id s) pair.manager.children to (omega arith) refl)
+
+pub asks_move_lawfully : (s : KernelState) (p : Pid) (machine : ℕ) → s.here < 16 → IsMachine machine → IsLawfulState s → Lawfully (asks_move s p machine)
+asks_move_lawfully s p machine here to h = asks_manager_lawfully s p machine s.servers here to h h.servers

@@ -1,0 +1,65 @@
+-- What a machine does where a process comes to it.
+use Rattle.std.specs.Prelude.{ℕ, ◌==◌, Bool, true, false, if◌then◌else◌, [], ◌∷◌, ◌++◌}
+use Rattle.std.specs.declared.option.Option.{Option}
+use Rattle.std.specs.declared.option.Option.TheVariants.{None, Some}
+use Rattle.dm_link.specs.declared.Pid.{Pid}
+use Rattle.dm_message.specs.declared.Asker.{Asker}
+use Rattle.dm_message.specs.declared.Message.{Message}
+use Rattle.dm_message.specs.declared.MsgId.{MsgId}
+use Rattle.dm_message.specs.declared.What.TheVariants as what
+use Rattle.dm_process.specs.declared.process.Process.{Process}
+use Rattle.dm_room.specs.Room.{free_blocks, free_slots, has_room, with_reserved}
+use Rattle.dm_forward.specs.declared.record.Record.TheVariants.{Here, Incoming}
+use Rattle.dm_forward.specs.Records.{with_record}
+use Rattle.dm_migrate.specs.declared.arriving.Wanted.{Wanted}
+use Rattle.dm_migrate.specs.declared.arriving.Wanted.TheVariants.{Chunk, Block, Nothing}
+use Rattle.dm_migrate.specs.Arrival.{Arrival, expected, pull, restarted, with_held, with_piece}
+use Rattle.dm_onekernel.specs.declared.boot.Boot.{Boot}
+use Rattle.dm_onekernel.specs.Boot.{slots_of}
+use Rattle.dm_rule.specs.declared.line.Line.{Line}
+use Rattle.dm_rule.specs.declared.line.Line.TheVariants as line
+use Rattle.dm_rule.specs.declared.line.Stage.TheVariants as stage
+use Rattle.dm_kernel.specs.declared.part.Part.TheVariants.{Says, Routes}
+use Rattle.dm_kernel.specs.State.{KernelState, Turned, own, turned, with_known, with_sent}
+use Rattle.dm_kernel.specs.Departing.{takes_step}
+
+-- a process asks to come: its slot and its blocks are taken, and its first chunk is asked for; or what is free is said
+abbrev pub with_expected : Boot → KernelState → Pid → ℕ → ℕ → ℕ → Option Asker → KernelState
+with_expected b s p blocks moves size asker =
+    record s { records = with_record s.records p (Incoming (expected p blocks moves size asker (slots_of b.format))); room = with_reserved s.room blocks }
+
+abbrev pub accepts : Boot → KernelState → Message → Pid → ℕ → ℕ → ℕ → Option Asker → Bool → Option Turned
+accepts b s m p blocks moves size asker true =
+    turned (with_sent (with_expected b s p blocks moves size asker)) (takes_step stage.Accepted p ∷ Routes (own s m.sender (what.PullState p 0)) ∷ [])
+accepts b s m p blocks moves size asker false =
+    turned (with_sent s) (Says (line.Lacks p (free_slots s.room) (free_blocks s.room)) ∷ Routes (own s m.sender (what.Refuse p (free_slots s.room) (free_blocks s.room))) ∷ [])
+
+abbrev pub answers_ask : Boot → KernelState → Message → Pid → ℕ → ℕ → ℕ → Option Asker → Option Turned
+answers_ask b s m p blocks moves size asker = accepts b s m p blocks moves size asker (has_room s.room blocks)
+
+-- a message for a process that comes waits until it is here
+abbrev pub holds_arriving : KernelState → Message → Arrival → Option Turned
+holds_arriving s m a = turned (with_known s m.to.pid (Incoming (with_held a m))) (Says (line.Held m.id) ∷ [])
+
+-- what is said of a piece, by what is asked for after it: the last chunk and the last block are steps
+abbrev pub piece_line : MsgId → Pid → Wanted → Line
+piece_line id p (Chunk k) = line.Proto id
+piece_line id p (Block k) = if k == 0 then line.Migration stage.StateTaken p else line.Proto id
+piece_line id p Nothing = line.Migration stage.MemoryTaken p
+
+-- a piece has come, and the next is asked for, or all is said to have come
+abbrev pub took_piece : KernelState → Message → Pid → Option Arrival → Option Turned
+took_piece s m p None = None
+took_piece s m p (Some a) = turned (with_sent (with_known s p (Incoming a))) (Says (piece_line m.id p a.wanted) ∷ Routes (own s m.sender (pull a.pid a.wanted)) ∷ [])
+
+abbrev pub takes_piece : KernelState → Message → Pid → Arrival → Option Turned
+takes_piece s m p a = took_piece s m p (with_piece a m.what)
+
+-- it is here: it is served from now on, and what was held is handled first
+abbrev pub restarts_as : KernelState → Pid → Arrival → Option Process → Option Turned
+restarts_as s p a None = None
+restarts_as s p a (Some x) =
+    turned (record s { records = with_record s.records p (Here x); ring = s.ring ++ p ∷ []; inbox = a.held ++ s.inbox }) (takes_step stage.Restarted p ∷ [])
+
+abbrev pub restarts : KernelState → Pid → Arrival → Option Turned
+restarts s p a = restarts_as s p a (restarted a)

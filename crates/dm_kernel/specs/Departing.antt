@@ -1,0 +1,62 @@
+-- What a machine does where a process leaves it.
+use Rattle.std.specs.Prelude.{ℕ, ◌+◌, ◌==◌, if◌then◌else◌, List, [], ◌∷◌, ◌++◌, length, map}
+use Rattle.std.specs.declared.option.Option.{Option}
+use Rattle.std.specs.declared.option.Option.TheVariants.{None}
+use Rattle.dm_link.specs.declared.Pid.{Pid}
+use Rattle.dm_linkupdate.specs.Notice.{kernel_at}
+use Rattle.dm_message.specs.declared.Message.{Message}
+use Rattle.dm_message.specs.declared.What.{What}
+use Rattle.dm_message.specs.declared.What.TheVariants as what
+use Rattle.dm_process.specs.declared.process.Process.{Process}
+use Rattle.dm_room.specs.Room.{with_released}
+use Rattle.dm_forward.specs.declared.record.Record.TheVariants.{Here, Frozen, Forward}
+use Rattle.dm_forward.specs.Records.{with_record}
+use Rattle.dm_migrate.specs.Departure.{Departure, all_sent_on, ask_of, frozen, with_held}
+use Rattle.dm_rule.specs.declared.line.Line.TheVariants as line
+use Rattle.dm_rule.specs.declared.line.Stage.{Stage}
+use Rattle.dm_rule.specs.declared.line.Stage.TheVariants as stage
+use Rattle.dm_rule.specs.Sets.{without}
+use Rattle.dm_kernel.specs.declared.part.Part.{Part}
+use Rattle.dm_kernel.specs.declared.part.Part.TheVariants.{Says, Routes}
+use Rattle.dm_kernel.specs.State.{KernelState, Turned, blocks_of, own, turned, with_known, with_sent}
+
+-- a step of a migration
+abbrev pub takes_step : Stage → Pid → Part
+takes_step step p = Says (line.Migration step p)
+
+-- the process is frozen: it leaves the ring, and the other machine is asked
+abbrev pub with_frozen : KernelState → Pid → Process → ℕ → KernelState
+with_frozen s p x machine = record s { records = with_record s.records p (Frozen (frozen x machine None)); ring = without p s.ring }
+
+abbrev pub freezes : KernelState → Pid → Process → ℕ → Option Turned
+freezes s p x machine =
+    turned (with_sent (with_frozen s p x machine)) (takes_step stage.Frozen p ∷ takes_step stage.Asked p ∷ Routes (own s (kernel_at machine) (ask_of x None)) ∷ [])
+
+-- a process that is told to move to where it is stays as it is
+abbrev pub migrates : KernelState → Message → Process → ℕ → Option Turned
+migrates s m x machine = if machine == s.here then turned s (Says (line.Here m.id) ∷ []) else freezes s m.to.pid x machine
+
+-- a message for a process that leaves waits until it has gone, or stays
+abbrev pub holds_leaving : KernelState → Message → Departure → Option Turned
+holds_leaving s m d = turned (with_known s m.to.pid (Frozen (with_held d m))) (Says (line.Held m.id) ∷ [])
+
+-- it stays: it is served again, and what was held is handled first
+abbrev pub stays : KernelState → Pid → Departure → Option Turned
+stays s p d =
+    turned (record s { records = with_record s.records p (Here d.process); ring = s.ring ++ p ∷ []; inbox = d.held ++ s.inbox }) (Says (line.Stays p) ∷ [])
+
+-- a piece of it goes to the machine that asks for it
+abbrev pub gives_piece : KernelState → Message → What → Option Turned
+gives_piece s m w = turned (with_sent s) (Says (line.Proto m.id) ∷ Routes (own s m.sender w) ∷ [])
+
+-- it has gone: its slot and its blocks are free, the messages that wait for it go on, and the other machine may let it go on
+abbrev pub without_leaving : KernelState → Pid → Departure → KernelState
+without_leaving s p d =
+    record s { records = with_record s.records p (Forward d.to (d.process.moves + 1)); room = with_released s.room (blocks_of d.process) }
+
+abbrev pub departs : KernelState → Pid → Departure → List Part
+departs s p d =
+    Says (line.SentOn p (length (all_sent_on d))) ∷ map Routes (all_sent_on d) ++ takes_step stage.Left p ∷ Routes (own s (kernel_at d.to) (what.Restart p)) ∷ []
+
+abbrev pub leaves : KernelState → Pid → Departure → Option Turned
+leaves s p d = turned (with_sent (without_leaving s p d)) (departs s p d)

@@ -1,0 +1,34 @@
+//! How a process is told to move.
+ghost use Rattle.std.specs.Prelude.{◌≡◌};
+ghost use Rattle.dm_kernel.specs.Asking.{asks_move};
+ghost use Rattle.dm_kernel.specs.May.{MayAskMove};
+ghost use Rattle.dm_kernel.specs.Meets.{Answers, state_of};
+
+use crate::kernel::Kernel;
+use crate::part::Part;
+use dm_link::Pid;
+use dm_memory::NoMemory;
+use dm_procman::MoveNo;
+use dm_rule::line::Line;
+
+impl Kernel {
+    /// Has the manager tell a process to move to a machine, where it is one of its children. Answers what the machine
+    /// says and routes, in order.
+    pub fn ask_move(&mut self, pid: Pid, to: u8) -> Result<Vec<Part>, NoMemory>
+        requires { MayAskMove (state_of self.old) }
+        ensures { Answers result self.new (asks_move (state_of self.old) pid to) }
+    {
+        let id = self.own_id();
+        match &self.servers {
+            Some(servers) => match servers.manager.ask_move(pid, to, id) {
+                Ok(message) => {
+                    self.sent += 1;
+                    Ok(vec![in self.alloc; Part::Routes(message)]?)
+                }
+                Err(MoveNo::Unknown) => self.say(Line::NoChild(pid)),
+                Err(MoveNo::Pinned) => self.say(Line::Pinned(pid)),
+            },
+            None => unreachable!(),
+        }
+    }
+}

@@ -1,0 +1,221 @@
+//! What a machine's kernel does where a process leaves it.
+ghost use Rattle.std.specs.Prelude.{◌≡◌, ◌<◌, ◌+◌, ◌++◌, ◌∷◌, [], IfOk, IsSome, OnOk, length, map};
+ghost use Rattle.dm_forward.specs.Records.{at, frozen_of, here_of};
+ghost use Rattle.dm_migrate.specs.Departure.{Departure};
+ghost use Rattle.dm_migrate.specs.Pieces.{HasBlock, HasChunk, block_of, chunk_of, state_of as state_bytes};
+ghost use Rattle.dm_onekernel.specs.Options.{bind};
+ghost use Rattle.dm_kernel.specs.Departing.{freezes, gives_piece, holds_leaving, leaves, migrates, stays, takes_step};
+ghost use Rattle.dm_kernel.specs.May.{IsSuch, MayLeave};
+ghost use Rattle.dm_kernel.specs.Meets.{Answers, state_of};
+ghost use Rattle.dm_kernel.specs.Served.{CanFreeze, IsHere, LeavesFor};
+ghost use Rattle.dm_rule.specs.declared.line.Line.TheVariants as line_;
+ghost use Rattle.dm_rule.specs.declared.line.Stage.TheVariants as stage_;
+
+use crate::kernel::Kernel;
+use crate::own::kernel_at;
+use crate::part::Part;
+use crate::ring::leave;
+use dm_forward::Record;
+use dm_link::Pid;
+use dm_memory::NoMemory;
+use dm_message::{Message, What};
+use dm_migrate::freeze;
+use dm_rule::line::{Line, Stage};
+
+impl Kernel {
+    /// Lets a process leave for a machine, if it isn't there.
+    pub(crate) fn migrate(&mut self, message: &Message, to: u8) -> Result<Vec<Part>, NoMemory>
+        requires sent { self.old.sent < 4294967295 }
+        requires process { IsHere CanFreeze (at self.old.records message.now.to.pid) }
+        ensures { Answers result self.new (bind (here_of (at self.old.records message.now.to.pid)) (λ x. migrates (state_of self.old) message.now x to)) }
+    {
+        if to == self.here {
+            self.say(Line::Here(message.id))
+        } else {
+            self.freeze(message.to.pid, to)
+        }
+    }
+
+    /// Freezes a process that is to leave for a machine: it isn't served any more, and that machine is asked.
+    fn freeze(&mut self, pid: Pid, to: u8) -> Result<Vec<Part>, NoMemory>
+        requires sent { self.old.sent < 4294967295 }
+        requires process { IsHere CanFreeze (at self.old.records pid) }
+        ensures { Answers result self.new (bind (here_of (at self.old.records pid)) (λ x. freezes (state_of self.old) pid x to)) }
+    {
+        match self.records.swap(pid, Record::Forward { at: to, moves: 0 }) {
+            Record::Here(process) => match freeze(self.alloc, process, to, None) {
+                Ok((leaving, ask)) => {
+                    self.records.put(pid, Record::Frozen(leaving));
+                    leave(&mut self.ring, pid);
+                    let ask = self.send(kernel_at(to), ask);
+                    self.say_asked(pid, ask)
+                }
+                Err((_, e)) => Err(e),
+            },
+            _ => unreachable!(),
+        }
+    }
+
+    /// What is said of a process that is frozen, and the ask that goes out.
+    fn say_asked(&self, pid: Pid, ask: Message) -> Result<Vec<Part>, NoMemory>
+        ensures { IfOk result (λ parts. parts.items ≡ takes_step stage_.Frozen pid ∷ takes_step stage_.Asked pid ∷ Part.Routes ask ∷ []) }
+    {
+        let frozen = step(Stage::Frozen, pid);
+        Ok(vec![in self.alloc; frozen, step(Stage::Asked, pid), Part::Routes(ask)]?)
+    }
+
+    /// Keeps a message for a process that leaves.
+    pub(crate) fn hold_leaving(&mut self, message: Message) -> Result<Vec<Part>, NoMemory>
+        requires { IsSome (frozen_of (at self.old.records message.to.pid)) }
+        ensures { Answers result self.new (bind (frozen_of (at self.old.records message.to.pid)) (λ d. holds_leaving (state_of self.old) message d)) }
+    {
+        let id = message.id;
+        match self.records.frozen_mut(message.to.pid) {
+            Some(leaving) => match leaving.hold(message) {
+                Ok(()) => self.say(Line::Held(id)),
+                Err((_, e)) => Err(e),
+            },
+            None => unreachable!(),
+        }
+    }
+
+    /// Lets a process that was to leave stay: it is served again, and what was held is handled first.
+    pub(crate) fn stay(&mut self, pid: Pid) -> Result<Vec<Part>, NoMemory>
+        requires { IsSome (frozen_of (at self.old.records pid)) }
+        ensures { Answers result self.new (bind (frozen_of (at self.old.records pid)) (stays (state_of self.old) pid)) }
+    {
+        let here = self.here;
+        match self
+            .records
+            .swap(pid, Record::Forward { at: here, moves: 0 })
+        {
+            Record::Frozen(leaving) => {
+                let (process, held) = leaving.stay();
+                self.go_on(pid, process, held)?;
+                self.say(Line::Stays(pid))
+            }
+            _ => unreachable!(),
+        }
+    }
+
+    /// Gives a chunk of the state bytes of a process that leaves.
+    pub(crate) fn give_chunk(
+        &mut self,
+        message: &Message,
+        pid: Pid,
+        chunk: u32,
+    ) -> Result<Vec<Part>, NoMemory>
+        requires sent { self.old.sent < 4294967295 }
+        requires chunk { IsSuch (λ (d : Departure). HasChunk (state_bytes d.process) chunk) (frozen_of (at self.old.records pid)) }
+        ensures { Answers result self.new (bind (frozen_of (at self.old.records pid)) (λ d. gives_piece (state_of self.old) message.now (chunk_of d.process.pid (state_bytes d.process) chunk))) }
+    {
+        match self.records.borrow(pid) {
+            Record::Frozen(leaving) => {
+                let piece = leaving.chunk(chunk);
+                self.give(message, piece)
+            }
+            _ => unreachable!(),
+        }
+    }
+
+    /// Gives a block of the memory of a process that leaves.
+    pub(crate) fn give_block(
+        &mut self,
+        message: &Message,
+        pid: Pid,
+        block: u8,
+    ) -> Result<Vec<Part>, NoMemory>
+        requires sent { self.old.sent < 4294967295 }
+        requires block { IsSuch (λ (d : Departure). HasBlock d.process.memory block) (frozen_of (at self.old.records pid)) }
+        ensures { Answers result self.new (bind (frozen_of (at self.old.records pid)) (λ d. gives_piece (state_of self.old) message.now (block_of d.process.pid d.process.memory block))) }
+    {
+        match self.records.borrow(pid) {
+            Record::Frozen(leaving) => {
+                let piece = leaving.block(block);
+                self.give(message, piece)
+            }
+            _ => unreachable!(),
+        }
+    }
+
+    /// Sends a piece to who asked for it.
+    fn give(&mut self, message: &Message, piece: What) -> Result<Vec<Part>, NoMemory>
+        requires { self.old.sent < 4294967295 }
+        ensures { Answers result self.new (gives_piece (state_of self.old) message.now piece) }
+    {
+        let piece = self.send(message.sender, piece);
+        self.say_and_route(Line::Proto(message.id), piece)
+    }
+
+    /// Lets a process go, of which all has come to the other machine: what waits for it goes on.
+    pub(crate) fn let_go(&mut self, pid: Pid) -> Result<Vec<Part>, NoMemory>
+        requires sent { self.old.sent < 4294967295 }
+        requires process { IsSuch (MayLeave self.old.room) (frozen_of (at self.old.records pid)) }
+        ensures { Answers result self.new (bind (frozen_of (at self.old.records pid)) (leaves (state_of self.old) pid)) }
+    {
+        match self.records.borrow(pid) {
+            Record::Frozen(leaving) => {
+                let to = leaving.to();
+                let moves = leaving.process().moves + 1;
+                self.leave_for(pid, to, moves)
+            }
+            _ => unreachable!(),
+        }
+    }
+
+    /// Lets a process go to a machine, where it is after so many moves.
+    fn leave_for(&mut self, pid: Pid, to: u8, moves: u32) -> Result<Vec<Part>, NoMemory>
+        requires sent { self.old.sent < 4294967295 }
+        requires process { IsSuch (LeavesFor self.old.room to moves) (frozen_of (at self.old.records pid)) }
+        ensures { Answers result self.new (bind (frozen_of (at self.old.records pid)) (leaves (state_of self.old) pid)) }
+    {
+        match self.records.swap(pid, Record::Forward { at: to, moves }) {
+            Record::Frozen(leaving) => {
+                self.room.release(leaving.process().memory.blocks());
+                match leaving.leave() {
+                    Ok((messages, _)) => {
+                        let restart = self.send(kernel_at(to), What::Restart { pid });
+                        self.say_left(pid, messages, restart)
+                    }
+                    Err((_, e)) => Err(e),
+                }
+            }
+            _ => unreachable!(),
+        }
+    }
+
+    /// What is said of a process that has gone, with the messages that go on to it and the one that lets it go on.
+    fn say_left(
+        &self,
+        pid: Pid,
+        messages: Vec<Message>,
+        restart: Message,
+    ) -> Result<Vec<Part>, NoMemory>
+        requires { length messages.items < 4294967295 }
+        ensures { IfOk result (λ parts. parts.items ≡ Part.Says (line_.SentOn pid (length messages.items)) ∷ map Part.Routes messages.items ++ takes_step stage_.Left pid ∷ Part.Routes restart ∷ []) }
+    {
+        let count = messages.len() as u32;
+        let mut parts = vec![in self.alloc; Part::Says(Line::SentOn { pid, count })]?;
+        route_all(messages, &mut parts)?;
+        parts.push(step(Stage::Left, pid))?;
+        parts.push(Part::Routes(restart))?;
+        Ok(parts)
+    }
+}
+
+/// What is said of a step of a migration.
+pub(crate) fn step(step: Stage, pid: Pid) -> Part
+    ensures { result ≡ takes_step step pid }
+{
+    Part::Says(Line::Migration { step, pid })
+}
+
+/// Routes messages, in order.
+fn route_all(messages: Vec<Message>, parts: &mut Vec<Part>) -> Result<(), NoMemory>
+    ensures { OnOk result (parts.new.items ≡ parts.old.items ++ map Part.Routes messages.items) }
+{
+    for message in messages {
+        parts.push(Part::Routes(message))?;
+    }
+    Ok(())
+}

@@ -1,0 +1,100 @@
+//! How a message follows a process that has gone on, and how links follow it.
+ghost use Rattle.std.specs.Prelude.{◌≡◌, ◌<◌, ◌+◌, ◌^◌, ◌∷◌, [], IfOk, IfSome, IsSome, length};
+ghost use Rattle.dm_forward.specs.Records.{at, here_of};
+ghost use Rattle.dm_onekernel.specs.Options.{bind};
+ghost use Rattle.dm_kernel.specs.Following.{board_follows, forwards, manager_follows, process_follows};
+ghost use Rattle.dm_kernel.specs.Meets.{Answers, state_of};
+ghost use Rattle.dm_rule.specs.declared.line.Line.TheVariants as line_;
+
+use crate::kernel::Kernel;
+use crate::part::Part;
+use dm_link::{Addr, Placeless};
+use dm_linkupdate::{apply, notice};
+use dm_memory::NoMemory;
+use dm_message::{Message, MsgId};
+use dm_rule::line::Line;
+
+impl Kernel {
+    /// Sends a message on to the machine where its receiver has gone by so many moves, and tells its sender, if its kind
+    /// has an update.
+    pub(crate) fn forward(
+        &mut self,
+        message: Message,
+        to: u8,
+        moves: u32,
+    ) -> Result<Vec<Part>, NoMemory>
+        requires { self.old.sent < 4294967295 }
+        ensures { Answers result self.new (forwards (state_of self.old) message to moves) }
+    {
+        let mut message = message;
+        let update = notice(&message, self.own_id(), self.here, to, moves);
+        let said = Part::Says(Line::Forwarded { id: message.id, to });
+        message.relocate(to, moves);
+        match update {
+            Some(update) => {
+                self.sent += 1;
+                Ok(vec![in self.alloc; said, Part::Routes(message), Part::Routes(update)]?)
+            }
+            None => Ok(vec![in self.alloc; said, Part::Routes(message)]?),
+        }
+    }
+
+    /// Lets the links of a process, and its data move, follow the process that an update names.
+    pub(crate) fn follow(&mut self, message: &Message, about: Addr) -> Result<Vec<Part>, NoMemory>
+        requires { IsSome (here_of (at self.old.records message.now.to.pid)) }
+        ensures { Answers result self.new (bind (here_of (at self.old.records message.now.to.pid)) (λ x. process_follows (state_of self.old) message.now x about)) }
+    {
+        match self.records.here_mut(message.to.pid) {
+            Some(process) => {
+                let count = apply(process, about.pid, about.at, about.moves);
+                self.say_updated(message.id, u32::from(count))
+            }
+            None => unreachable!(),
+        }
+    }
+
+    /// Lets the links of the switchboard follow.
+    pub(crate) fn follow_board(
+        &mut self,
+        message: &Message,
+        about: Addr,
+    ) -> Result<Vec<Part>, NoMemory>
+        requires servers { IsSome self.old.servers }
+        requires few { IfSome self.old.servers (λ v. length v.board.names < 2 ^ 31) }
+        ensures { Answers result self.new (bind self.old.servers (λ v. board_follows (state_of self.old) message.now v about)) }
+    {
+        match &mut self.servers {
+            Some(servers) => {
+                let count = servers.board.retarget(about.pid, about.at, about.moves);
+                self.say_updated(message.id, count)
+            }
+            None => unreachable!(),
+        }
+    }
+
+    /// Lets the addresses of the manager follow.
+    pub(crate) fn follow_manager(
+        &mut self,
+        message: &Message,
+        about: Addr,
+    ) -> Result<Vec<Part>, NoMemory>
+        requires servers { IsSome self.old.servers }
+        requires few { IfSome self.old.servers (λ v. length v.manager.children + length v.manager.pending < 2 ^ 31) }
+        ensures { Answers result self.new (bind self.old.servers (λ v. manager_follows (state_of self.old) message.now v about)) }
+    {
+        match &mut self.servers {
+            Some(servers) => {
+                let count = servers.manager.retarget(about.pid, about.at, about.moves);
+                self.say_updated(message.id, count)
+            }
+            None => unreachable!(),
+        }
+    }
+
+    /// The one part of a turn in which so many links followed a process.
+    pub(crate) fn say_updated(&self, id: MsgId, count: u32) -> Result<Vec<Part>, NoMemory>
+        ensures { IfOk result (λ parts. parts.items ≡ Part.Says (line_.Updated id count) ∷ []) }
+    {
+        self.say(Line::Updated { id, count })
+    }
+}

@@ -1,0 +1,65 @@
+//! The messages that a machine's kernel sends itself.
+ghost use Rattle.std.specs.Prelude.{◌≡◌, ◌<◌, ◌∷◌, [], IfOk};
+ghost use Rattle.dm_linkupdate.specs.Notice.{kernel_at};
+ghost use Rattle.dm_kernel.specs.Meets.{IsIn, state_of};
+ghost use Rattle.dm_kernel.specs.State.{own, own_id, with_sent};
+
+use crate::kernel::Kernel;
+use crate::part::Part;
+use dm_link::{Addr, Pid};
+use dm_memory::NoMemory;
+use dm_message::{Message, MsgId, What};
+use dm_rule::line::Line;
+
+impl Kernel {
+    /// The name of the next message that the kernel sends itself.
+    pub(crate) fn own_id(&self) -> MsgId
+        ensures { result ≡ own_id (state_of self.now) }
+    {
+        MsgId {
+            from: Pid {
+                home: self.here,
+                num: 0,
+            },
+            n: self.sent,
+            answer: false,
+        }
+    }
+
+    /// A message that the kernel sends itself, which it counts.
+    pub(crate) fn send(&mut self, to: Addr, what: What) -> Message
+        requires { self.old.sent < 4294967295 }
+        ensures message { result ≡ own (state_of self.old) to what }
+        ensures state { IsIn self.new (with_sent (state_of self.old)) }
+    {
+        let id = self.own_id();
+        self.sent += 1;
+        Message {
+            id,
+            to,
+            sender: kernel_at(self.here),
+            what,
+        }
+    }
+
+    /// The parts of a turn that says one line and sends one message.
+    pub(crate) fn say_and_route(&self, line: Line, message: Message) -> Result<Vec<Part>, NoMemory>
+        ensures { IfOk result (λ parts. parts.items ≡ Part.Says line ∷ Part.Routes message ∷ []) }
+    {
+        Ok(vec![in self.alloc; Part::Says(line), Part::Routes(message)]?)
+    }
+}
+
+/// The address of a machine's kernel.
+pub(crate) fn kernel_at(machine: u8) -> Addr
+    ensures { result ≡ kernel_at machine }
+{
+    Addr {
+        pid: Pid {
+            home: machine,
+            num: 0,
+        },
+        at: machine,
+        moves: 0,
+    }
+}
