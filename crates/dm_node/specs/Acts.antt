@@ -2,6 +2,7 @@
 use Rattle.std.specs.Prelude.{ℕ, zero, suc, ◌+◌, ◌-◌, ◌==◌, Bool, true, false, if◌then◌else◌, List, [], ◌∷◌, ◌++◌}
 use Rattle.std.specs.declared.option.Option.{Option}
 use Rattle.std.specs.declared.option.Option.TheVariants.{None, Some}
+use Rattle.dm_link.specs.declared.Pid.{Pid}
 use Rattle.dm_message.specs.declared.Message.{Message}
 use Rattle.dm_message.specs.Kinds.{kind_of}
 use Rattle.dm_packet.specs.declared.Packet.{Packet}
@@ -17,6 +18,7 @@ use Rattle.dm_rule.specs.declared.line.Line.TheVariants as line
 use Rattle.dm_kernel.specs.declared.part.Part.{Part}
 use Rattle.dm_kernel.specs.declared.part.Part.TheVariants as part
 use Rattle.dm_kernel.specs.State.{Turned}
+use Rattle.dm_kernel.specs.Asking as asking
 use Rattle.dm_kernel.specs.Turn as kernel
 use Rattle.dm_node.specs.State.{NodeState, here, with_sender, with_message, with_receiver}
 use Rattle.dm_node.specs.declared.out.Out.{Out}
@@ -70,6 +72,10 @@ turns n (Some t) = Some (acts (record n { kernel = t.state }) t.parts)
 -- a turn
 abbrev pub turn : Boot → NodeState → Option Acts
 turn b n = turns n (kernel.turn b n.kernel)
+
+-- the machine with the manager has it tell a process to move
+abbrev pub asks_move : NodeState → Pid → ℕ → Option Acts
+asks_move n p machine = turns n (asking.asks_move n.kernel p machine)
 
 -- a tick: all that is out and not acknowledged goes out again, by machine and by number
 abbrev pub count_out : Sending Message → ℕ

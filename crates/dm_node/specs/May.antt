@@ -22,6 +22,10 @@ pub record MayTurn (b : Boot) (n : NodeState) : Type 0 where
   pub acts : MayAct n
   pub kernel : kernel.MayTurn b n.kernel
 
+pub record MayAskMove (n : NodeState) : Type 0 where
+  pub acts : MayAct n
+  pub kernel : kernel.MayAskMove n.kernel
+
 -- a number comes from machine a that is in the window, and a count of what has gone out
 abbrev pub FitsLoad : NodeState → ℕ → Load Message → Type 0
 FitsLoad n a (Data k m) = (k < (n.receivers a).count + 8) × (k < 2 ^ 32 - 1)

@@ -3,15 +3,16 @@ ghost use Rattle.std.specs.Prelude.{◌≡◌, ◌<◌, ◌≤◌, ◌+◌, ◌^
 ghost use Rattle.std.specs.List.{All};
 ghost use Rattle.dm_onekernel.specs.Boot.{images_are_valid};
 ghost use Rattle.dm_kernel.specs.Lawful.{IsLawfulPart, IsLawfulState};
-ghost use Rattle.dm_node.specs.Acts.{acts, all_out, count_out, counts_out, first_out, tick, turn};
-ghost use Rattle.dm_node.specs.May.{MayAct, MayTurn};
+ghost use Rattle.dm_node.specs.Acts.{acts, all_out, asks_move, count_out, counts_out, first_out, tick, turn};
+ghost use Rattle.dm_node.specs.May.{MayAct, MayAskMove, MayTurn};
 ghost use Rattle.dm_node.specs.Meets.{Answers, AnswersSome, Gave, HasStreams, state_of};
 
 use crate::node::Node;
 use crate::out::Out;
 use crate::route::push;
 use crate::stop::Stop;
-use dm_kernel::{Part, turns_are_lawful};
+use dm_kernel::{Part, moves_are_asked_lawfully, turns_are_lawful};
+use dm_link::Pid;
 use dm_memory::NoMemory;
 use dm_onekernel::Boot;
 use dm_rule::line::Line;
@@ -28,6 +29,22 @@ impl Node {
     {
         turns_are_lawful();
         match self.kernel.turn(boot) {
+            Ok(parts) => self.act(parts, outs),
+            Err(e) => Err(Stop::NoMemory(e)),
+        }
+    }
+
+    /// Has the manager tell a process to move to a machine, on the machine where the manager is. What it gives comes to
+    /// the end of `outs`, and it stops as worn like a turn.
+    pub fn ask_move(&mut self, pid: Pid, to: u8, outs: &mut Vec<Out>) -> Result<(), Stop>
+        requires may { MayAskMove (state_of self.old) }
+        requires to { to < 16 }
+        requires lawful { IsLawfulState (state_of self.old).kernel }
+        requires streams { HasStreams self.old }
+        ensures { AnswersSome result self.new outs.old.items outs.new.items (asks_move (state_of self.old) pid to) }
+    {
+        moves_are_asked_lawfully();
+        match self.kernel.ask_move(pid, to) {
             Ok(parts) => self.act(parts, outs),
             Err(e) => Err(Stop::NoMemory(e)),
         }

@@ -1,0 +1,32 @@
+use Rattle.std.proofs.Common.{◌≡◌, List, arith, refl, subst, sym}
+use Rattle.std.specs.List.{All}
+use Rattle.std.specs.declared.option.Option.{Option}
+use Rattle.std.specs.declared.option.Option.TheVariants.{None, Some}
+use Rattle.dm_kernel.specs.declared.kernel.Kernel.{Kernel}
+use Rattle.dm_kernel.specs.declared.part.Part.{Part}
+use Rattle.dm_kernel.specs.Asking as kernel
+use Rattle.dm_kernel.specs.Lawful.{IsLawfulPart, IsLawfulTurned}
+use Rattle.dm_kernel.specs.Meets.{MeetsSome}
+use Rattle.dm_kernel.specs.State.{Turned}
+use Rattle.dm_link.specs.Lawful.{IsMachine}
+use Rattle.dm_node.specs.Meets.{state_of}
+use Rattle.dm_node.proofs.Parts.{turn_answered}
+use Rattle.dm_node.proofs.node.Node.ask_move.Goals as goal
+
+-- what was said is lawful, as all that asking gives
+lawful_parts : (k : Kernel) (ps : List Part) (o : Option Turned) → MeetsSome k ps o → ((t : Turned) → o ≡ Some t → IsLawfulTurned t) → All IsLawfulPart ps
+lawful_parts k ps None h f = absurd h
+lawful_parts k ps (Some t) h f = subst (All IsLawfulPart) (sym h.parts) (f t refl).parts.each
+
+pub act-requires-clause-parts : goal.act-requires-clause-parts
+act-requires-clause-parts c =
+    let n = state_of c.args.self.now in
+    let few : IsMachine c.args.to = omega (arith, c.requires.to) in
+    lawful_parts c.ask_move.new.self c.in-Ok.parts.items (kernel.asks_move n.kernel c.args.pid c.args.to) c.in-Ok.ensures
+    (λ t is. c.moves_are_asked_lawfully.ensures n.kernel c.args.pid c.args.to t c.requires.may.kernel.here few c.requires.lawful is)
+
+pub returns-in-Ok : goal.returns-in-Ok
+returns-in-Ok c =
+    let n = state_of c.args.self.now in
+    turn_answered c.act.result c.act.new.self n c.ask_move.new.self c.in-Ok.parts.items (kernel.asks_move n.kernel c.args.pid c.args.to) c.args.outs.now.items c.act.new.outs.items c.in-Ok.ensures
+    c.act.ensures
