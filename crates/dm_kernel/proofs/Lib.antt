@@ -9,3 +9,4 @@ pub mod LawfulMoves
 pub mod LawfulTurns
 pub mod LawfulStart
 pub mod Worked
+pub mod Moved

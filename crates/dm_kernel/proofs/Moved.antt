@@ -1,0 +1,132 @@
+-- A worked case, computed: what the kernels of two machines say where a process moves from the one to the other.
+use Rattle.std.proofs.Common.{◌≡◌, ℕ, ◌==◌, List, [], ◌∷◌, ◌++◌, map, refl, if◌then◌else◌}
+use Rattle.std.specs.declared.option.Option.{Option}
+use Rattle.std.specs.declared.option.Option.TheVariants.{None, Some}
+use Rattle.dm_link.specs.Names.{pid_of}
+use Rattle.dm_message.specs.declared.Message.{Message}
+use Rattle.dm_message.specs.Ids.{id_of}
+use Rattle.dm_message.specs.Kinds.{kind_of}
+use Rattle.dm_message.specs.declared.kind.MessageKind.TheVariants as kind
+use Rattle.dm_carry.specs.Shell.{registers, shell_of_bytes, spelling}
+use Rattle.dm_onekernel.specs.declared.boot.Boot.{Boot}
+use Rattle.dm_onekernel.specs.declared.boot.Format.TheVariants.{One}
+use Rattle.dm_onekernel.specs.Options.{bind}
+use Rattle.dm_rule.specs.declared.line.Line.{Line}
+use Rattle.dm_rule.specs.declared.line.Line.TheVariants as line
+use Rattle.dm_rule.specs.declared.line.Stage.TheVariants as stage
+use Rattle.dm_kernel.specs.declared.part.Part.{Part}
+use Rattle.dm_kernel.specs.declared.part.Part.TheVariants.{Says, Routes}
+use Rattle.dm_kernel.specs.Asking.{asks_move}
+use Rattle.dm_kernel.specs.Begun.{opened}
+use Rattle.dm_kernel.specs.State.{KernelState, Turned}
+use Rattle.dm_kernel.specs.Turn.{turn}
+
+-- the two machines
+record Pair : Type 0 where
+  zero : KernelState
+  one : KernelState
+
+-- the process on machine 0 is told to move, or a machine takes a turn
+data Event : Type 0 where
+  Asks : (machine : ℕ) → Event
+  Turns : (machine : ℕ) → Event
+
+abbrev line_of : ℕ → Part → Line
+line_of from (Says l) = l
+line_of from (Routes m) = line.Put from m.to.at m.id (kind_of m.what) m.to.pid
+
+-- what is routed comes at once
+abbrev comes_to : Pair → Message → Pair
+comes_to p m =
+    if m.to.at == 0 then record p { zero = record p.zero { inbox = p.zero.inbox ++ m ∷ [] } }
+    else record p { one = record p.one { inbox = p.one.inbox ++ m ∷ [] } }
+
+abbrev come : Pair → List Part → Pair
+come p [] = p
+come p (Says l ∷ parts) = come p parts
+come p (Routes m ∷ parts) = come (comes_to p m) parts
+
+-- machine 0 or machine 1
+abbrev acts : Boot → Pair → Event → Option Turned
+acts b p (Asks machine) = asks_move p.zero (pid_of 0 3) machine
+acts b p (Turns machine) = turn b (if machine == 0 then p.zero else p.one)
+
+abbrev machine_of : Event → ℕ
+machine_of (Asks machine) = 0
+machine_of (Turns machine) = machine
+
+abbrev set : Pair → ℕ → KernelState → Pair
+set p machine s = if machine == 0 then record p { zero = s } else record p { one = s }
+
+abbrev groups : Boot → Pair → List Event → Option (List (List Line))
+groups b p [] = Some []
+groups b p (e ∷ es) =
+    bind (acts b p e) (λ t. bind (groups b (come (set p (machine_of e) t.state) t.parts) es) (λ gs. Some (map (line_of (machine_of e)) t.parts ∷ gs)))
+
+-- one process of one block on machine 0
+abbrev places : ℕ → Boot
+places slots = record {
+  numbers = 1048576;
+  quantum = 16;
+  format = One;
+  machines = record { slots = 2; blocks = 2 } ∷ record { slots = slots; blocks = 2 } ∷ [];
+  images = record { bytes = 20 ∷ 0 ∷ 0 ∷ 7 ∷ []; blocks = 1 } ∷ [];
+  processes = record { pid = pid_of 0 3; image = 0; links = [] } ∷ [];
+}
+
+abbrev at_first : ℕ → Pair
+at_first slots = record { zero = opened (places slots) 0; one = opened (places slots) 1 }
+
+-- there is no slot: the process stays, and is served again
+refused : groups (places 0) (at_first 0) (Asks 1 ∷ Turns 0 ∷ Turns 1 ∷ Turns 0 ∷ [])
+    ≡ Some (
+    (line.Put 0 0 (id_of (pid_of 0 0) 0) kind.Migrate (pid_of 0 3) ∷ [])
+    ∷ (line.Migration stage.Frozen (pid_of 0 3) ∷ line.Migration stage.Asked (pid_of 0 3) ∷ line.Put 0 1 (id_of (pid_of 0 0) 1) kind.Ask (pid_of 1 0) ∷ [])
+    ∷ (line.Lacks (pid_of 0 3) 0 2 ∷ line.Put 1 0 (id_of (pid_of 1 0) 0) kind.Refuse (pid_of 0 0) ∷ [])
+    ∷ (line.Stays (pid_of 0 3) ∷ [])
+    ∷ [])
+unfolding spelling registers
+refused = refl
+
+-- it moves, is told to move back while it is on its way, and that message follows it
+moves : groups (places 2) (at_first 2) (Asks 1 ∷ Turns 0 ∷ Asks 0 ∷ Turns 0 ∷ Turns 1 ∷ Turns 0 ∷ Turns 1 ∷ Turns 0 ∷ Turns 1 ∷ Turns 0 ∷ Turns 1 ∷ Turns 1 ∷ Turns 1 ∷ Turns 0 ∷ Asks 1 ∷ Turns 0 ∷ [])
+    ≡ Some (
+    (line.Put 0 0 (id_of (pid_of 0 0) 0) kind.Migrate (pid_of 0 3) ∷ [])
+    ∷ (line.Migration stage.Frozen (pid_of 0 3) ∷ line.Migration stage.Asked (pid_of 0 3) ∷ line.Put 0 1 (id_of (pid_of 0 0) 1) kind.Ask (pid_of 1 0) ∷ [])
+    ∷ (line.Put 0 0 (id_of (pid_of 0 0) 2) kind.Migrate (pid_of 0 3) ∷ [])
+    ∷ (line.Held (id_of (pid_of 0 0) 2) ∷ [])
+    ∷ (line.Migration stage.Accepted (pid_of 0 3) ∷ line.Put 1 0 (id_of (pid_of 1 0) 0) kind.PullState (pid_of 0 0) ∷ [])
+    ∷ (line.Proto (id_of (pid_of 1 0) 0) ∷ line.Put 0 1 (id_of (pid_of 0 0) 3) kind.State (pid_of 1 0) ∷ [])
+    ∷ (line.Migration stage.StateTaken (pid_of 0 3) ∷ line.Put 1 0 (id_of (pid_of 1 0) 1) kind.PullBlock (pid_of 0 0) ∷ [])
+    ∷ (line.Proto (id_of (pid_of 1 0) 1) ∷ line.Put 0 1 (id_of (pid_of 0 0) 4) kind.Memory (pid_of 1 0) ∷ [])
+    ∷ (line.Migration stage.MemoryTaken (pid_of 0 3) ∷ line.Put 1 0 (id_of (pid_of 1 0) 2) kind.AllTaken (pid_of 0 0) ∷ [])
+    ∷ (line.SentOn (pid_of 0 3) 1 ∷ line.Put 0 1 (id_of (pid_of 0 0) 2) kind.Migrate (pid_of 0 3) ∷ line.Migration stage.Left (pid_of 0 3) ∷ line.Put 0 1 (id_of (pid_of 0 0) 5) kind.Restart (pid_of 1 0) ∷ [])
+    ∷ (line.Held (id_of (pid_of 0 0) 2) ∷ [])
+    ∷ (line.Migration stage.Restarted (pid_of 0 3) ∷ [])
+    ∷ (line.Migration stage.Frozen (pid_of 0 3) ∷ line.Migration stage.Asked (pid_of 0 3) ∷ line.Put 1 0 (id_of (pid_of 1 0) 3) kind.Ask (pid_of 0 0) ∷ [])
+    ∷ (line.Migration stage.Accepted (pid_of 0 3) ∷ line.Put 0 1 (id_of (pid_of 0 0) 6) kind.PullState (pid_of 1 0) ∷ [])
+    ∷ (line.Put 0 0 (id_of (pid_of 0 0) 7) kind.Migrate (pid_of 0 3) ∷ [])
+    ∷ (line.Held (id_of (pid_of 0 0) 7) ∷ [])
+    ∷ [])
+unfolding spelling registers shell_of_bytes
+moves = refl
+
+-- a message that comes to where it was goes on, and its sender is told
+follows : groups (places 2) (at_first 2) (Asks 1 ∷ Turns 0 ∷ Turns 1 ∷ Turns 0 ∷ Turns 1 ∷ Turns 0 ∷ Turns 1 ∷ Turns 0 ∷ Asks 1 ∷ Turns 0 ∷ Turns 0 ∷ Turns 1 ∷ Turns 1 ∷ [])
+    ≡ Some (
+    (line.Put 0 0 (id_of (pid_of 0 0) 0) kind.Migrate (pid_of 0 3) ∷ [])
+    ∷ (line.Migration stage.Frozen (pid_of 0 3) ∷ line.Migration stage.Asked (pid_of 0 3) ∷ line.Put 0 1 (id_of (pid_of 0 0) 1) kind.Ask (pid_of 1 0) ∷ [])
+    ∷ (line.Migration stage.Accepted (pid_of 0 3) ∷ line.Put 1 0 (id_of (pid_of 1 0) 0) kind.PullState (pid_of 0 0) ∷ [])
+    ∷ (line.Proto (id_of (pid_of 1 0) 0) ∷ line.Put 0 1 (id_of (pid_of 0 0) 2) kind.State (pid_of 1 0) ∷ [])
+    ∷ (line.Migration stage.StateTaken (pid_of 0 3) ∷ line.Put 1 0 (id_of (pid_of 1 0) 1) kind.PullBlock (pid_of 0 0) ∷ [])
+    ∷ (line.Proto (id_of (pid_of 1 0) 1) ∷ line.Put 0 1 (id_of (pid_of 0 0) 3) kind.Memory (pid_of 1 0) ∷ [])
+    ∷ (line.Migration stage.MemoryTaken (pid_of 0 3) ∷ line.Put 1 0 (id_of (pid_of 1 0) 2) kind.AllTaken (pid_of 0 0) ∷ [])
+    ∷ (line.SentOn (pid_of 0 3) 0 ∷ line.Migration stage.Left (pid_of 0 3) ∷ line.Put 0 1 (id_of (pid_of 0 0) 4) kind.Restart (pid_of 1 0) ∷ [])
+    ∷ (line.Put 0 0 (id_of (pid_of 0 0) 5) kind.Migrate (pid_of 0 3) ∷ [])
+    ∷ (line.Forwarded (id_of (pid_of 0 0) 5) 1 ∷ line.Put 0 1 (id_of (pid_of 0 0) 5) kind.Migrate (pid_of 0 3) ∷ line.Put 0 0 (id_of (pid_of 0 0) 6) kind.Update (pid_of 0 2) ∷ [])
+    ∷ (line.Updated (id_of (pid_of 0 0) 6) 1 ∷ [])
+    ∷ (line.Migration stage.Restarted (pid_of 0 3) ∷ [])
+    ∷ (line.Here (id_of (pid_of 0 0) 5) ∷ [])
+    ∷ [])
+unfolding spelling registers shell_of_bytes
+follows = refl
