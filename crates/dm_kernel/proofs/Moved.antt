@@ -1,7 +1,7 @@
--- A worked case, computed: what the kernels of two machines say where a process moves from the one to the other.
+-- Worked cases, computed: what the kernels of two machines say where a process moves from the one to the other.
 use Rattle.std.proofs.Common.{◌≡◌, ℕ, ◌==◌, List, [], ◌∷◌, ◌++◌, map, refl, if◌then◌else◌}
 use Rattle.std.specs.declared.option.Option.{Option}
-use Rattle.std.specs.declared.option.Option.TheVariants.{None, Some}
+use Rattle.std.specs.declared.option.Option.TheVariants.{Some}
 use Rattle.dm_link.specs.Names.{pid_of}
 use Rattle.dm_message.specs.declared.Message.{Message}
 use Rattle.dm_message.specs.Ids.{id_of}

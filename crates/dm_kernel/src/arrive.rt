@@ -195,6 +195,9 @@ fn put_before(
 ) -> Result<(), NoMemory>
     ensures { OnOk result (queue.new ≡ messages.items ++ queue.old) }
 {
+    if messages.is_empty() {
+        return Ok(());
+    }
     let mut all = Queue::new(alloc);
     push_all(messages, &mut all)?;
     move_all(queue, &mut all)?;
