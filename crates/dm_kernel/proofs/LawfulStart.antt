@@ -228,8 +228,7 @@ fresh_at_first b m valid =
     all_fresh b [] b.processes (empty b m) valid (few_machines (length b.machines) valid.few_machines) valid.processes
     (record { processes = λ p x e. absurd (cc); inbox = refl; servers = servers_lawfully b (m == 0) valid })
 
--- what each event keeps that a machine opens with: no process leaves, comes or has gone, and it has no more than packets
--- can tell of; its kernel has sent nothing yet
+-- what a machine opens with: no process leaves, comes or has gone, and it has no more than packets can tell of
 abbrev NoneMoves : Option Known → Type 0
 NoneMoves None = ⊤
 NoneMoves (Some (Here x)) = ⊤
@@ -241,7 +240,6 @@ NoneMoves (Some (Ended y)) = ⊥
 record Opens (s : KernelState) : Type 0 where
   known : (p : Pid) → NoneMoves (s.records p)
   room : IsLawfulRoom s.room
-  sent : s.sent ≡ 0
 
 none_or : (test : Bool) (x : Process) (o : Option Known) → NoneMoves o → NoneMoves (if test then Some (Here x) else o)
 none_or true x o h = tt
@@ -249,7 +247,7 @@ none_or false x o h = h
 
 child_opens : (s : KernelState) (p : Pid) (x : Process) (blocks : ℕ) → Opens s → Opens (with_child s p x blocks)
 child_opens s p x blocks h =
-    record { known = λ q. none_or (pid_eq p q) x (s.records q) (h.known q); room = same_room s.room _ _ h.room; sent = h.sent }
+    record { known = λ q. none_or (pid_eq p q) x (s.records q) (h.known q); room = same_room s.room _ _ h.room }
 
 opens_or : (test : Bool) (s t : KernelState) → Opens t → Opens s → Opens (if test then t else s)
 opens_or true s t h k = h
@@ -275,7 +273,7 @@ room_fits b m None valid at = record { slots = omega arith; blocks = omega arith
 room_fits b m (Some r) valid at = few_of b (0 + m) r (machine_fits b 0 b.machines m r valid.machines at)
 
 opens : (b : Boot) (m : ℕ) → IsValid b → Opens (opened b m)
-opens b m valid = all_open b (empty b m) b.processes (record { known = λ p. tt; room = room_fits b m (slice_get b.machines m) valid refl; sent = refl })
+opens b m valid = all_open b (empty b m) b.processes (record { known = λ p. tt; room = room_fits b m (slice_get b.machines m) valid refl })
 
 known_lawful : (o : Option Known) → NoneMoves o → ((x : Process) → o ≡ Some (Here x) → IsLawfulProcess x) → IfSome o IsLawfulKnown
 known_lawful None h k = tt
@@ -293,7 +291,6 @@ opened_may b m valid h =
     let here : (opened b m).here ≡ m = here_always b (empty b m) b.processes in
     record {
       here = subst (λ (k : ℕ). k < 16) (sym here) (omega arith);
-      sent = subst (λ (n : ℕ). n < 4294967295) (sym (opens b m valid).sent) (omega arith);
       processes =
           λ p x e.
           let f : Fresh (opened b m) p x = fresh.processes p x e in

@@ -6,6 +6,7 @@ use Rattle.std.proofs.lemmas.Grind.{common_steps}
 use Rattle.std.proofs.lemmas.List.Elements.{All-tail}
 use Rattle.std.specs.declared.option.Option.{Option}
 use Rattle.std.specs.declared.result.Result.TheVariants.{Ok}
+use Rattle.dm_link.specs.declared.Addr.{Addr}
 use Rattle.dm_link.specs.declared.Link.{Link}
 use Rattle.dm_link.specs.declared.Pid.{Pid}
 use Rattle.dm_link.specs.Lawful.{IsLawfulEnclosed, IsMachine}
@@ -62,7 +63,7 @@ use Rattle.dm_kernel.specs.Asking.{asks_move}
 use Rattle.dm_kernel.specs.Begun.{child_of}
 use Rattle.dm_kernel.specs.Coming.{restarts, takes_piece}
 use Rattle.dm_kernel.specs.Departing.{gives_piece, leaves, stays}
-use Rattle.dm_kernel.specs.Handle.{answers_with, board_handles, board_handles_what, board_took, ended_handles, handles, has_room, here_handles, kernel_handles, lands, lands_as, makes, makes_of, manager_handles, manager_handles_what, manager_took, next_pid, process_handles}
+use Rattle.dm_kernel.specs.Handle.{answers_with, board_handles, board_took, ended_handles, handles, has_room, here_handles, kernel_handles, lands, lands_as, makes, makes_of, manager_handles, manager_took, next_pid, process_handles, told_board, told_manager}
 use Rattle.dm_kernel.specs.Lawful.{IsLawfulArrival, IsLawfulDeparture, IsLawfulKnown, IsLawfulPair, IsLawfulState, IsLawfulTurned}
 use Rattle.dm_kernel.specs.May.{FitsEnded, FitsHere, FitsKernel, FrontMay, FitsKnown, FitsManager, FitsManagerWhat, IsSuch, MayHandle, MayRestart, MayTurn}
 use Rattle.dm_kernel.specs.Serve.{called_with, ends, halts, processor_of, ran, received_by, receives, serves, serves_status, with_machine}
@@ -188,7 +189,7 @@ lands_here s m x (Some d) machine h lawful awaited e =
     lands_as_lawfully s m d.process d.landed h both.process both.landed
 
 here_lawfully : (s : KernelState) (m : Message) (x : Process) (w : What) → s.here < 16 → IsLawfulState s → IsLawfulMessage m → IsLawfulWhat w → IsLawfulProcess x → ¬ IsServer x.pid
-    → FitsHere m x w → Lawfully (here_handles s m x w)
+    → FitsHere s m x w → Lawfully (here_handles s m x w)
 here_lawfully s m x (what.User code channel body links) machine h message what lawful none fits =
     record { state = with_process s m.to.pid _ h (with_queued x m lawful message); parts = said none_said }
 here_lawfully s m x what.Stop machine h message what lawful none fits =
@@ -223,7 +224,7 @@ ended_lawfully s m (what.Migrate to) machine h message fits = record { state = h
 ended_lawfully s m (what.Update about) machine h message fits = record { state = h; parts = said none_said }
 ended_lawfully s m w machine h message fits = absurd fits
 
-known_lawfully : (s : KernelState) (m : Message) (o : Option Known) → s.here < 16 → IsLawfulState s → IsLawfulMessage m → ((x : Process) → o ≡ Some (Here x) → ¬ IsServer x.pid) → FitsKnown m o
+known_lawfully : (s : KernelState) (m : Message) (o : Option Known) → s.here < 16 → IsLawfulState s → IsLawfulMessage m → ((x : Process) → o ≡ Some (Here x) → ¬ IsServer x.pid) → FitsKnown s m o
     → s.records m.to.pid ≡ o → Lawfully (process_handles s m o)
 known_lawfully s m None machine h message none fits e = tt
 known_lawfully s m (Some (Here x)) machine h message none fits e = here_lawfully s m x m.what machine h message message.what (of_known s m.to.pid (Some (Here x)) h e) (none x refl) fits
@@ -281,7 +282,7 @@ kernel_lawfully b s m (what.PullState pid chunk) machine images h message lawful
     each_leaving (s.records pid) (λ d. gives_piece s m (chunk_of d.process.pid (state_of d.process) chunk)) (h.records pid)
     (λ d e leaving.
     gives_lawfully s m (chunk_of d.process.pid (state_of d.process) chunk) machine h message refl
-    (chunk_lawfully d.process chunk leaving.process.home (such (λ (d : Departure). HasChunk (state_of d.process) chunk) (frozen_of (s.records pid)) d e fits)))
+    (chunk_lawfully d.process chunk leaving.process.home (such (λ (d : Departure). HasChunk (state_of d.process) chunk) (frozen_of (s.records pid)) d e fits.0)))
 kernel_lawfully b s m (what.State pid chunk last bytes) machine images h message lawful fits =
     each_arriving (s.records pid) (takes_piece s m pid) (h.records pid) (λ a e arriving. takes_lawfully s m pid a machine h message arriving)
 kernel_lawfully b s m (what.PullBlock pid block) machine images h message lawful fits =
@@ -297,8 +298,8 @@ kernel_lawfully b s m (what.Restart pid) machine images h message lawful fits =
 kernel_lawfully b s m w machine images h message lawful fits = absurd fits
 
 -- a message for a server
-board_what : (s : KernelState) (m : Message) (v : Servers) (w : What) → IsLawfulState s → IsLawfulPair v → IsLawfulMessage m → m.what ≡ w → Lawfully (board_took s m v (board.takes v.board w))
-board_what s m v (what.User code channel body links) h pair message is =
+board_what : (s : KernelState) (m : Message) (v : Servers) (w : What) → IsLawfulState s → IsLawfulPair v → IsLawfulMessage m → IsLawfulWhat w → m.what ≡ w → Lawfully (board_took s m v (board.takes v.board w))
+board_what s m v (what.User code channel body links) h pair message lawful is =
     let t = board.takes_request v.board body.items links.items in
     record {
       state =
@@ -314,20 +315,20 @@ board_what s m v (what.User code channel body links) h pair message is =
           };
       parts = said (routes_lawfully t.took.answer (answer_after (Ok t.took) v.board t.board m code channel body links body.items links.items is refl refl pair.board message));
     }
-board_what s m v w h pair message is = tt
-
-board_handles_lawfully : (s : KernelState) (m : Message) (v : Servers) (w : What) → IsLawfulState s → IsLawfulPair v → IsLawfulMessage m → IsLawfulWhat w → m.what ≡ w
-    → Lawfully (board_handles_what s m v w)
-board_handles_lawfully s m v (what.Update about) h pair message lawful is = board_follows_lawfully s m v about h pair lawful
-board_handles_lawfully s m v w h pair message lawful is = board_what s m v w h pair message is
+board_what s m v (what.Update about) h pair message lawful is = subst (λ (w : What). Lawfully (told_board s m v w)) (sym is) (board_follows_lawfully s m v about h pair lawful)
+board_what s m v w h pair message lawful is = subst (λ (w : What). Lawfully (told_board s m v w)) (sym is) tt
 
 board_lawfully : (s : KernelState) (m : Message) (o : Option Servers) → IsLawfulState s → IfSome o IsLawfulPair → IsLawfulMessage m → Lawfully (board_handles s m o)
 board_lawfully s m None h pair message = tt
-board_lawfully s m (Some v) h pair message = board_handles_lawfully s m v m.what h pair message message.what refl
+board_lawfully s m (Some v) h pair message = board_what s m v m.what h pair message message.what refl
+
+not_told : (s : KernelState) (m : Message) (v : Servers) (w : What) → ((about : Addr) → w ≡ what.Update about → ⊥) → Lawfully (told_manager s m v w)
+not_told s m v (what.Update about) h = absurd (h about refl)
+not_told s m v w h = tt
 
 manager_what : (s : KernelState) (m : Message) (v : Servers) (o : Option manage.Taken) → IsLawfulState s → IsLawfulPair v → IsLawfulMessage m → manage.IsForManager v.manager m.id.n m.what
     → manage.takes v.manager m.id.n m.what ≡ o → Lawfully (manager_took s m v o)
-manager_what s m v None h pair message fits e = tt
+manager_what s m v None h pair message fits e = (not_told s m v m.what (λ about is. absurd (subst (manage.IsForManager v.manager m.id.n) is fits)))
 manager_what s m v (Some t) h pair message fits e =
     record {
       state =
@@ -344,15 +345,16 @@ manager_what s m v (Some t) h pair message fits e =
       parts = said (routes_lawfully t.message (message_after (Ok t.message) v.manager t.manager m (heard v.manager m.id.n m.what fits) e pair.manager message));
     }
 
-manager_handles_lawfully : (s : KernelState) (m : Message) (v : Servers) (w : What) → IsLawfulState s → IsLawfulPair v → IsLawfulMessage m → IsLawfulWhat w → FitsManagerWhat v m.id.n w → m.what ≡ w
-    → Lawfully (manager_handles_what s m v w)
-manager_handles_lawfully s m v (what.Update about) h pair message lawful fits is = manager_follows_lawfully s m v about h pair lawful
-manager_handles_lawfully s m v w h pair message lawful fits is =
+manager_told_lawfully : (s : KernelState) (m : Message) (v : Servers) (w : What) → IsLawfulState s → IsLawfulPair v → IsLawfulMessage m → IsLawfulWhat w → FitsManagerWhat v m.id.n w → m.what ≡ w
+    → Lawfully (manager_took s m v (manage.takes v.manager m.id.n w))
+manager_told_lawfully s m v (what.Update about) h pair message lawful fits is =
+    subst (λ (w : What). Lawfully (told_manager s m v w)) (sym is) (manager_follows_lawfully s m v about h pair lawful)
+manager_told_lawfully s m v w h pair message lawful fits is =
     manager_what s m v (manage.takes v.manager m.id.n w) h pair message (subst (manage.IsForManager v.manager m.id.n) (sym is) fits.0) (ap (manage.takes v.manager m.id.n) is)
 
 manager_lawfully : (s : KernelState) (m : Message) (o : Option Servers) → IsLawfulState s → IfSome o IsLawfulPair → IsLawfulMessage m → FitsManager m o → Lawfully (manager_handles s m o)
 manager_lawfully s m None h pair message fits = tt
-manager_lawfully s m (Some v) h pair message fits = manager_handles_lawfully s m v m.what h pair message message.what fits refl
+manager_lawfully s m (Some v) h pair message fits = manager_told_lawfully s m v m.what h pair message message.what fits refl
 
 -- each process that is here bears its name
 abbrev AreNamed : KernelState → Type 0
@@ -386,9 +388,21 @@ fits_still : (b : Boot) (s : KernelState) (rest : List Message) (w : What) → F
 fits_still b s rest (what.Create image links) h = h
 fits_still b s rest w h = h
 
+known_still : (s : KernelState) (m : Message) (rest : List Message) (o : Option Known) → FitsKnown s m o → FitsKnown (record s { inbox = rest }) m o
+known_still s m rest None h = h
+known_still s m rest (Some (Here x)) h = here_still s m x rest m.what h
+  where
+    here_still : (s : KernelState) (m : Message) (x : Process) (rest : List Message) (w : What) → FitsHere s m x w → FitsHere (record s { inbox = rest }) m x w
+    here_still s m x rest (what.Migrate to) h = h
+    here_still s m x rest w h = h
+known_still s m rest (Some (Frozen d)) h = h
+known_still s m rest (Some (Incoming a)) h = h
+known_still s m rest (Some (Forward place moves)) h = h
+known_still s m rest (Some (Ended y)) h = h
+
 may_front : (b : Boot) (s : KernelState) (m : Message) (rest : List Message) → MayHandle b s m → MayHandle b (record s { inbox = rest }) m
 may_front b s m rest h =
-    record { lawful = h.lawful; for_kernel = λ is. fits_still b s rest m.what (h.for_kernel is); for_board = h.for_board; for_manager = h.for_manager; for_process = h.for_process }
+    record { lawful = h.lawful; for_kernel = λ is. fits_still b s rest m.what (h.for_kernel is); for_board = h.for_board; for_manager = h.for_manager; for_process = λ no nor none. known_still s m rest (s.records m.to.pid) (h.for_process no nor none) }
 
 round_lawfully : (b : Boot) (s : KernelState) (o : Option Pid) → s.here < 16 → IsLawfulState s → Lawfully (goes_round b s o)
 round_lawfully b s None machine h = record { state = h; parts = said none_said }

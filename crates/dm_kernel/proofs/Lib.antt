@@ -4,6 +4,7 @@ pub mod Known
 pub mod Serving
 pub mod Making
 pub mod Opening
+pub mod Fitting
 pub mod LawfulRows
 pub mod LawfulMoves
 pub mod LawfulTurns

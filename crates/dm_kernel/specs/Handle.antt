@@ -181,34 +181,34 @@ kernel_handles b s m (what.Moved outcome) = None
 kernel_handles b s m (what.CallOff pid) = None
 kernel_handles b s m (what.Bury pid) = None
 
--- a server takes a message, and sends at most one; or its links follow a process
+-- a server takes a message, and sends at most one; what it doesn't take is an update, and its links follow a process
 abbrev pub routes : Option Message → List Part
 routes None = []
 routes (Some m) = Routes m ∷ []
 
-abbrev pub board_took : KernelState → Message → Servers → Option board.Taken → Option Turned
-board_took s m v None = None
-board_took s m v (Some t) = turned (record s { servers = Some (record v { board = t.board }) }) (says (label.Took m.id) ∷ routes t.took.answer)
+abbrev pub told_board : KernelState → Message → Servers → What → Option Turned
+told_board s m v (what.Update about) = board_follows s m v about
+told_board s m v w = None
 
-abbrev pub board_handles_what : KernelState → Message → Servers → What → Option Turned
-board_handles_what s m v (what.Update about) = board_follows s m v about
-board_handles_what s m v w = board_took s m v (board.takes v.board w)
+abbrev pub board_took : KernelState → Message → Servers → Option board.Taken → Option Turned
+board_took s m v None = told_board s m v m.what
+board_took s m v (Some t) = turned (record s { servers = Some (record v { board = t.board }) }) (says (label.Took m.id) ∷ routes t.took.answer)
 
 abbrev pub board_handles : KernelState → Message → Option Servers → Option Turned
 board_handles s m None = None
-board_handles s m (Some v) = board_handles_what s m v m.what
+board_handles s m (Some v) = board_took s m v (board.takes v.board m.what)
+
+abbrev pub told_manager : KernelState → Message → Servers → What → Option Turned
+told_manager s m v (what.Update about) = manager_follows s m v about
+told_manager s m v w = None
 
 abbrev pub manager_took : KernelState → Message → Servers → Option manage.Taken → Option Turned
-manager_took s m v None = None
+manager_took s m v None = told_manager s m v m.what
 manager_took s m v (Some t) = turned (record s { servers = Some (record v { manager = t.manager }) }) (says (label.Took m.id) ∷ routes t.message)
-
-abbrev pub manager_handles_what : KernelState → Message → Servers → What → Option Turned
-manager_handles_what s m v (what.Update about) = manager_follows s m v about
-manager_handles_what s m v w = manager_took s m v (manage.takes v.manager m.id.n w)
 
 abbrev pub manager_handles : KernelState → Message → Option Servers → Option Turned
 manager_handles s m None = None
-manager_handles s m (Some v) = manager_handles_what s m v m.what
+manager_handles s m (Some v) = manager_took s m v (manage.takes v.manager m.id.n m.what)
 
 -- the receiver is a kernel, a server or a process
 abbrev pub handles : Boot → KernelState → Message → Option Turned

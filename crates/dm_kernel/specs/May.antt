@@ -38,20 +38,20 @@ pub record MayAct (s : KernelState) (p : Pid) (x : Process) : Type 0 where
   pub room : HasTaken s.room (blocks_of x)
 
 -- a message for a process that is here, a row a kind: a piece lies in its memory, an answer is the one that it waits for,
--- and it can move once more
-abbrev pub FitsHere : Message → Process → What → Type 0
-FitsHere m x (what.User code channel body links) = ⊤
-FitsHere m x what.Stop = ⊤
-FitsHere m x what.Resume = ⊤
-FitsHere m x what.Kill = ⊤
-FitsHere m x (what.Read base len) = IsWithin (length x.memory) m.what
-FitsHere m x (what.Write base bytes) = IsWithin (length x.memory) m.what
-FitsHere m x (what.Block bytes) = IsAwaited x.status m
-FitsHere m x what.Written = IsAwaited x.status m
-FitsHere m x what.Gone = IsAwaited x.status m
-FitsHere m x (what.Migrate machine) = x.moves < most
-FitsHere m x (what.Update about) = ⊤
-FitsHere m x w = ⊥
+-- it can move once more; a message that the kernel sends itself can be counted
+abbrev pub FitsHere : KernelState → Message → Process → What → Type 0
+FitsHere s m x (what.User code channel body links) = ⊤
+FitsHere s m x what.Stop = ⊤
+FitsHere s m x what.Resume = ⊤
+FitsHere s m x what.Kill = ⊤
+FitsHere s m x (what.Read base len) = IsWithin (length x.memory) m.what
+FitsHere s m x (what.Write base bytes) = IsWithin (length x.memory) m.what
+FitsHere s m x (what.Block bytes) = IsAwaited x.status m
+FitsHere s m x what.Written = IsAwaited x.status m
+FitsHere s m x what.Gone = IsAwaited x.status m
+FitsHere s m x (what.Migrate machine) = (x.moves < most) × (s.sent < most)
+FitsHere s m x (what.Update about) = ⊤
+FitsHere s m x w = ⊥
 
 abbrev pub FitsEnded : What → Type 0
 FitsEnded (what.User code channel body links) = ⊤
@@ -68,13 +68,13 @@ FitsEnded (what.Update about) = ⊤
 FitsEnded w = ⊥
 
 -- something is known of the receiver; what it may get waits or goes on where it leaves, comes or has gone
-abbrev pub FitsKnown : Message → Option Known → Type 0
-FitsKnown m None = ⊥
-FitsKnown m (Some (Here x)) = FitsHere m x m.what
-FitsKnown m (Some (Frozen leaving)) = ⊤
-FitsKnown m (Some (Incoming arriving)) = ⊤
-FitsKnown m (Some (Forward machine moves)) = ⊤
-FitsKnown m (Some (Ended y)) = FitsEnded m.what
+abbrev pub FitsKnown : KernelState → Message → Option Known → Type 0
+FitsKnown s m None = ⊥
+FitsKnown s m (Some (Here x)) = FitsHere s m x m.what
+FitsKnown s m (Some (Frozen leaving)) = ⊤
+FitsKnown s m (Some (Incoming arriving)) = ⊤
+FitsKnown s m (Some (Forward machine moves)) = s.sent < most
+FitsKnown s m (Some (Ended y)) = FitsEnded m.what
 
 -- there is such a value
 abbrev pub IsSuch : {X : Type 0} → (X → Type 0) → Option X → Type 0
@@ -98,13 +98,13 @@ pub record MayRestart (a : Arrival) : Type 0 where
 -- for that there is; to where it comes, the piece that was asked for, or it may go on
 abbrev pub FitsKernel : Boot → KernelState → What → Type 0
 FitsKernel b s (what.Create image links) = (image < length b.images) × (first_number + s.made < most)
-FitsKernel b s (what.Ask pid blocks moves size asker) = IsAskOfProcess (what.Ask pid blocks moves size asker)
+FitsKernel b s (what.Ask pid blocks moves size asker) = IsAskOfProcess (what.Ask pid blocks moves size asker) × (s.sent < most)
 FitsKernel b s (what.Refuse pid free_slots free_blocks) = IsSome (frozen_of (s.records pid))
-FitsKernel b s (what.PullState pid chunk) = IsSuch (λ d. HasChunk (state_of d.process) chunk) (frozen_of (s.records pid))
-FitsKernel b s (what.State pid chunk last bytes) = IsSuch (λ a. IsNextPiece a (what.State pid chunk last bytes)) (incoming_of (s.records pid))
-FitsKernel b s (what.PullBlock pid block) = IsSuch (λ d. HasBlock d.process.memory block) (frozen_of (s.records pid))
-FitsKernel b s (what.Memory pid block bytes) = IsSuch (λ a. IsNextPiece a (what.Memory pid block bytes)) (incoming_of (s.records pid))
-FitsKernel b s (what.AllTaken pid) = IsSuch (MayLeave s.room) (frozen_of (s.records pid))
+FitsKernel b s (what.PullState pid chunk) = IsSuch (λ d. HasChunk (state_of d.process) chunk) (frozen_of (s.records pid)) × (s.sent < most)
+FitsKernel b s (what.State pid chunk last bytes) = IsSuch (λ a. IsNextPiece a (what.State pid chunk last bytes)) (incoming_of (s.records pid)) × (s.sent < most)
+FitsKernel b s (what.PullBlock pid block) = IsSuch (λ d. HasBlock d.process.memory block) (frozen_of (s.records pid)) × (s.sent < most)
+FitsKernel b s (what.Memory pid block bytes) = IsSuch (λ a. IsNextPiece a (what.Memory pid block bytes)) (incoming_of (s.records pid)) × (s.sent < most)
+FitsKernel b s (what.AllTaken pid) = IsSuch (MayLeave s.room) (frozen_of (s.records pid)) × (s.sent < most)
 FitsKernel b s (what.Restart pid) = IsSuch MayRestart (incoming_of (s.records pid))
 FitsKernel b s w = ⊥
 
@@ -131,7 +131,7 @@ pub record MayHandle (b : Boot) (s : KernelState) (m : Message) : Type 0 where
   pub for_kernel : (m.to.pid.num == 0) ≡ true → FitsKernel b s m.what
   pub for_board : pid_eq m.to.pid switchboard ≡ true → FitsBoard m s.servers
   pub for_manager : pid_eq m.to.pid manager ≡ true → FitsManager m s.servers
-  pub for_process : (m.to.pid.num == 0) ≡ false → pid_eq m.to.pid switchboard ≡ false → pid_eq m.to.pid manager ≡ false → FitsKnown m (s.records m.to.pid)
+  pub for_process : (m.to.pid.num == 0) ≡ false → pid_eq m.to.pid switchboard ≡ false → pid_eq m.to.pid manager ≡ false → FitsKnown s m (s.records m.to.pid)
 
 abbrev pub FrontMay : Boot → KernelState → List Message → Type 0
 FrontMay b s [] = ⊤
@@ -139,7 +139,6 @@ FrontMay b s (m ∷ rest) = MayHandle b s m
 
 pub record MayTurn (b : Boot) (s : KernelState) : Type 0 where
   pub here : s.here < 16
-  pub sent : s.sent < most
   pub processes : (p : Pid) (x : Process) → s.records p ≡ Some (Here x) → MayAct s p x
   pub front : FrontMay b s s.inbox
 

@@ -55,7 +55,7 @@ pub record Receives (s : KernelState) (p : Pid) (mask : ℕ) (x : Process) : Typ
 -- it is here, and the message is one for it
 pub record Handles (s : KernelState) (m : Message) (x : Process) : Type 0 where
   pub acts : MayAct s m.to.pid x
-  pub fits : FitsHere m x m.what
+  pub fits : FitsHere s m x m.what
 
 -- it is here, and the piece that is asked for lies in its memory
 pub record OwnsPiece (m : Message) (x : Process) : Type 0 where
@@ -68,10 +68,11 @@ pub record AwaitsPiece (m : Message) (x : Process) : Type 0 where
   pub sent : x.sent < most
   pub awaited : IsAwaited x.status m
 
--- it can be carried, and can move once more
-pub record CanFreeze (x : Process) : Type 0 where
+-- it can be carried, and can move once more; the kernel can send one message more
+pub record CanFreeze (s : KernelState) (x : Process) : Type 0 where
   pub lawful : IsLawfulProcess x
   pub moves : x.moves < most
+  pub sent : s.sent < most
 
 -- it leaves for this machine, where it is after so many moves; it has its slot and its blocks, and what goes on can be counted
 pub record LeavesFor (r : Taken) (machine moves : ℕ) (d : Departure) : Type 0 where

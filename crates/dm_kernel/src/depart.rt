@@ -25,8 +25,7 @@ use dm_rule::line::{Line, Stage};
 impl Kernel {
     /// Lets a process leave for a machine, if it isn't there.
     pub(crate) fn migrate(&mut self, message: &Message, to: u8) -> Result<Vec<Part>, NoMemory>
-        requires sent { self.old.sent < 4294967295 }
-        requires process { IsHere CanFreeze (at self.old.records message.now.to.pid) }
+        requires process { IsHere (CanFreeze (state_of self.old)) (at self.old.records message.now.to.pid) }
         ensures { Answers result self.new (bind (here_of (at self.old.records message.now.to.pid)) (λ x. migrates (state_of self.old) message.now x to)) }
     {
         if to == self.here {
@@ -38,8 +37,7 @@ impl Kernel {
 
     /// Freezes a process that is to leave for a machine: it isn't served any more, and that machine is asked.
     fn freeze(&mut self, pid: Pid, to: u8) -> Result<Vec<Part>, NoMemory>
-        requires sent { self.old.sent < 4294967295 }
-        requires process { IsHere CanFreeze (at self.old.records pid) }
+        requires process { IsHere (CanFreeze (state_of self.old)) (at self.old.records pid) }
         ensures { Answers result self.new (bind (here_of (at self.old.records pid)) (λ x. freezes (state_of self.old) pid x to)) }
     {
         match self.records.swap(pid, Record::Forward { at: to, moves: 0 }) {

@@ -30,7 +30,6 @@ impl Kernel {
         requires may { MayHandle boot.now (state_of self.old) message }
         requires images { images_are_valid boot.now.images ≡ true }
         requires here { self.old.here < 16 }
-        requires sent { self.old.sent < 4294967295 }
         requires processes { (p : _) (x : _) → at self.old.records p ≡ Some (Here x) → MayAct (state_of self.old) p x }
         ensures { Answers result self.new (handles boot.now (state_of self.old) message) }
     {
@@ -50,8 +49,7 @@ impl Kernel {
     fn for_process(&mut self, message: Message) -> Result<Vec<Part>, NoMemory>
         requires lawful { IsLawfulMessage message }
         requires here { self.old.here < 16 }
-        requires sent { self.old.sent < 4294967295 }
-        requires fits { FitsKnown message (at self.old.records message.to.pid) }
+        requires fits { FitsKnown (state_of self.old) message (at self.old.records message.to.pid) }
         requires acts { (x : _) → at self.old.records message.to.pid ≡ Some (Here x) → MayAct (state_of self.old) message.to.pid x }
         ensures { Answers result self.new (process_handles (state_of self.old) message (at self.old.records message.to.pid)) }
     {
@@ -71,7 +69,6 @@ impl Kernel {
     fn for_here(&mut self, message: Message) -> Result<Vec<Part>, NoMemory>
         requires lawful { IsLawfulMessage message }
         requires here { self.old.here < 16 }
-        requires sent { self.old.sent < 4294967295 }
         requires process { IsHere (Handles (state_of self.old) message) (at self.old.records message.to.pid) }
         ensures { Answers result self.new (bind (here_of (at self.old.records message.to.pid)) (λ x. here_handles (state_of self.old) message x message.what)) }
     {

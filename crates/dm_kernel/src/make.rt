@@ -40,7 +40,6 @@ impl Kernel {
     ) -> Result<Vec<Part>, NoMemory>
         requires lawful { IsLawfulMessage message }
         requires images { images_are_valid boot.now.images ≡ true }
-        requires sent { self.old.sent < 4294967295 }
         requires fits { FitsKernel boot.now (state_of self.old) message.what }
         ensures { Answers result self.new (kernel_handles boot.now (state_of self.old) message message.what) }
     {
