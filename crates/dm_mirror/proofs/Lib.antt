@@ -1,3 +1,4 @@
 pub mod Turning
 pub mod Rooms
 pub mod KernelSets
+pub mod KernelLabels
