@@ -186,7 +186,7 @@ pub messages_on : (f g : MsgId → Option Message) (ids : List MsgId) (ms : List
 messages_on f g ids ms same h = map_same f g ids same ∙ h
 
 -- what a machine knows of a process that stays
-known_at : (pt next : Point) (l placed : Placed) (q : Pid) (ids : List MsgId) (w : view.Known) (r : Option machine.Known) → placed.processes q ≡ l.processes q → next.kernel.processes q ≡ pt.kernel.processes q → ((i : MsgId) → 1 ≤ times i ids → placed.bag i ≡ l.bag i)
+pub known_at : (pt next : Point) (l placed : Placed) (q : Pid) (ids : List MsgId) (w : view.Known) (r : Option machine.Known) → placed.processes q ≡ l.processes q → next.kernel.processes q ≡ pt.kernel.processes q → ((i : MsgId) → 1 ≤ times i ids → placed.bag i ≡ l.bag i)
     → KnownStands pt l q ids w r → KnownStands next placed q ids w r
 known_at pt next l placed q ids Unknown None p e b h = tt
 known_at pt next l placed q ids Here (Some (record_.Here x)) p e b h = ((h.0.0, p ∙ h.0.1), messages_on l.bag placed.bag ids x.queue b h.1)
@@ -241,7 +241,7 @@ inbox_stands m t p pt next l placed ms g off h =
     subst (λ (ids : List MsgId). AreMessages placed.bag ids ms) (sym (g.view.lists (Inbox m) off)) (messages_on l.bag placed.bag (pt.view.inbox m) ms (λ i least. g.placed_.bag i (Inbox m) off least) h)
 
 -- the room, where process p takes as much as before
-takes_as : (pt next : Point) (m : ℕ) (q : Pid) → next.view.known m q ≡ pt.view.known m q → blocks_of (kernel.alive (next.kernel.processes q)) ≡ blocks_of (kernel.alive (pt.kernel.processes q)) → taken_by next m q ≡ taken_by pt m q
+pub takes_as : (pt next : Point) (m : ℕ) (q : Pid) → next.view.known m q ≡ pt.view.known m q → blocks_of (kernel.alive (next.kernel.processes q)) ≡ blocks_of (kernel.alive (pt.kernel.processes q)) → taken_by next m q ≡ taken_by pt m q
 takes_as pt next m q e f = λ i. record { slots = takes_room (e i); blocks = if takes_room (e i) == 0 then 0 else f i }
 
 others_take : (m : ℕ) (t : Spot → Bool) (p : Pid) (pt next : Point) (l placed : Placed) → Leaves m t p pt l next placed → (q : Pid) → pid_eq p q ≡ false → taken_by next m q ≡ taken_by pt m q
