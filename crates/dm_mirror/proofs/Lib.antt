@@ -5,3 +5,5 @@ pub mod KernelLabels
 pub mod KernelGoes
 pub mod ServeRuns
 pub mod ServeDrops
+pub mod Serving
+pub mod ServeCalls
