@@ -7,3 +7,4 @@ pub mod ServeRuns
 pub mod ServeDrops
 pub mod Serving
 pub mod ServeCalls
+pub mod ServeStops
