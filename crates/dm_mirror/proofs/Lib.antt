@@ -8,3 +8,4 @@ pub mod ServeDrops
 pub mod Serving
 pub mod ServeCalls
 pub mod ServeStops
+pub mod ServeExecutes

@@ -88,7 +88,7 @@ fresh_message b m pt l k p x y c n w z s step next =
     not_counted (λ i. s.r i + _) (λ i. s.e i + _) t w.id off a.sound.entered
 
 -- a call that sends a message
-sends_acts : (b : Boot) (m : ℕ) (pt : Point) (l : Placed) (k : KernelState) (p : Pid) (x y z : Process) (c n : ℕ) (w : Message) (u : PlainMessage) (s : Served b m pt l k p x) → Ran m pt l p x s.at.queue c y → plain_message w ≡ Some u
+pub sends_acts : (b : Boot) (m : ℕ) (pt : Point) (l : Placed) (k : KernelState) (p : Pid) (x y z : Process) (c n : ℕ) (w : Message) (u : PlainMessage) (s : Served b m pt l k p x) → Ran m pt l p x s.at.queue c y → plain_message w ≡ Some u
     → kernel.next (ran_kernel pt p y) p ≡ Some (kernel.Calls n (calls.Sends u (plain_process z)))
     → placed.acts m (ran_placed l p y s.at.queue) p ≡ Some (placed.with_sent (placed.with_process (ran_placed l p y s.at.queue) p (Some (with_queue z s.at.queue))) (Some w)) → z.queue ≡ x.queue → length z.memory ≡ length x.memory
     → Acts b m pt l p (turned (with_here (rung k p) p z) (machine.says (label.Ran p c) ∷ machine.says (label.Send p w.id) ∷ part.Routes w ∷ [])) (Some (rule.says (label.Ran p c) ∷ rule.says (label.Send p u.id) ∷ rule_part.Routes u.id ∷ []))
@@ -139,7 +139,7 @@ nothing_more : {X : Type 0} (xs : List X) → xs ++ [] ≡ xs
 nothing_more [] = refl
 nothing_more (x ∷ xs) = ap (λ (ys : List _). x ∷ ys) (nothing_more xs)
 
-ends_acts : (b : Boot) (m : ℕ) (pt : Point) (l : Placed) (k : KernelState) (p : Pid) (x y z : Process) (c : ℕ) (because : Why) (s : Served b m pt l k p x) → Ran m pt l p x s.at.queue c y
+pub ends_acts : (b : Boot) (m : ℕ) (pt : Point) (l : Placed) (k : KernelState) (p : Pid) (x y z : Process) (c : ℕ) (because : Why) (s : Served b m pt l k p x) → Ran m pt l p x s.at.queue c y
     → kernel.step (ran_kernel pt p y) (label.End p because) ≡ Some (with_process (ran_kernel pt p y) p (Ended because)) → placed.acts m (ran_placed l p y s.at.queue) p ≡ Some (placed.with_process (ran_placed l p y s.at.queue) p None)
     → z.queue ≡ x.queue → length z.memory ≡ length x.memory
     → Acts b m pt l p (serve.ends (with_here (rung k p) p z) p c z because) (Some (rule.says (label.Ran p c) ∷ rule.says (label.End p because) ∷ rule.drops (pt.view.queue m p)))
