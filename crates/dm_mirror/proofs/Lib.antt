@@ -9,3 +9,4 @@ pub mod Serving
 pub mod ServeCalls
 pub mod ServeStops
 pub mod ServeExecutes
+pub mod ServeReceives
