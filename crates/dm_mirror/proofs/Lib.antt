@@ -10,3 +10,4 @@ pub mod ServeCalls
 pub mod ServeStops
 pub mod ServeExecutes
 pub mod ServeReceives
+pub mod ServeTurns
