@@ -1,12 +1,11 @@
 -- A process of the machine goes on, or ends: the machine's kernel stands for the point behind the labels.
-use Rattle.std.proofs.Common.{◌≡◌, ℕ, ◌/◌, ◌==◌, Bool, true, false, List, refl, ap, ◌∙◌, sym, subst, length, is_some}
-use Rattle.std.specs.Prelude.{if◌then◌else◌, slice_get}
+use Rattle.std.proofs.Common.{◌≡◌, ℕ, ◌/◌, ◌==◌, Bool, false, List, ap, ◌∙◌, sym, subst, length, is_some}
+use Rattle.std.specs.Prelude.{if◌then◌else◌}
 use Rattle.std.specs.declared.option.Option.{Option}
-use Rattle.std.specs.declared.option.Option.TheVariants.{None, Some}
+use Rattle.std.specs.declared.option.Option.TheVariants.{Some}
 use Rattle.dm_link.specs.declared.Pid.{Pid}
 use Rattle.dm_link.specs.Names.{pid_eq}
 use Rattle.dm_message.specs.declared.Message.{Message}
-use Rattle.dm_message.specs.declared.MsgId.{MsgId}
 use Rattle.dm_process.specs.declared.process.Process.{Process}
 use Rattle.dm_room.specs.Room.{with_released}
 use Rattle.dm_forward.specs.declared.record.Record.TheVariants as record_
@@ -20,7 +19,7 @@ use Rattle.dm_kernel.specs.State as machine
 use Rattle.dm_kernel.specs.State.{KernelState}
 use Rattle.dm_rule.specs.Point.{Point}
 use Rattle.dm_rule.specs.Rule.{blocks_of, taken_by, takes_room}
-use Rattle.dm_rule.specs.Spots.{Spot, Queue, Inbox}
+use Rattle.dm_rule.specs.Spots.{Spot, Queue}
 use Rattle.dm_rule.specs.View as view
 use Rattle.dm_rulelaws.specs.Fits.{is_server}
 use Rattle.dm_placed.specs.Placed.{Placed}

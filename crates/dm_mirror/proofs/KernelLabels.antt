@@ -1,9 +1,8 @@
 -- What each way in which a label changes view, kernel and kernel with places leaves; and a label as a step with places.
-use Rattle.std.proofs.Common.{◌≡◌, ◌≢◌, ℕ, ◌≤◌, ◌==◌, ◌&&◌, Bool, true, false, List, [], ◌∷◌, refl, ap, ◌∙◌, sym, subst, inl, inr, arith}
-use Rattle.std.specs.Prelude.{if◌then◌else◌}
+use Rattle.std.proofs.Common.{◌≡◌, ◌≢◌, ℕ, ◌≤◌, ◌==◌, ◌&&◌, Bool, false, List, ◌∷◌, refl, ap, ◌∙◌, sym, subst, inl, inr, arith}
 use Rattle.std.specs.declared.option.Option.{Option}
 use Rattle.std.specs.declared.option.Option.TheVariants.{None, Some}
-use Rattle.std.proofs.lemmas.Bool.{cases_Bool, false≢true}
+use Rattle.std.proofs.lemmas.Bool.{cases_Bool}
 use Rattle.std.proofs.lemmas.Bool.Decides.{nat_tests}
 use Rattle.dm_link.specs.declared.Pid.{Pid}
 use Rattle.dm_link.specs.Names.{pid_eq}
@@ -22,8 +21,8 @@ use Rattle.dm_laws.proofs.Equal.{id_eq-is, pid_eq-same}
 use Rattle.dm_rule.specs.declared.line.Line.{Line}
 use Rattle.dm_rule.specs.declared.line.Line.TheVariants as line
 use Rattle.dm_rule.specs.Point.{Point, moved, after}
-use Rattle.dm_rule.specs.Sets.{at_machine, at_record, without, without_id, without_front, moved_back}
-use Rattle.dm_rule.specs.Spots.{Spot, Queue, Held, Inbox, Untaken, times, untaken, ids_at, standing, StandsAsBag}
+use Rattle.dm_rule.specs.Sets.{at_machine, at_record, without, without_front, moved_back}
+use Rattle.dm_rule.specs.Spots.{Spot, Queue, Held, Inbox, Untaken, untaken, ids_at, standing, StandsAsBag}
 use Rattle.dm_rule.specs.View as view
 use Rattle.dm_rule.specs.View.{View, Pair, serving, ended, handled}
 use Rattle.dm_placed.specs.Placed.{Placed, Mirrors}
@@ -31,7 +30,7 @@ use Rattle.dm_placed.specs.PlacedStep.{placed_step, with_message, with_process, 
 use Rattle.dm_placed.specs.Laws.{StepNeeds}
 use Rattle.dm_placed.proofs.Lines.{mirrors_view, moves_label}
 use Rattle.dm_placed.proofs.Steps.{placed_follows}
-use Rattle.dm_mirror.proofs.KernelSets.{ViewLeaves, KernelLeaves, PlacedLeaves, placed_leaves_on, is_queue_of, off_if, on_if, left_off, eq_apart, eq_self}
+use Rattle.dm_mirror.proofs.KernelSets.{ViewLeaves, KernelLeaves, PlacedLeaves, off_if, on_if, eq_apart, eq_self}
 
 -- lists in which nothing changes but at these spots
 pub lists_same : (t : Spot → Bool) (v w : View) → ((n : ℕ) (q : Pid) → t (Queue n q) ≡ false → w.queue n q ≡ v.queue n q) → ((n : ℕ) (q : Pid) → w.held n q ≡ v.held n q) → ((n : ℕ) → t (Inbox n) ≡ false → w.inbox n ≡ v.inbox n)

@@ -1,74 +1,44 @@
 -- A ready process is served: it uses up its quantum, or stops at a call or a fault.
-use Rattle.std.proofs.Common.{◌≡◌, ℕ, zero, suc, ◌+◌, ◌<◌, ◌≤◌, ◌==◌, ◌&&◌, Bool, true, false, List, [], ◌∷◌, ◌++◌, map, length, refl, ap, ◌∙◌, sym, subst, arith}
-use Rattle.std.proofs.Common.{nat_lt}
+use Rattle.std.proofs.Common.{◌≡◌, ℕ, zero, suc, ◌+◌, Bool, false, List, [], ◌∷◌, length, refl, ap, ◌∙◌, sym, subst, arith}
 use Rattle.std.specs.Prelude.{if◌then◌else◌}
 use Rattle.std.specs.declared.option.Option.{Option}
 use Rattle.std.specs.declared.option.Option.TheVariants.{None, Some}
-use Rattle.std.proofs.lemmas.Bool.Decides.{nat_tests}
 use Rattle.dm_link.specs.declared.Pid.{Pid}
 use Rattle.dm_link.specs.Names.{pid_eq}
 use Rattle.dm_message.specs.declared.Message.{Message}
-use Rattle.dm_message.specs.declared.MsgId.{MsgId}
-use Rattle.dm_message.specs.Ids.{id_eq}
-use Rattle.dm_message.specs.Plain.{PlainMessage, plain_message}
-use Rattle.dm_regs.specs.declared.registers.Regs.{Regs}
-use Rattle.dm_regs.specs.declared.registers.Fault.{Fault}
-use Rattle.dm_regs.specs.Instructions.{Row, instruction}
-use Rattle.dm_regs.specs.Instructions as row
+use Rattle.dm_regs.specs.Instructions.{instruction}
 use Rattle.dm_process.specs.declared.process.Process.{Process}
-use Rattle.dm_process.specs.declared.process.Status.{Status}
 use Rattle.dm_process.specs.declared.process.Status.TheVariants as status
-use Rattle.dm_forward.specs.declared.record.Record.TheVariants as record_
 use Rattle.dm_onekernel.specs.declared.boot.Boot.{Boot}
 use Rattle.dm_onekernel.specs.declared.label.Label.{Label}
 use Rattle.dm_onekernel.specs.declared.label.Label.TheVariants as label
-use Rattle.dm_onekernel.specs.declared.label.Reply.{Reply}
-use Rattle.dm_onekernel.specs.declared.label.Why.{Why}
-use Rattle.dm_onekernel.specs.declared.label.Why.TheVariants as why
-use Rattle.dm_onekernel.specs.Codes.{reply_code, reply_eq, why_code}
-use Rattle.dm_onekernel.specs.Options.{bind, when}
-use Rattle.dm_onekernel.specs.Kernel.{Life, Alive, Ended, OneKernel, with_process, with_sent}
+use Rattle.dm_onekernel.specs.Options.{bind}
+use Rattle.dm_onekernel.specs.Kernel.{Life, Alive, OneKernel}
 use Rattle.dm_onekernel.specs.Plain.{plain_process, plain_status}
 use Rattle.dm_onekernel.specs.PlainProcess.{PlainProcess, Ready}
-use Rattle.dm_onekernel.specs.Calls as calls
 use Rattle.dm_onekernel.specs.Step as kernel
 use Rattle.dm_onekernel.specs.Step.{Machine}
-use Rattle.dm_syscall.specs.declared.Called.{Called}
-use Rattle.dm_syscall.specs.declared.Called.TheVariants as called
-use Rattle.dm_syscall.specs.Plainly.{plain_called}
-use Rattle.dm_laws.proofs.Entered.{counts, is_counted}
-use Rattle.dm_laws.proofs.Equal.{id_eq-same, pid_eq-same}
-use Rattle.dm_laws.proofs.Sound.{not_counted, counts_process, not_server}
-use Rattle.dm_laws.proofs.Steps.{bind-is, after_ran, nexts}
-use Rattle.dm_rule.specs.declared.line.Line.{Line}
+use Rattle.dm_laws.proofs.Equal.{pid_eq-same}
+use Rattle.dm_laws.proofs.Steps.{bind-is}
 use Rattle.dm_rule.specs.declared.line.Line.TheVariants as line
-use Rattle.dm_rule.specs.Parts as rule_part
-use Rattle.dm_rule.specs.Point.{Point, moved, after}
+use Rattle.dm_rule.specs.Point.{Point, moved}
 use Rattle.dm_rule.specs.Rule as rule
-use Rattle.dm_rule.specs.Sets.{moved_back, without}
-use Rattle.dm_rule.specs.Spots.{Spot, Queue, Inbox, times, standing, StandsAsBag}
+use Rattle.dm_rule.specs.Sets.{moved_back}
 use Rattle.dm_rule.specs.View as view
 use Rattle.dm_rule.specs.View.{View, receiver_of}
 use Rattle.dm_rulelaws.proofs.FitsRises.{set_at}
-use Rattle.dm_rulelaws.proofs.GoesTurns.{droppable_on}
 use Rattle.dm_placed.specs.Placed.{Placed, Mirrors}
 use Rattle.dm_placed.specs.PlacedStep as placed
 use Rattle.dm_placed.specs.Laws.{StepNeeds}
-use Rattle.dm_placed.proofs.Keeps.{parts}
-use Rattle.dm_placed.proofs.Matches.{acted_with, ran_matches}
+use Rattle.dm_placed.proofs.Matches.{ran_matches}
 use Rattle.dm_placed.proofs.Queues.{with_queue}
-use Rattle.dm_kernel.specs.declared.part.Part.{Part}
-use Rattle.dm_kernel.specs.declared.part.Part.TheVariants as part
 use Rattle.dm_kernel.specs.State as machine
 use Rattle.dm_kernel.specs.State.{KernelState, Turned, turned, with_here, without_process}
 use Rattle.dm_kernel.specs.Serve as serve
-use Rattle.dm_mirror.specs.Stands.{AreMessages, KernelStands}
-use Rattle.dm_mirror.proofs.KernelSets.{ViewLeaves, Leaves, leaves_on, kernel_leaves_on, placed_leaves_on, is_queue_of, off_if, on_if, queue_of_others, inbox_stands, messages_on}
-use Rattle.dm_mirror.proofs.KernelLabels.{view_same, view_serving, view_ended, kernel_sets, kernel_puts, placed_sets, placed_puts, machine_on, record_on, nowhere_alone, label_mirrors, after_label}
-use Rattle.dm_mirror.proofs.KernelGoes.{ends_stands}
-use Rattle.dm_mirror.proofs.ServeRuns.{Names}
-use Rattle.dm_mirror.proofs.ServeDrops.{AreAlone, Drops, drop_lines, drops_stand, rule_drops, machine_drops}
-use Rattle.dm_mirror.proofs.Serving.{Served, Acts, acts_as, rung, served_goes, is_for, queue_alone}
+use Rattle.dm_mirror.specs.Stands.{AreMessages}
+use Rattle.dm_mirror.proofs.KernelSets.{ViewLeaves, Leaves, leaves_on, is_queue_of, on_if}
+use Rattle.dm_mirror.proofs.KernelLabels.{view_same, view_serving, kernel_sets, placed_sets, machine_on, label_mirrors, after_label}
+use Rattle.dm_mirror.proofs.Serving.{Served, Acts, moved_round, served_goes}
 
 -- so many plain instructions, from the front
 steps_front : (c : ℕ) (m n z : Machine) → kernel.plain_step m ≡ Some n → kernel.plain_steps c n ≡ Some z → kernel.plain_steps (suc c) m ≡ Some z
@@ -87,9 +57,6 @@ ran_goes k m (Some n) e f =
 pub ran_steps : (k : ℕ) (m : Machine) → kernel.plain_steps (rule.ran k m).count m ≡ Some (rule.ran k m).machine
 ran_steps zero m = refl
 ran_steps (suc k) m = ran_goes k m (kernel.plain_row (instruction m.regs m.bytes)) refl (ran_steps k)
-
-eq_same : (n : ℕ) → (n == n) ≡ true
-eq_same n = grind (arith, nat_tests)
 
 -- behind the plain instructions: the process is y, and at the ring's back
 abbrev pub ran_kernel : Point → Pid → Process → OneKernel
@@ -142,9 +109,9 @@ ran_of b m pt l k p x c n s ready steps memory =
 
 -- the quantum is used up
 pub whole_acts : (b : Boot) (m : ℕ) (pt : Point) (l : Placed) (k : KernelState) (p : Pid) (x y : Process) (c : ℕ) (s : Served b m pt l k p x) → Ran m pt l p x s.at.queue c y
-    → Acts b m pt l p (turned (with_here (rung k p) p y) (machine.says (label.Ran p c) ∷ [])) (Some (rule.says (label.Ran p c) ∷ []))
+    → Acts b m pt l p (turned (with_here (moved_round k p) p y) (machine.says (label.Ran p c) ∷ [])) (Some (rule.says (label.Ran p c) ∷ []))
 whole_acts b m pt l k p x y c s r = record {
-  state = with_here (rung k p) p y;
+  state = with_here (moved_round k p) p y;
   says = line.Label (label.Ran p c) ∷ [];
   route = None;
   turn = refl;
@@ -163,7 +130,7 @@ whole_acts b m pt l k p x y c s r = record {
 pub goes_acts : (b : Boot) (m : ℕ) (pt : Point) (l : Placed) (k : KernelState) (p : Pid) (x y z : Process) (c : ℕ) (e : Label) (s : Served b m pt l k p x) → Ran m pt l p x s.at.queue c y → ((v : View) → view.after_label v e ≡ v) → StepNeeds (ran_kernel pt p y) (ran_point pt p c y).view e
     → kernel.step (ran_kernel pt p y) e ≡ Some (kernel.goes_on (ran_kernel pt p y) p (plain_process z))
     → placed.placed_step m pt.kernel.format pt.kernel.images (ran_placed l p y s.at.queue) e ≡ Some (placed.with_process (ran_placed l p y s.at.queue) p (Some (with_queue z s.at.queue))) → z.queue ≡ x.queue → length z.memory ≡ length x.memory
-    → Acts b m pt l p (turned (with_here (rung k p) p z) (machine.says (label.Ran p c) ∷ machine.says e ∷ [])) (Some (rule.says (label.Ran p c) ∷ rule.says e ∷ []))
+    → Acts b m pt l p (turned (with_here (moved_round k p) p z) (machine.says (label.Ran p c) ∷ machine.says e ∷ [])) (Some (rule.says (label.Ran p c) ∷ rule.says e ∷ []))
 goes_acts b m pt l k p x y z c e s r still needs step with_ queue_is memory =
     let t = is_queue_of m p in
     let queue = s.at.queue in
@@ -176,7 +143,7 @@ goes_acts b m pt l k p x y z c e s r still needs step with_ queue_is memory =
     let second : Leaves m t p o lm next on = record { view = subst (λ (v : View). ViewLeaves m t p o.view v) (sym same) (view_same m t p o.view); kernel = kernel_sets p (ran_kernel pt p y) (Alive (plain_process z)); placed_ = placed_sets t p o.view lm (Some (with_queue z queue)) } in
     let leaves = leaves_on m t p pt o next l lm on r.leaves second in
     record {
-      state = with_here (rung k p) p z;
+      state = with_here (moved_round k p) p z;
       says = line.Label (label.Ran p c) ∷ line.Label e ∷ [];
       route = None;
       turn = refl;

@@ -1,9 +1,8 @@
 -- The queue of a process that has ended is dropped, message by message.
-use Rattle.std.proofs.Common.{◌≡◌, ℕ, ◌≤◌, ◌==◌, ◌&&◌, Bool, true, false, List, [], ◌∷◌, ◌++◌, map, refl, ap, ◌∙◌, sym, subst, inl, inr, arith}
+use Rattle.std.proofs.Common.{◌≡◌, ℕ, ◌≤◌, ◌==◌, ◌&&◌, Bool, true, false, List, [], ◌∷◌, map, refl, ap, ◌∙◌, sym, subst, arith}
 use Rattle.std.specs.Prelude.{if◌then◌else◌}
 use Rattle.std.specs.declared.option.Option.{Option}
 use Rattle.std.specs.declared.option.Option.TheVariants.{None, Some}
-use Rattle.std.proofs.lemmas.Bool.{cases_Bool}
 use Rattle.dm_link.specs.declared.Pid.{Pid}
 use Rattle.dm_link.specs.Names.{pid_eq}
 use Rattle.dm_message.specs.declared.Message.{Message}
@@ -11,13 +10,11 @@ use Rattle.dm_message.specs.declared.MsgId.{MsgId}
 use Rattle.dm_message.specs.Ids.{id_eq}
 use Rattle.dm_message.specs.Plain as what
 use Rattle.dm_message.specs.Plain.{PlainWhat}
-use Rattle.dm_onekernel.specs.declared.boot.Boot.{Boot}
 use Rattle.dm_onekernel.specs.declared.label.Label.TheVariants as label
 use Rattle.dm_onekernel.specs.declared.label.Why.{Why}
-use Rattle.dm_onekernel.specs.Kernel.{Ended, OneKernel}
+use Rattle.dm_onekernel.specs.Kernel.{Ended}
 use Rattle.dm_onekernel.specs.Service as service
 use Rattle.dm_onekernel.specs.Service.{is_dropped}
-use Rattle.dm_onekernel.specs.Step as kernel
 use Rattle.dm_laws.proofs.Equal.{id_eq-is}
 use Rattle.dm_laws.proofs.Movers.{out_off}
 use Rattle.dm_rule.specs.declared.line.Line.{Line}
@@ -27,17 +24,15 @@ use Rattle.dm_rule.specs.Point.{Point, moved, after}
 use Rattle.dm_rule.specs.Rule as rule
 use Rattle.dm_rule.specs.Sets.{without_front}
 use Rattle.dm_rule.specs.Spots.{Spot, Queue, Inbox, times, standing}
-use Rattle.dm_rule.specs.View as view
 use Rattle.dm_rule.specs.View.{View, handled, dropped_for, receiver_of}
 use Rattle.dm_rulelaws.proofs.SeenPoint.{is_user}
 use Rattle.dm_rulelaws.proofs.GoesTurns.{Droppable, droppable_on, dropped_is}
 use Rattle.dm_placed.specs.Placed.{Placed, Mirrors}
 use Rattle.dm_placed.specs.PlacedStep.{without_message}
-use Rattle.dm_kernel.specs.declared.part.Part.{Part}
 use Rattle.dm_kernel.specs.declared.part.Part.TheVariants as part
 use Rattle.dm_kernel.specs.State as machine
 use Rattle.dm_mirror.specs.Stands.{AreMessages}
-use Rattle.dm_mirror.proofs.KernelSets.{ViewLeaves, Leaves, view_leaves_on, leaves_on, is_queue_of, times_self, times_more}
+use Rattle.dm_mirror.proofs.KernelSets.{ViewLeaves, Leaves, view_leaves_on, leaves_on, times_self, times_more}
 use Rattle.dm_mirror.proofs.KernelLabels.{view_same, view_queue, view_not_handled, kernel_same, kernel_out, placed_same, placed_out, label_mirrors, after_label}
 use Rattle.dm_mirror.proofs.ServeRuns.{Names}
 

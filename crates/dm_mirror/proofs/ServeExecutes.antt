@@ -2,11 +2,10 @@
 use Rattle.std.proofs.Common.{◌≡◌, ℕ, ◌<◌, ◌==◌, ◌&&◌, Bool, true, false, List, [], ◌∷◌, length, refl, ap, ◌∙◌, sym, arith}
 use Rattle.std.specs.Prelude.{if◌then◌else◌}
 use Rattle.std.specs.declared.option.Option.{Option}
-use Rattle.std.specs.declared.option.Option.TheVariants.{None, Some}
+use Rattle.std.specs.declared.option.Option.TheVariants.{Some}
 use Rattle.std.proofs.lemmas.Bool.Decides.{nat_tests}
 use Rattle.dm_link.specs.declared.Pid.{Pid}
 use Rattle.dm_message.specs.declared.Message.{Message}
-use Rattle.dm_message.specs.declared.MsgId.{MsgId}
 use Rattle.dm_message.specs.Plain.{PlainMessage, plain_message}
 use Rattle.dm_regs.specs.declared.registers.Regs.{Regs}
 use Rattle.dm_regs.specs.declared.registers.Fault.{Fault}
@@ -20,7 +19,7 @@ use Rattle.dm_onekernel.specs.declared.label.Reply.{Reply}
 use Rattle.dm_onekernel.specs.declared.label.Why.TheVariants as why
 use Rattle.dm_onekernel.specs.Codes.{reply_code, reply_eq, why_code}
 use Rattle.dm_onekernel.specs.Options.{bind, when}
-use Rattle.dm_onekernel.specs.Kernel.{Ended, OneKernel, with_process}
+use Rattle.dm_onekernel.specs.Kernel.{Ended, with_process}
 use Rattle.dm_onekernel.specs.Plain.{plain_process}
 use Rattle.dm_onekernel.specs.PlainProcess.{PlainProcess}
 use Rattle.dm_onekernel.specs.Calls as calls
@@ -44,30 +43,28 @@ use Rattle.dm_kernel.specs.State as machine
 use Rattle.dm_kernel.specs.State.{KernelState, Turned, turned, with_here}
 use Rattle.dm_kernel.specs.Serve as serve
 use Rattle.dm_kernel.proofs.Serving.{call_keeps, ran_keeps}
+use Rattle.dm_mirror.proofs.KernelSets.{eq_self}
 use Rattle.dm_mirror.proofs.ServeRuns.{Comes, Whole, Faulted, comes}
 use Rattle.dm_mirror.proofs.ServeRuns as runs
-use Rattle.dm_mirror.proofs.Serving.{Served, Acts, acts_as, rung}
+use Rattle.dm_mirror.proofs.Serving.{Served, Acts, acts_as, moved_round}
 use Rattle.dm_mirror.proofs.ServeCalls.{Ran, ran_kernel, ran_placed, ran_steps, ran_of, whole_acts, goes_acts}
 use Rattle.dm_mirror.proofs.ServeStops.{sends_acts, ends_acts}
 
-eq_same : (n : ℕ) → (n == n) ≡ true
-eq_same n = grind (arith, nat_tests)
-
 reply_same : (n : ℕ) (c : Reply) → ((n == n) && reply_eq c c) ≡ true
-reply_same n c = ap (λ (d : Bool). d && reply_eq c c) (eq_same n) ∙ eq_same (reply_code c)
+reply_same n c = ap (λ (d : Bool). d && reply_eq c c) (eq_self n) ∙ eq_self (reply_code c)
 
 -- a call by the process y, as it is behind its plain instructions, that came to w and left z
 abbrev ActsCalled : (b : Boot) (m : ℕ) (pt : Point) (l : Placed) (k : KernelState) (p : Pid) (z : Process) (c n : ℕ) → Called → calls.Called → Type 0
-ActsCalled b m pt l k p z c n w cl = Acts b m pt l p (serve.called_with (with_here (rung k p) p z) p c n z w) (Some (rule.says (label.Ran p c) ∷ rule.called p n (pt.view.queue m p) cl))
+ActsCalled b m pt l k p z c n w cl = Acts b m pt l p (serve.called_with (with_here (moved_round k p) p z) p c n z w) (Some (rule.says (label.Ran p c) ∷ rule.called p n (pt.view.queue m p) cl))
 
 message_acts : (b : Boot) (m : ℕ) (pt : Point) (l : Placed) (k : KernelState) (p : Pid) (x y z : Process) (c n : ℕ) (w : Message) (cl : calls.Called) (s : Served b m pt l k p x) → Ran m pt l p x s.at.queue c y → plain_sent (plain_message w) z ≡ Some cl
     → kernel.next (ran_kernel pt p y) p ≡ Some (kernel.Calls n cl) → placed.acts m (ran_placed l p y s.at.queue) p ≡ Some (placed.with_sent (placed.with_process (ran_placed l p y s.at.queue) p (Some (with_queue z s.at.queue))) (Some w))
     → z.queue ≡ x.queue → length z.memory ≡ length x.memory
-    → Acts b m pt l p (turned (with_here (rung k p) p z) (machine.says (label.Ran p c) ∷ machine.says (label.Send p w.id) ∷ part.Routes w ∷ [])) (Some (rule.says (label.Ran p c) ∷ rule.called p n (pt.view.queue m p) cl))
+    → Acts b m pt l p (turned (with_here (moved_round k p) p z) (machine.says (label.Ran p c) ∷ machine.says (label.Send p w.id) ∷ part.Routes w ∷ [])) (Some (rule.says (label.Ran p c) ∷ rule.called p n (pt.view.queue m p) cl))
 message_acts b m pt l k p x y z c n w cl s r plain next with_ queue memory =
     let (u, says, last) = bind-is (plain_message w) (λ (v : PlainMessage). Some (calls.Sends v (plain_process z))) cl plain in
     let f : cl ≡ calls.Sends u (plain_process z) = cc in
-    let t = turned (with_here (rung k p) p z) (machine.says (label.Ran p c) ∷ machine.says (label.Send p w.id) ∷ part.Routes w ∷ []) in
+    let t = turned (with_here (moved_round k p) p z) (machine.says (label.Ran p c) ∷ machine.says (label.Send p w.id) ∷ part.Routes w ∷ []) in
     acts_as b m pt l p t t (Some (rule.says (label.Ran p c) ∷ rule.called p n (pt.view.queue m p) cl)) (Some (rule.says (label.Ran p c) ∷ rule.says (label.Send p u.id) ∷ rule_part.Routes u.id ∷ [])) refl
     (ap (λ (v : calls.Called). Some (rule.says (label.Ran p c) ∷ rule.called p n (pt.view.queue m p) v)) f) (sends_acts b m pt l k p x y z c n w u s r says (next ∙ ap (λ (v : calls.Called). Some (kernel.Calls n v)) f) with_ queue memory)
 
@@ -76,7 +73,7 @@ called_acts : (b : Boot) (m : ℕ) (pt : Point) (l : Placed) (k : KernelState) (
     → z.queue ≡ x.queue → length z.memory ≡ length x.memory → ActsCalled b m pt l k p z c n w cl
 called_acts b m pt l k p x y z c n (called.Replied reply) cl s r plain next with_ queue memory =
     let f : cl ≡ calls.Replies reply (plain_process z) = cc in
-    let t = serve.called_with (with_here (rung k p) p z) p c n z (called.Replied reply) in
+    let t = serve.called_with (with_here (moved_round k p) p z) p c n z (called.Replied reply) in
     let u = ran_kernel pt p y in
     let goes = kernel.goes_on u p (plain_process z) in
     acts_as b m pt l p t t (Some (rule.says (label.Ran p c) ∷ rule.called p n (pt.view.queue m p) cl)) (Some (rule.says (label.Ran p c) ∷ rule.says (label.Call p n reply) ∷ [])) refl
@@ -87,29 +84,29 @@ called_acts b m pt l k p x y z c n (called.Sent w) cl s r plain next with_ queue
 called_acts b m pt l k p x y z c n (called.Moving w) cl s r plain next with_ queue memory = message_acts b m pt l k p x y z c n w cl s r plain next with_ queue memory
 called_acts b m pt l k p x y z c n called.Waits cl s r plain next with_ queue memory =
     let f : cl ≡ calls.Waits (plain_process z) = cc in
-    let t = serve.called_with (with_here (rung k p) p z) p c n z called.Waits in
+    let t = serve.called_with (with_here (moved_round k p) p z) p c n z called.Waits in
     let u = ran_kernel pt p y in
     acts_as b m pt l p t t (Some (rule.says (label.Ran p c) ∷ rule.called p n (pt.view.queue m p) cl)) (Some (rule.says (label.Ran p c) ∷ rule.says (label.Wait p) ∷ [])) refl
     (ap (λ (v : calls.Called). Some (rule.says (label.Ran p c) ∷ rule.called p n (pt.view.queue m p) v)) f)
     (goes_acts b m pt l k p x y z c (label.Wait p) s r (λ v. refl) tt (ap (λ (o : Option kernel.Next). bind o (kernel.waits u p)) (next ∙ ap (λ (v : calls.Called). Some (kernel.Calls n v)) f)) with_ queue memory)
 called_acts b m pt l k p x y z c n (called.Out word) cl s r plain next with_ queue memory =
     let f : cl ≡ calls.Outputs word (plain_process z) = cc in
-    let t = serve.called_with (with_here (rung k p) p z) p c n z (called.Out word) in
+    let t = serve.called_with (with_here (moved_round k p) p z) p c n z (called.Out word) in
     let u = ran_kernel pt p y in
     let goes = kernel.goes_on u p (plain_process z) in
     acts_as b m pt l p t t (Some (rule.says (label.Ran p c) ∷ rule.called p n (pt.view.queue m p) cl)) (Some (rule.says (label.Ran p c) ∷ rule.says (label.Out p word) ∷ [])) refl
     (ap (λ (v : calls.Called). Some (rule.says (label.Ran p c) ∷ rule.called p n (pt.view.queue m p) v)) f)
     (goes_acts b m pt l k p x y z c (label.Out p word) s r (λ v. refl) tt
-    (ap (λ (o : Option kernel.Next). bind o (kernel.outputs u p word)) (next ∙ ap (λ (v : calls.Called). Some (kernel.Calls n v)) f) ∙ ap (λ (d : Bool). when d goes) (eq_same word)) with_ queue memory)
+    (ap (λ (o : Option kernel.Next). bind o (kernel.outputs u p word)) (next ∙ ap (λ (v : calls.Called). Some (kernel.Calls n v)) f) ∙ ap (λ (d : Bool). when d goes) (eq_self word)) with_ queue memory)
 called_acts b m pt l k p x y z c n (called.Ended because) cl s r plain next with_ queue memory =
     let f : cl ≡ calls.Ends because = cc in
-    let t = serve.called_with (with_here (rung k p) p z) p c n z (called.Ended because) in
+    let t = serve.called_with (with_here (moved_round k p) p z) p c n z (called.Ended because) in
     let u = ran_kernel pt p y in
     let gone = with_process u p (Ended because) in
     acts_as b m pt l p t t (Some (rule.says (label.Ran p c) ∷ rule.called p n (pt.view.queue m p) cl)) (Some (rule.says (label.Ran p c) ∷ rule.says (label.End p because) ∷ rule.drops (pt.view.queue m p))) refl
     (ap (λ (v : calls.Called). Some (rule.says (label.Ran p c) ∷ rule.called p n (pt.view.queue m p) v)) f)
     (ends_acts b m pt l k p x y z c because s r
-    (ap (λ (o : Option kernel.Next). bind o (kernel.ends u p because)) (next ∙ ap (λ (v : calls.Called). Some (kernel.Calls n v)) f) ∙ ap (λ (d : Bool). when d gone) (eq_same (why_code because))) with_ queue memory)
+    (ap (λ (o : Option kernel.Next). bind o (kernel.ends u p because)) (next ∙ ap (λ (v : calls.Called). Some (kernel.Calls n v)) f) ∙ ap (λ (d : Bool). when d gone) (eq_self (why_code because))) with_ queue memory)
 
 -- the next instruction, if it isn't plain
 next_of : (m : ℕ) (pt : Point) (l : Placed) (p : Pid) (x y : Process) (queue : List Message) (c : ℕ) (w : Row) → Ran m pt l p x queue c y → instruction y.regs y.memory ≡ w → kernel.next (ran_kernel pt p y) p ≡ kernel.next_row p (plain_process y) w
@@ -134,22 +131,22 @@ call_acts b m pt l k p x y c n regs s r is =
 
 -- a fault
 fault_acts : (b : Boot) (m : ℕ) (pt : Point) (l : Placed) (k : KernelState) (p : Pid) (x y : Process) (c : ℕ) (f : Fault) (s : Served b m pt l k p x) → Ran m pt l p x s.at.queue c y → instruction y.regs y.memory ≡ row.Faults f
-    → Acts b m pt l p (serve.ends (with_here (rung k p) p y) p c y (why.Fault f)) (Some (rule.says (label.Ran p c) ∷ rule.says (label.End p (why.Fault f)) ∷ rule.drops (pt.view.queue m p)))
+    → Acts b m pt l p (serve.ends (with_here (moved_round k p) p y) p c y (why.Fault f)) (Some (rule.says (label.Ran p c) ∷ rule.says (label.End p (why.Fault f)) ∷ rule.drops (pt.view.queue m p)))
 fault_acts b m pt l k p x y c f s r is =
     let u = ran_kernel pt p y in
     let gone = with_process u p (Ended (why.Fault f)) in
     let lm = ran_placed l p y s.at.queue in
     ends_acts b m pt l k p x y y c (why.Fault f) s r
-    (ap (λ (o : Option kernel.Next). bind o (kernel.ends u p (why.Fault f))) (next_of m pt l p x y s.at.queue c (row.Faults f) r is) ∙ ap (λ (d : Bool). when d gone) (eq_same (why_code (why.Fault f))))
+    (ap (λ (o : Option kernel.Next). bind o (kernel.ends u p (why.Fault f))) (next_of m pt l p x y s.at.queue c (row.Faults f) r is) ∙ ap (λ (d : Bool). when d gone) (eq_self (why_code (why.Fault f))))
     (fault_matches m lm p y s.at.queue f r.there r.ready is) r.same_queue r.memory
 
 -- as far as the quantum allows
 executes_by : (b : Boot) (m : ℕ) (pt : Point) (l : Placed) (k : KernelState) (p : Pid) (x : Process) (q : ℕ) (u : rule.Ran) (v : serve.Ran) (s : Served b m pt l k p x) → x.status ≡ status.Ready → Comes q u v → kernel.plain_steps u.count (kernel.machine_of (plain_process x)) ≡ Some u.machine
-    → length v.machine.bytes ≡ length x.memory → Acts b m pt l p (serve.executes (rung k p) p x v) (Some (rule.executes q p (pt.view.queue m p) (plain_process x) u))
+    → length v.machine.bytes ≡ length x.memory → Acts b m pt l p (serve.executes (moved_round k p) p x v) (Some (rule.executes q p (pt.view.queue m p) (plain_process x) u))
 executes_by b m pt l k p x q u v s ready (Whole all is) steps memory =
     let y = serve.with_machine x u.machine in
     let size : length u.machine.bytes ≡ length x.memory = ap (λ (w : serve.Ran). length w.machine.bytes) (sym is) ∙ memory in
-    acts_as b m pt l p (serve.executes (rung k p) p x v) (turned (with_here (rung k p) p y) (machine.says (label.Ran p u.count) ∷ [])) (Some (rule.executes q p (pt.view.queue m p) (plain_process x) u)) (Some (rule.says (label.Ran p u.count) ∷ [])) (ap (serve.executes (rung k p) p x) is)
+    acts_as b m pt l p (serve.executes (moved_round k p) p x v) (turned (with_here (moved_round k p) p y) (machine.says (label.Ran p u.count) ∷ [])) (Some (rule.executes q p (pt.view.queue m p) (plain_process x) u)) (Some (rule.says (label.Ran p u.count) ∷ [])) (ap (serve.executes (moved_round k p) p x) is)
     (ap (λ (d : Bool). Some (rule.says (label.Ran p u.count) ∷ (if d then [] else rule.stops p (pt.view.queue m p) (kernel.next_row p (kernel.with_machine (plain_process x) u.machine) (instruction u.machine.regs u.machine.bytes)))))
     (let on : (u.count == q) ≡ true = grind (arith, nat_tests) in on)) (whole_acts b m pt l k p x y u.count s (ran_of b m pt l k p x u.count u.machine s ready steps size))
 executes_by b m pt l k p x q u v s ready (runs.Called n regs less stops is) steps memory =
@@ -158,8 +155,8 @@ executes_by b m pt l k p x q u v s ready (runs.Called n regs less stops is) step
     let d = syscall.calls m y2 n in
     let size : length u.machine.bytes ≡ length x.memory = ap (λ (w : serve.Ran). length w.machine.bytes) (sym is) ∙ memory in
     let ids = pt.view.queue m p in
-    acts_as b m pt l p (serve.executes (rung k p) p x v) (serve.called_with (with_here (rung k p) p d.process) p u.count n d.process d.called) (Some (rule.executes q p ids (plain_process x) u))
-    (Some (rule.says (label.Ran p u.count) ∷ rule.called p n ids (calls.call p (plain_process y2) n))) (ap (serve.executes (rung k p) p x) is ∙ ap (λ (h : ℕ). serve.does (rung k p) p u.count n (syscall.calls h y2 n)) s.stands.here)
+    acts_as b m pt l p (serve.executes (moved_round k p) p x v) (serve.called_with (with_here (moved_round k p) p d.process) p u.count n d.process d.called) (Some (rule.executes q p ids (plain_process x) u))
+    (Some (rule.says (label.Ran p u.count) ∷ rule.called p n ids (calls.call p (plain_process y2) n))) (ap (serve.executes (moved_round k p) p x) is ∙ ap (λ (h : ℕ). serve.does (moved_round k p) p u.count n (syscall.calls h y2 n)) s.stands.here)
     (rest_less u.count q (rule.stops p ids (kernel.next_row p (plain_process y) (instruction u.machine.regs u.machine.bytes))) (rule.says (label.Ran p u.count)) less
     ∙ ap (λ (w : Row). Some (rule.says (label.Ran p u.count) ∷ rule.stops p ids (kernel.next_row p (plain_process y) w))) stops)
     (call_acts b m pt l k p x y u.count n regs s (ran_of b m pt l k p x u.count u.machine s ready steps size) stops)
@@ -167,14 +164,14 @@ executes_by b m pt l k p x q u v s ready (Faulted f less stops is) steps memory 
     let y = serve.with_machine x u.machine in
     let size : length u.machine.bytes ≡ length x.memory = ap (λ (w : serve.Ran). length w.machine.bytes) (sym is) ∙ memory in
     let ids = pt.view.queue m p in
-    acts_as b m pt l p (serve.executes (rung k p) p x v) (serve.ends (with_here (rung k p) p y) p u.count y (why.Fault f)) (Some (rule.executes q p ids (plain_process x) u))
-    (Some (rule.says (label.Ran p u.count) ∷ rule.says (label.End p (why.Fault f)) ∷ rule.drops ids)) (ap (serve.executes (rung k p) p x) is)
+    acts_as b m pt l p (serve.executes (moved_round k p) p x v) (serve.ends (with_here (moved_round k p) p y) p u.count y (why.Fault f)) (Some (rule.executes q p ids (plain_process x) u))
+    (Some (rule.says (label.Ran p u.count) ∷ rule.says (label.End p (why.Fault f)) ∷ rule.drops ids)) (ap (serve.executes (moved_round k p) p x) is)
     (rest_less u.count q (rule.stops p ids (kernel.next_row p (plain_process y) (instruction u.machine.regs u.machine.bytes))) (rule.says (label.Ran p u.count)) less
     ∙ ap (λ (w : Row). Some (rule.says (label.Ran p u.count) ∷ rule.stops p ids (kernel.next_row p (plain_process y) w))) stops)
     (fault_acts b m pt l k p x y u.count f s (ran_of b m pt l k p x u.count u.machine s ready steps size) stops)
 
 pub executes_acts : (b : Boot) (m : ℕ) (pt : Point) (l : Placed) (k : KernelState) (p : Pid) (x : Process) (q : ℕ) (s : Served b m pt l k p x) → x.status ≡ status.Ready
-    → Acts b m pt l p (serve.executes (rung k p) p x (serve.ran q (serve.processor_of x))) (Some (rule.executes q p (pt.view.queue m p) (plain_process x) (rule.ran q (kernel.machine_of (plain_process x)))))
+    → Acts b m pt l p (serve.executes (moved_round k p) p x (serve.ran q (serve.processor_of x))) (Some (rule.executes q p (pt.view.queue m p) (plain_process x) (rule.ran q (kernel.machine_of (plain_process x)))))
 executes_acts b m pt l k p x q s ready =
     let n : Machine = serve.processor_of x in
     executes_by b m pt l k p x q (rule.ran q n) (serve.ran q n) s ready (comes q n) (ran_steps q n) (ran_keeps q n).memory

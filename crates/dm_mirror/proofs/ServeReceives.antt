@@ -1,9 +1,9 @@
 -- A waiting process is served: it receives the first message that it waits for, or is refused it.
-use Rattle.std.proofs.Common.{◌≡◌, ℕ, ◌+◌, ◌≤◌, ◌==◌, ◌&&◌, Bool, true, false, List, [], ◌∷◌, map, length, refl, ap, ◌∙◌, sym, subst, inl, inr, arith}
+use Rattle.std.proofs.Common.{◌≡◌, ℕ, ◌+◌, ◌≤◌, Bool, true, false, List, [], ◌∷◌, map, length, refl, ap, ◌∙◌, sym, subst, inl, inr, arith}
 use Rattle.std.specs.Prelude.{if◌then◌else◌}
 use Rattle.std.specs.declared.option.Option.{Option}
 use Rattle.std.specs.declared.option.Option.TheVariants.{None, Some}
-use Rattle.std.proofs.lemmas.Bool.{cases_Bool, false≢true}
+use Rattle.std.proofs.lemmas.Bool.{cases_Bool}
 use Rattle.std.proofs.lemmas.Bool.Decides.{nat_tests}
 use Rattle.arrayvec.specs.ArrayVec.{ArrayVec}
 use Rattle.dm_link.specs.declared.Link.{Link}
@@ -17,14 +17,14 @@ use Rattle.dm_message.specs.declared.What.TheVariants as what
 use Rattle.dm_message.specs.Ids.{id_eq}
 use Rattle.dm_message.specs.Plain.{PlainMessage, plain_message}
 use Rattle.dm_process.specs.Lawful.{IsLawfulProcess, IsLawfulStatus}
-use Rattle.dm_process.specs.Mail.{first_on, is_on, what_is_on, without_first_on}
+use Rattle.dm_process.specs.Mail.{first_on, what_is_on, without_first_on}
 use Rattle.dm_process.specs.declared.process.Process.{Process}
 use Rattle.dm_process.specs.declared.process.Status.{Status}
 use Rattle.dm_process.specs.declared.process.Status.TheVariants as status
 use Rattle.dm_onekernel.specs.declared.boot.Boot.{Boot}
 use Rattle.dm_onekernel.specs.declared.label.Label.TheVariants as label
 use Rattle.dm_onekernel.specs.declared.label.Reply.{Reply}
-use Rattle.dm_onekernel.specs.Codes.{reply_code, reply_eq}
+use Rattle.dm_onekernel.specs.Codes.{reply_code}
 use Rattle.dm_onekernel.specs.Options.{bind, when}
 use Rattle.dm_onekernel.specs.Kernel.{Life, Alive, OneKernel}
 use Rattle.dm_onekernel.specs.Plain.{plain_process, plain_status}
@@ -35,37 +35,31 @@ use Rattle.dm_onekernel.specs.Refusals.{first_failed}
 use Rattle.dm_onekernel.specs.Service as service
 use Rattle.dm_onekernel.specs.Step as kernel
 use Rattle.dm_datamove.proofs.Services.{length-written}
-use Rattle.dm_syscall.specs.declared.Completed.TheVariants as completed
 use Rattle.dm_syscall.specs.Completing as completing
 use Rattle.dm_syscall.specs.Completing.{Completion, IsAwaited, plain_completed}
 use Rattle.dm_syscall.proofs.Completes.{status_plainly}
-use Rattle.dm_laws.proofs.Equal.{id_eq-is, id_eq-same, pid_eq-same}
+use Rattle.dm_laws.proofs.Equal.{id_eq-is, pid_eq-same}
 use Rattle.dm_rule.specs.declared.line.Line.TheVariants as line
-use Rattle.dm_rule.specs.Parts as rule_part
 use Rattle.dm_rule.specs.Point.{Point, moved}
 use Rattle.dm_rule.specs.Rule as rule
 use Rattle.dm_rule.specs.Sets.{moved_back, without_id}
-use Rattle.dm_rule.specs.Spots.{Spot, Queue, times, standing}
+use Rattle.dm_rule.specs.Spots.{Queue, times, standing}
 use Rattle.dm_rule.specs.View.{View, serving}
 use Rattle.dm_rule.proofs.Standing.{StandsAsBag-one}
 use Rattle.dm_rulelaws.proofs.FitsRises.{set_at}
-use Rattle.dm_placed.specs.Placed.{Placed, Mirrors}
+use Rattle.dm_placed.specs.Placed.{Placed}
 use Rattle.dm_placed.specs.PlacedStep as placed
 use Rattle.dm_placed.proofs.Keeps.{of_map}
 use Rattle.dm_placed.proofs.Matches.{Ends, completed_matches}
 use Rattle.dm_placed.proofs.Queues.{with_queue}
-use Rattle.dm_kernel.specs.declared.part.Part.TheVariants as part
 use Rattle.dm_kernel.specs.State as machine
 use Rattle.dm_kernel.specs.State.{KernelState, Turned, turned, with_here}
 use Rattle.dm_kernel.specs.Serve as serve
-use Rattle.dm_mirror.specs.Stands.{AreMessages, KernelStands}
-use Rattle.dm_mirror.proofs.KernelSets.{Leaves, view_leaves_on, kernel_leaves_on, placed_leaves_on, is_queue_of, off_if, on_if, messages_on}
+use Rattle.dm_mirror.specs.Stands.{AreMessages}
+use Rattle.dm_mirror.proofs.KernelSets.{Leaves, view_leaves_on, kernel_leaves_on, placed_leaves_on, is_queue_of, off_if, on_if, messages_on, eq_self}
 use Rattle.dm_mirror.proofs.KernelLabels.{view_serving, view_queue, kernel_sets, kernel_out, placed_sets, placed_out, machine_on, record_on, label_mirrors, after_label}
 use Rattle.dm_mirror.proofs.ServeRuns.{Found, found}
-use Rattle.dm_mirror.proofs.Serving.{Served, Acts, acts_as, rung, served_goes, is_for, queue_alone}
-
-eq_same : (n : ℕ) → (n == n) ≡ true
-eq_same n = grind (arith, nat_tests)
+use Rattle.dm_mirror.proofs.Serving.{Served, Acts, acts_as, moved_round, served_goes, is_for, queue_alone}
 
 -- a message on the mask is a user message
 record UserIs (w : What) : Type 0 where
@@ -142,7 +136,7 @@ ring_on m p v at = machine_on v.ring v.acting m (moved_back p (v.ring v.acting))
 -- the message is received, unless it is refused
 receive_row : (b : Boot) (m : ℕ) (pt : Point) (l : Placed) (k : KernelState) (p : Pid) (x : Process) (mask base size : ℕ) (w : Message) (code channel : ℕ) (body : List ℕ) (links : List Link) (o : Option Reply) → Served b m pt l k p x → IsLawfulProcess x → x.status ≡ status.Waiting mask base size
     → Found l mask (pt.view.queue m p) x.queue w → first_failed (receive_refusals (plain_process x) size body (map plain_link links)) ≡ o
-    → completing.completion x 0 x.status (Some w) ≡ Some (completing.completes_unless o x (completing.receives x 0 w.id base code channel body links)) → Acts b m pt l p (serve.receives (rung k p) p x mask (Some w)) (rule.receives pt.kernel p (plain_process x) (Some w.id))
+    → completing.completion x 0 x.status (Some w) ≡ Some (completing.completes_unless o x (completing.receives x 0 w.id base code channel body links)) → Acts b m pt l p (serve.receives (moved_round k p) p x mask (Some w)) (rule.receives pt.kernel p (plain_process x) (Some w.id))
 receive_row b m pt l k p x mask base size w code channel body links None s lawful waits f fits e =
     let t = is_queue_of m p in
     let id = w.id in
@@ -169,9 +163,9 @@ receive_row b m pt l k p x mask base size w code channel body links None s lawfu
     in
     let reach : base + size ≤ length x.memory = subst (IsLawfulStatus (length x.memory)) waits lawful.status in
     let short = body_fits (plain_process x) size body (map plain_link links) fits in
-    acts_as b m pt l p (serve.receives (rung k p) p x mask (Some w)) (turned (with_here (rung k p) p z) (machine.says (label.Receive p id) ∷ [])) (rule.receives pt.kernel p (plain_process x) (Some id)) (Some (rule.says (label.Receive p id) ∷ []))
-    (ap (serve.received_by (rung k p) p x mask w) e) c.parts (record {
-      state = with_here (rung k p) p z;
+    acts_as b m pt l p (serve.receives (moved_round k p) p x mask (Some w)) (turned (with_here (moved_round k p) p z) (machine.says (label.Receive p id) ∷ [])) (rule.receives pt.kernel p (plain_process x) (Some id)) (Some (rule.says (label.Receive p id) ∷ []))
+    (ap (serve.received_by (moved_round k p) p x mask w) e) c.parts (record {
+      state = with_here (moved_round k p) p z;
       says = line.Label (label.Receive p id) ∷ [];
       route = None;
       turn = refl;
@@ -198,13 +192,13 @@ receive_row b m pt l k p x mask base size w code channel body links (Some reply)
     let c = completes_of b m pt l k p x mask base size w d s waits f e in
     let z = d.process in
     let u = kernel.goes_on pt.kernel p (plain_process z) in
-    let step : kernel.step pt.kernel (label.Refuse p id reply) ≡ Some u = ap (λ (v : Option receiving.Completed). bind v (kernel.refuses pt.kernel p reply)) c.completing_ ∙ ap (λ (q : Bool). when q u) (eq_same (reply_code reply)) in
+    let step : kernel.step pt.kernel (label.Refuse p id reply) ≡ Some u = ap (λ (v : Option receiving.Completed). bind v (kernel.refuses pt.kernel p reply)) c.completing_ ∙ ap (λ (q : Bool). when q u) (eq_self (reply_code reply)) in
     let next = moved pt (line.Label (label.Refuse p id reply)) u in
     let on = placed.with_process l p (Some (with_queue z c.ends.queue)) in
     let leaves : Leaves m t p pt l next on = record { view = view_serving m t p pt.view s.acting; kernel = kernel_sets p pt.kernel (Alive (plain_process z)); placed_ = placed_sets t p pt.view l (Some (with_queue z c.ends.queue)) } in
-    acts_as b m pt l p (serve.receives (rung k p) p x mask (Some w)) (turned (with_here (rung k p) p z) (machine.says (label.Refuse p id reply) ∷ [])) (rule.receives pt.kernel p (plain_process x) (Some id)) (Some (rule.says (label.Refuse p id reply) ∷ []))
-    (ap (serve.received_by (rung k p) p x mask w) e) c.parts (record {
-      state = with_here (rung k p) p z;
+    acts_as b m pt l p (serve.receives (moved_round k p) p x mask (Some w)) (turned (with_here (moved_round k p) p z) (machine.says (label.Refuse p id reply) ∷ [])) (rule.receives pt.kernel p (plain_process x) (Some id)) (Some (rule.says (label.Refuse p id reply) ∷ []))
+    (ap (serve.received_by (moved_round k p) p x mask w) e) c.parts (record {
+      state = with_here (moved_round k p) p z;
       says = line.Label (label.Refuse p id reply) ∷ [];
       route = None;
       turn = refl;
@@ -219,7 +213,7 @@ receive_row b m pt l k p x mask base size w code channel body links (Some reply)
     })
 
 pub receives_acts : (b : Boot) (m : ℕ) (pt : Point) (l : Placed) (k : KernelState) (p : Pid) (x : Process) (mask base size : ℕ) (w : Message) → Served b m pt l k p x → IsLawfulProcess x → x.status ≡ status.Waiting mask base size → first_on mask x.queue ≡ Some w
-    → Acts b m pt l p (serve.receives (rung k p) p x mask (Some w)) (rule.receives pt.kernel p (plain_process x) (Some w.id))
+    → Acts b m pt l p (serve.receives (moved_round k p) p x mask (Some w)) (rule.receives pt.kernel p (plain_process x) (Some w.id))
 receives_acts b m pt l k p x mask base size w s lawful waits first =
     let f = found l mask (pt.view.queue m p) x.queue w (λ i n there. (s.mirrors.places.message i n there).id) s.at.messages first in
     let v = user_is mask w.what f.on in

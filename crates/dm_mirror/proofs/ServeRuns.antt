@@ -17,8 +17,8 @@ use Rattle.dm_regs.specs.declared.registers.Regs.{Regs}
 use Rattle.dm_regs.specs.declared.registers.Fault.{Fault}
 use Rattle.dm_regs.specs.Instructions.{Row, instruction}
 use Rattle.dm_regs.specs.Instructions as row
-use Rattle.dm_process.specs.Mail.{first_on, is_on, on_mask, what_is_on, without_first_on}
-use Rattle.dm_process.specs.Process.{is_runnable, status_is_runnable}
+use Rattle.dm_process.specs.Mail.{first_on, is_on, what_is_on, without_first_on}
+use Rattle.dm_process.specs.Process.{status_is_runnable}
 use Rattle.dm_process.specs.declared.process.Process.{Process}
 use Rattle.dm_process.specs.declared.process.Status.{Status}
 use Rattle.dm_process.specs.declared.process.Status.TheVariants as status
@@ -46,7 +46,6 @@ use Rattle.dm_rulelaws.specs.KnownStands as rings
 use Rattle.dm_rulelaws.proofs.FitsRises.{both}
 use Rattle.dm_placed.specs.Placed.{Placed, MirrorsKernel}
 use Rattle.dm_placed.proofs.Queues.{with_queue}
-use Rattle.dm_kernel.specs.declared.run.Halt.{Halt}
 use Rattle.dm_kernel.specs.declared.run.Halt.TheVariants as halt
 use Rattle.dm_kernel.specs.State as machine
 use Rattle.dm_kernel.specs.State.{KernelState}

@@ -1,6 +1,5 @@
 -- A ready process stops at a call that sends, or ends; and all that it can come to.
-use Rattle.std.proofs.Common.{◌≡◌, ℕ, ◌+◌, ◌<◌, ◌≤◌, ◌==◌, ◌&&◌, Bool, true, false, List, [], ◌∷◌, ◌++◌, map, length, refl, ap, ◌∙◌, sym, subst, arith, nat_lt}
-use Rattle.std.specs.Prelude.{if◌then◌else◌}
+use Rattle.std.proofs.Common.{◌≡◌, ℕ, ◌+◌, ◌≤◌, Bool, false, List, [], ◌∷◌, ◌++◌, map, length, refl, ap, ◌∙◌, sym, subst, arith, nat_lt}
 use Rattle.std.specs.declared.option.Option.{Option}
 use Rattle.std.specs.declared.option.Option.TheVariants.{None, Some}
 use Rattle.std.proofs.lemmas.Bool.Decides.{nat_tests}
@@ -10,67 +9,48 @@ use Rattle.dm_message.specs.declared.Message.{Message}
 use Rattle.dm_message.specs.declared.MsgId.{MsgId}
 use Rattle.dm_message.specs.Ids.{id_eq}
 use Rattle.dm_message.specs.Plain.{PlainMessage, plain_message}
-use Rattle.dm_regs.specs.declared.registers.Regs.{Regs}
-use Rattle.dm_regs.specs.declared.registers.Fault.{Fault}
-use Rattle.dm_regs.specs.Instructions.{instruction}
-use Rattle.dm_regs.specs.Instructions as row
 use Rattle.dm_process.specs.declared.process.Process.{Process}
-use Rattle.dm_process.specs.declared.process.Status.TheVariants as status
 use Rattle.dm_forward.specs.declared.record.Record.TheVariants as record_
 use Rattle.dm_onekernel.specs.declared.boot.Boot.{Boot}
 use Rattle.dm_onekernel.specs.declared.label.Label.TheVariants as label
 use Rattle.dm_onekernel.specs.declared.label.Why.{Why}
-use Rattle.dm_onekernel.specs.declared.label.Why.TheVariants as why
-use Rattle.dm_onekernel.specs.Codes.{reply_code, reply_eq, why_code}
 use Rattle.dm_onekernel.specs.Options.{bind, when}
-use Rattle.dm_onekernel.specs.Kernel.{Life, Alive, Ended, OneKernel, with_process, with_sent}
+use Rattle.dm_onekernel.specs.Kernel.{Alive, Ended, with_process, with_sent}
 use Rattle.dm_onekernel.specs.Plain.{plain_process}
 use Rattle.dm_onekernel.specs.PlainProcess.{PlainProcess}
 use Rattle.dm_onekernel.specs.Calls as calls
 use Rattle.dm_onekernel.specs.Step as kernel
 use Rattle.dm_onekernel.specs.Step.{Machine}
-use Rattle.dm_syscall.specs.declared.Called.{Called}
-use Rattle.dm_syscall.specs.declared.Called.TheVariants as called
-use Rattle.dm_syscall.specs.Calls as syscall
-use Rattle.dm_syscall.specs.Plainly.{plain_called, plain_sent}
-use Rattle.dm_syscall.proofs.PlainCalls.{call_plainly}
 use Rattle.dm_laws.proofs.Entered.{counts, is_counted}
 use Rattle.dm_laws.proofs.Equal.{id_eq-same, pid_eq-same}
 use Rattle.dm_laws.proofs.Sound.{not_counted, counts_process, not_server}
-use Rattle.dm_laws.proofs.Steps.{bind-is, after_ran, nexts}
-use Rattle.dm_rule.specs.declared.line.Line.{Line}
+use Rattle.dm_laws.proofs.Steps.{after_ran, nexts}
 use Rattle.dm_rule.specs.declared.line.Line.TheVariants as line
 use Rattle.dm_rule.specs.Parts as rule_part
-use Rattle.dm_rule.specs.Point.{Point, moved, after}
+use Rattle.dm_rule.specs.Point.{Point, moved}
 use Rattle.dm_rule.specs.Rule as rule
 use Rattle.dm_rule.specs.Sets.{moved_back, without}
-use Rattle.dm_rule.specs.Spots.{Spot, Queue, Inbox, times, standing}
+use Rattle.dm_rule.specs.Spots.{Spot, Queue, times, standing}
 use Rattle.dm_rule.specs.View as view
 use Rattle.dm_rule.specs.View.{View, receiver_of}
 use Rattle.dm_rulelaws.proofs.FitsRises.{set_at}
 use Rattle.dm_rulelaws.proofs.GoesTurns.{droppable_on}
-use Rattle.dm_placed.specs.Placed.{Placed, Mirrors}
+use Rattle.dm_placed.specs.Placed.{Placed}
 use Rattle.dm_placed.specs.PlacedStep as placed
 use Rattle.dm_placed.proofs.Keeps.{parts}
-use Rattle.dm_placed.proofs.Matches.{acted_with, call_matches, fault_matches}
-use Rattle.dm_placed.proofs.Queues.{with_queue, calls_with}
+use Rattle.dm_placed.proofs.Queues.{with_queue}
 use Rattle.dm_kernel.specs.declared.part.Part.{Part}
 use Rattle.dm_kernel.specs.declared.part.Part.TheVariants as part
 use Rattle.dm_kernel.specs.State as machine
 use Rattle.dm_kernel.specs.State.{KernelState, Turned, turned, with_here, without_process}
 use Rattle.dm_kernel.specs.Serve as serve
-use Rattle.dm_kernel.proofs.Serving.{call_keeps, ran_keeps}
-use Rattle.dm_mirror.specs.Stands.{AreMessages, KernelStands}
+use Rattle.dm_mirror.specs.Stands.{AreMessages}
 use Rattle.dm_mirror.proofs.KernelSets.{Leaves, leaves_on, kernel_leaves_on, placed_leaves_on, is_queue_of, off_if, on_if, queue_of_others, inbox_stands, messages_on}
 use Rattle.dm_mirror.proofs.KernelLabels.{view_same, view_ended, kernel_sets, kernel_puts, placed_sets, placed_puts, machine_on, record_on, nowhere_alone, label_mirrors, after_label}
 use Rattle.dm_mirror.proofs.KernelGoes.{ends_stands}
-use Rattle.dm_mirror.proofs.ServeRuns.{Comes, Whole, Called as Calling, Faulted, comes}
 use Rattle.dm_mirror.proofs.ServeDrops.{drop_lines, drops_stand, rule_drops, machine_drops}
-use Rattle.dm_mirror.proofs.Serving.{Served, Acts, acts_as, rung, served_goes, is_for, queue_alone}
-use Rattle.dm_mirror.proofs.ServeCalls.{Ran, ran_kernel, ran_point, ran_placed, ran_steps, ran_of, whole_acts, goes_acts}
-
-eq_same : (n : ℕ) → (n == n) ≡ true
-eq_same n = grind (arith, nat_tests)
+use Rattle.dm_mirror.proofs.Serving.{Served, Acts, moved_round, served_goes, is_for, queue_alone}
+use Rattle.dm_mirror.proofs.ServeCalls.{Ran, ran_kernel, ran_point, ran_placed}
 
 -- a message that is sent is new
 fresh_message : (b : Boot) (m : ℕ) (pt : Point) (l : Placed) (k : KernelState) (p : Pid) (x y : Process) (c n : ℕ) (w : PlainMessage) (z : PlainProcess) (s : Served b m pt l k p x) → kernel.step pt.kernel (label.Ran p c) ≡ Some (ran_kernel pt p y)
@@ -91,7 +71,7 @@ fresh_message b m pt l k p x y c n w z s step next =
 pub sends_acts : (b : Boot) (m : ℕ) (pt : Point) (l : Placed) (k : KernelState) (p : Pid) (x y z : Process) (c n : ℕ) (w : Message) (u : PlainMessage) (s : Served b m pt l k p x) → Ran m pt l p x s.at.queue c y → plain_message w ≡ Some u
     → kernel.next (ran_kernel pt p y) p ≡ Some (kernel.Calls n (calls.Sends u (plain_process z)))
     → placed.acts m (ran_placed l p y s.at.queue) p ≡ Some (placed.with_sent (placed.with_process (ran_placed l p y s.at.queue) p (Some (with_queue z s.at.queue))) (Some w)) → z.queue ≡ x.queue → length z.memory ≡ length x.memory
-    → Acts b m pt l p (turned (with_here (rung k p) p z) (machine.says (label.Ran p c) ∷ machine.says (label.Send p w.id) ∷ part.Routes w ∷ [])) (Some (rule.says (label.Ran p c) ∷ rule.says (label.Send p u.id) ∷ rule_part.Routes u.id ∷ []))
+    → Acts b m pt l p (turned (with_here (moved_round k p) p z) (machine.says (label.Ran p c) ∷ machine.says (label.Send p w.id) ∷ part.Routes w ∷ [])) (Some (rule.says (label.Ran p c) ∷ rule.says (label.Send p u.id) ∷ rule_part.Routes u.id ∷ []))
 sends_acts b m pt l k p x y z c n w u s r says next with_ queue_is memory =
     let t = is_queue_of m p in
     let queue = s.at.queue in
@@ -120,7 +100,7 @@ sends_acts b m pt l k p x y z c n w u s r says next with_ queue_is memory =
     messages_on l.bag on.bag (pt.view.queue m p) z.queue (λ i least. off_if (id_eq w.id i) (Some w) (l.bag i) (alone (λ spot. false) i (Queue m p) refl least)) (subst (AreMessages l.bag (pt.view.queue m p)) (sym queue_is) s.at.messages)
     in
     record {
-      state = with_here (rung k p) p z;
+      state = with_here (moved_round k p) p z;
       says = line.Label (label.Ran p c) ∷ line.Label e ∷ [];
       route = Some w;
       turn = refl;
@@ -142,7 +122,7 @@ nothing_more (x ∷ xs) = ap (λ (ys : List _). x ∷ ys) (nothing_more xs)
 pub ends_acts : (b : Boot) (m : ℕ) (pt : Point) (l : Placed) (k : KernelState) (p : Pid) (x y z : Process) (c : ℕ) (because : Why) (s : Served b m pt l k p x) → Ran m pt l p x s.at.queue c y
     → kernel.step (ran_kernel pt p y) (label.End p because) ≡ Some (with_process (ran_kernel pt p y) p (Ended because)) → placed.acts m (ran_placed l p y s.at.queue) p ≡ Some (placed.with_process (ran_placed l p y s.at.queue) p None)
     → z.queue ≡ x.queue → length z.memory ≡ length x.memory
-    → Acts b m pt l p (serve.ends (with_here (rung k p) p z) p c z because) (Some (rule.says (label.Ran p c) ∷ rule.says (label.End p because) ∷ rule.drops (pt.view.queue m p)))
+    → Acts b m pt l p (serve.ends (with_here (moved_round k p) p z) p c z because) (Some (rule.says (label.Ran p c) ∷ rule.says (label.End p because) ∷ rule.drops (pt.view.queue m p)))
 ends_acts b m pt l k p x y z c because s r step with_ queue_is memory =
     let t = is_queue_of m p in
     let queue = s.at.queue in
@@ -160,7 +140,7 @@ ends_acts b m pt l k p x y z c because s r step with_ queue_is memory =
     (λ j least i spot off there. queue_alone m p pt.kernel pt.view s.kept j least i spot off (subst (λ (v : ℕ). 1 ≤ v) (ap (times i) (first.view.lists spot off)) there))
     (λ i least. let f = is_for pt.kernel p ids i s.drops least in s.told i f.x f.there ∙ ap Some f.to) in
     let leaves = leaves_on m t p pt o2 d.next l l2 d.placed first d.leaves in
-    let n = without_process (with_here (rung k p) p z) p z because in
+    let n = without_process (with_here (moved_round k p) p z) p z because in
     let messages : AreMessages l.bag ids z.queue = subst (AreMessages l.bag ids) (sym queue_is) s.at.messages in
     let names = λ (i : MsgId) (w : Message) (there : l.bag i ≡ Some w). (s.mirrors.places.message i w there).id in
     let ring : n.ring ≡ d.next.view.ring m =
@@ -179,11 +159,11 @@ ends_acts b m pt l k p x y z c because s r step with_ queue_is memory =
       kernel = ends_stands b m t p pt d.next l d.placed k n x z because s.at leaves
           (record {
             here = refl;
-            records = λ q off. off_if (pid_eq p q) (Some (record_.Ended because)) ((with_here (rung k p) p z).records q) off ∙ off_if (pid_eq p q) (Some (record_.Here z)) (k.records q) off;
+            records = λ q off. off_if (pid_eq p q) (Some (record_.Ended because)) ((with_here (moved_round k p) p z).records q) off ∙ off_if (pid_eq p q) (Some (record_.Here z)) (k.records q) off;
             made = refl;
             servers = refl;
           })
-          (λ q off. queue_of_others m p q off) (on_if (pid_eq p p) (Some (record_.Ended because)) ((with_here (rung k p) p z).records p) (pid_eq-same p)) refl ring
+          (λ q off. queue_of_others m p q off) (on_if (pid_eq p p) (Some (record_.Ended because)) ((with_here (moved_round k p) p z).records p) (pid_eq-same p)) refl ring
           (inbox_stands m t p pt d.next l d.placed k.inbox leaves refl s.stands.inbox) (d.known ∙ record_on o.view.known o.view.acting m p view.Ended s.acting) (d.process ∙ ended) memory s.made s.stands;
       leaves = leaves;
       sent = tt;

@@ -1,34 +1,29 @@
 -- A turn with an empty inbox: the machine idles, or serves the first process of its ring that can be served.
-use Rattle.std.proofs.Common.{◌≡◌, ℕ, ◌+◌, ◌<◌, ◌≤◌, ◌==◌, ◌&&◌, not, Bool, true, false, List, [], ◌∷◌, map, refl, ap, ◌∙◌, sym, subst, arith, is_some}
+use Rattle.std.proofs.Common.{◌≡◌, ℕ, ◌+◌, ◌<◌, ◌≤◌, ◌&&◌, not, Bool, true, false, List, [], ◌∷◌, map, refl, ap, ◌∙◌, sym, subst, arith, is_some}
 use Rattle.std.specs.Prelude.{if◌then◌else◌, option_map, slice_get}
 use Rattle.std.specs.declared.option.Option.{Option}
 use Rattle.std.specs.declared.option.Option.TheVariants.{None, Some}
 use Rattle.dm_link.specs.declared.Pid.{Pid}
-use Rattle.dm_link.specs.Names.{pid_eq, pid_of}
+use Rattle.dm_link.specs.Names.{pid_of}
 use Rattle.dm_message.specs.declared.Message.{Message}
 use Rattle.dm_message.specs.declared.MsgId.{MsgId}
 use Rattle.dm_process.specs.Lawful.{IsLawfulProcess}
 use Rattle.dm_process.specs.Mail.{first_on}
-use Rattle.dm_process.specs.Process.{is_runnable, status_is_runnable}
+use Rattle.dm_process.specs.Process.{status_is_runnable}
 use Rattle.dm_process.specs.declared.process.Process.{Process}
 use Rattle.dm_process.specs.declared.process.Status.{Status}
 use Rattle.dm_process.specs.declared.process.Status.TheVariants as status
-use Rattle.dm_forward.specs.declared.record.Record.TheVariants as record_
-use Rattle.dm_room.specs.Room.{Taken}
 use Rattle.dm_onekernel.specs.declared.boot.Boot.{Boot}
 use Rattle.dm_onekernel.specs.Boot.{IsValid}
 use Rattle.dm_onekernel.specs.Options.{bind}
-use Rattle.dm_onekernel.specs.Kernel.{Life, Alive, OneKernel}
+use Rattle.dm_onekernel.specs.Kernel.{Life, Alive}
 use Rattle.dm_onekernel.specs.Plain.{plain_process, plain_status}
 use Rattle.dm_onekernel.specs.PlainProcess.{PlainProcess}
 use Rattle.dm_onekernel.specs.Step as kernel
-use Rattle.dm_laws.proofs.Equal.{pid_eq-is, pid_eq-same}
-use Rattle.dm_schedule.specs.declared.Step.TheVariants as step
+use Rattle.dm_laws.proofs.Equal.{pid_eq-same}
 use Rattle.dm_rule.specs.declared.line.Line.TheVariants as line
-use Rattle.dm_rule.specs.Parts as rule_part
 use Rattle.dm_rule.specs.Point.{Point}
 use Rattle.dm_rule.specs.Rule as rule
-use Rattle.dm_rule.specs.View.{View}
 use Rattle.dm_rulelaws.specs.KnownStands.{rings}
 use Rattle.dm_rulelaws.proofs.FitsRises.{both}
 use Rattle.dm_rulelaws.proofs.GoesAlways.{Run}
@@ -47,10 +42,10 @@ use Rattle.dm_mirror.specs.Made.{MadeStands}
 use Rattle.dm_mirror.specs.Stands.{AreMessages, KernelStands, RoomStands}
 use Rattle.dm_mirror.proofs.Turning.{Turns}
 use Rattle.dm_mirror.proofs.Rooms.{taken_same}
-use Rattle.dm_mirror.proofs.KernelSets.{Leaves, is_queue_of, elsewhere_of, queue_not_elsewhere, known_at}
+use Rattle.dm_mirror.proofs.KernelSets.{is_queue_of, elsewhere_of, queue_not_elsewhere, known_at, not_is}
 use Rattle.dm_mirror.proofs.KernelLabels.{view_same, kernel_same, placed_same}
-use Rattle.dm_mirror.proofs.ServeRuns.{IsHere, here_of, in_ring, not_server_of, first_runs, first_same}
-use Rattle.dm_mirror.proofs.Serving.{Served, Acts, acts_as, rung}
+use Rattle.dm_mirror.proofs.ServeRuns.{here_of, in_ring, not_server_of, first_runs, first_same}
+use Rattle.dm_mirror.proofs.Serving.{Served, Acts, acts_as, moved_round}
 use Rattle.dm_mirror.proofs.ServeExecutes.{executes_acts}
 use Rattle.dm_mirror.proofs.ServeReceives.{receives_acts}
 
@@ -71,10 +66,6 @@ pub begun_mirrors : (pt : Point) (l : Placed) (m : ℕ) → Mirrors pt.kernel pt
 begun_mirrors pt l m h = mirrors_view pt.kernel pt.view (begun pt m).view pt.addresses l refl h
 
 -- the process that the machine serves
-not_is : (c : Bool) → not c ≡ true → c ≡ false
-not_is true e = cc
-not_is false e = refl
-
 record Runnable (records : Pid → Option machine.Known) (ps : List Pid) (p : Pid) : Type 0 where
   stands : 1 ≤ rings p ps
   goes : turn.known_is_runnable (records p) ≡ true
@@ -128,16 +119,16 @@ chosen b m pt l k p h made mirrors stands first =
 
 -- it is ready, or waits for a message that is queued
 waits_acts : (b : Boot) (m : ℕ) (pt : Point) (l : Placed) (k : KernelState) (p : Pid) (x : Process) (mask base size : ℕ) (o : Option Message) → Served b m pt l k p x → IsLawfulProcess x → x.status ≡ status.Waiting mask base size → first_on mask x.queue ≡ o → is_some o ≡ true
-    → Acts b m pt l p (serve.receives (rung k p) p x mask (first_on mask x.queue)) (rule.receives pt.kernel p (plain_process x) (rule.first_awaited pt.kernel mask (pt.view.queue m p)))
+    → Acts b m pt l p (serve.receives (moved_round k p) p x mask (first_on mask x.queue)) (rule.receives pt.kernel p (plain_process x) (rule.first_awaited pt.kernel mask (pt.view.queue m p)))
 waits_acts b m pt l k p x mask base size None s lawful waits first some = cc
 waits_acts b m pt l k p x mask base size (Some w) s lawful waits first some =
-    acts_as b m pt l p (serve.receives (rung k p) p x mask (first_on mask x.queue)) (serve.receives (rung k p) p x mask (Some w)) (rule.receives pt.kernel p (plain_process x) (rule.first_awaited pt.kernel mask (pt.view.queue m p)))
-    (rule.receives pt.kernel p (plain_process x) (Some w.id)) (ap (serve.receives (rung k p) p x mask) first)
+    acts_as b m pt l p (serve.receives (moved_round k p) p x mask (first_on mask x.queue)) (serve.receives (moved_round k p) p x mask (Some w)) (rule.receives pt.kernel p (plain_process x) (rule.first_awaited pt.kernel mask (pt.view.queue m p)))
+    (rule.receives pt.kernel p (plain_process x) (Some w.id)) (ap (serve.receives (moved_round k p) p x mask) first)
     (ap (rule.receives pt.kernel p (plain_process x)) (first_same pt.kernel l mask (pt.view.queue m p) x.queue s.mirrors.plain (λ i n there. (s.mirrors.places.message i n there).id) s.at.messages ∙ ap (λ (o : Option Message). option_map (λ (n : Message). n.id) o) first))
     (receives_acts b m pt l k p x mask base size w s lawful waits first)
 
 status_acts : (b : Boot) (m : ℕ) (pt : Point) (l : Placed) (k : KernelState) (p : Pid) (x : Process) (st : Status) → Served b m pt l k p x → IsLawfulProcess x → x.status ≡ st → status_is_runnable st x.queue ≡ true
-    → Acts b m pt l p (serve.serves_status b.quantum (rung k p) p x st) (rule.serves_status b.quantum pt.kernel p (pt.view.queue m p) (plain_process x) (plain_status st))
+    → Acts b m pt l p (serve.serves_status b.quantum (moved_round k p) p x st) (rule.serves_status b.quantum pt.kernel p (pt.view.queue m p) (plain_process x) (plain_status st))
 status_acts b m pt l k p x status.Ready s lawful is goes = executes_acts b m pt l k p x b.quantum s is
 status_acts b m pt l k p x (status.Waiting mask base size) s lawful is goes = waits_acts b m pt l k p x mask base size (first_on mask x.queue) s lawful is refl goes
 status_acts b m pt l k p x (status.Moving dir owner base own left pending) s lawful is goes = cc
@@ -146,8 +137,8 @@ serves_acts : (b : Boot) (m : ℕ) (pt : Point) (l : Placed) (k : KernelState) (
 serves_acts b m pt l k p lawful c =
     let x = c.x in
     let s = c.served in
-    acts_as b m (begun pt m) l p (turn.goes_round b k (Some p)) (serve.serves_status b.quantum (rung k p) p x x.status) (rule.goes_round b pt m (Some p)) (rule.serves_status b.quantum pt.kernel p (pt.view.queue m p) (plain_process x) (plain_status x.status))
-    (ap (serve.serves b.quantum (rung k p) p) s.at.record_is) (ap (λ (o : Option Life). bind (kernel.alive o) (λ (z : PlainProcess). rule.serves_status b.quantum pt.kernel p (pt.view.queue m p) z z.status)) s.at.alive)
+    acts_as b m (begun pt m) l p (turn.goes_round b k (Some p)) (serve.serves_status b.quantum (moved_round k p) p x x.status) (rule.goes_round b pt m (Some p)) (rule.serves_status b.quantum pt.kernel p (pt.view.queue m p) (plain_process x) (plain_status x.status))
+    (ap (serve.serves b.quantum (moved_round k p) p) s.at.record_is) (ap (λ (o : Option Life). bind (kernel.alive o) (λ (z : PlainProcess). rule.serves_status b.quantum pt.kernel p (pt.view.queue m p) z z.status)) s.at.alive)
     (status_acts b m (begun pt m) l k p x x.status s (lawful.processes p x s.at.record_is) refl c.goes)
 
 -- what a served process gives is a turn

@@ -1,8 +1,8 @@
 -- The process that a turn serves, and what serving it gives by the machine and by the rule.
-use Rattle.std.proofs.Common.{◌≡◌, ◌≢◌, ℕ, ◌+◌, ◌≤◌, ◌==◌, ◌&&◌, Bool, true, false, List, [], ◌∷◌, ◌++◌, map, length, refl, ap, ◌∙◌, sym, subst, inl, inr, arith}
+use Rattle.std.proofs.Common.{◌≡◌, ◌≢◌, ℕ, ◌+◌, ◌≤◌, ◌&&◌, Bool, false, List, [], ◌∷◌, ◌++◌, map, length, refl, ap, ◌∙◌, sym, subst, inl, inr, arith}
 use Rattle.std.specs.Prelude.{if◌then◌else◌}
 use Rattle.std.specs.declared.option.Option.{Option}
-use Rattle.std.specs.declared.option.Option.TheVariants.{None, Some}
+use Rattle.std.specs.declared.option.Option.TheVariants.{Some}
 use Rattle.std.proofs.lemmas.Bool.{cases_Bool, false≢true}
 use Rattle.dm_link.specs.declared.Pid.{Pid}
 use Rattle.dm_link.specs.Names.{pid_eq}
@@ -15,13 +15,13 @@ use Rattle.dm_forward.specs.declared.record.Record.TheVariants as record_
 use Rattle.dm_onekernel.specs.declared.boot.Boot.{Boot}
 use Rattle.dm_onekernel.specs.Kernel.{Alive, OneKernel}
 use Rattle.dm_onekernel.specs.Plain.{plain_process}
-use Rattle.dm_laws.proofs.Equal.{id_eq-is, id_eq-same, pid_eq-same}
+use Rattle.dm_laws.proofs.Equal.{id_eq-is, pid_eq-same}
 use Rattle.dm_laws.proofs.Sound.{Sound}
 use Rattle.dm_rule.specs.declared.line.Line.{Line}
 use Rattle.dm_rule.specs.Parts as rule
 use Rattle.dm_rule.specs.Point.{Point, after}
 use Rattle.dm_rule.specs.Sets.{moved_back}
-use Rattle.dm_rule.specs.Spots.{Spot, Queue, times, standing, StandsAsBag}
+use Rattle.dm_rule.specs.Spots.{Queue, times, standing, StandsAsBag}
 use Rattle.dm_rule.specs.View.{View, receiver_of}
 use Rattle.dm_rule.proofs.Standing.{StandsAsBag-elsewhere}
 use Rattle.dm_rulelaws.proofs.GoesTurns.{Droppable, IsFor}
@@ -32,7 +32,7 @@ use Rattle.dm_kernel.specs.State.{KernelState, Turned, with_here}
 use Rattle.dm_mirror.specs.Made.{MadeStands}
 use Rattle.dm_mirror.specs.Stands.{AreMessages, KernelStands}
 use Rattle.dm_mirror.proofs.Turning.{routed, rule_routed, IsSent}
-use Rattle.dm_mirror.proofs.KernelSets.{Leaves, is_queue_of, off_if, on_if, left_off, eq_self, queue_of_others, inbox_stands}
+use Rattle.dm_mirror.proofs.KernelSets.{Leaves, is_queue_of, off_if, on_if, eq_self, queue_of_others, inbox_stands}
 use Rattle.dm_mirror.proofs.KernelGoes.{LivesHere, goes_stands}
 use Rattle.dm_mirror.proofs.ServeDrops.{AreAlone}
 
@@ -83,15 +83,15 @@ acts_as b m pt l p t u ps qs e f h = record {
 }
 
 -- the machine's kernel with the process at the ring's back
-abbrev pub rung : KernelState → Pid → KernelState
-rung k p = record k { ring = moved_back p k.ring }
+abbrev pub moved_round : KernelState → Pid → KernelState
+moved_round k p = record k { ring = moved_back p k.ring }
 
 -- the process goes on, and is at the ring's back
 pub served_goes : (b : Boot) (m : ℕ) (pt next : Point) (l placed : Placed) (k : KernelState) (p : Pid) (x y : Process) (queue : List Message) → Served b m pt l k p x → Leaves m (is_queue_of m p) p pt l next placed → next.view.known m p ≡ pt.view.known m p
     → next.view.ring m ≡ moved_back p (pt.view.ring m) → next.kernel.processes p ≡ Some (Alive (plain_process y)) → placed.processes p ≡ Some (with_queue y queue) → AreMessages placed.bag (next.view.queue m p) y.queue → length y.memory ≡ length x.memory
-    → KernelStands b next placed m (with_here (rung k p) p y)
+    → KernelStands b next placed m (with_here (moved_round k p) p y)
 served_goes b m pt next l placed k p x y queue s leaves known ring alive there messages memory =
-    goes_stands b m (is_queue_of m p) p pt next l placed k (with_here (rung k p) p y) x y queue s.at leaves
+    goes_stands b m (is_queue_of m p) p pt next l placed k (with_here (moved_round k p) p y) x y queue s.at leaves
     (record { here = refl; records = λ q off. off_if (pid_eq p q) (Some (record_.Here y)) (k.records q) off; made = refl; servers = refl }) (λ q off. queue_of_others m p q off)
     (on_if (pid_eq p p) (Some (record_.Here y)) (k.records p) (pid_eq-same p)) refl (ap (moved_back p) s.stands.ring ∙ sym ring) (inbox_stands m (is_queue_of m p) p pt next l placed k.inbox leaves refl s.stands.inbox) known alive there
     messages memory s.stands

@@ -1,5 +1,5 @@
 pub mod Stands
-pub mod Made
 pub mod Todo
+pub mod Made
 pub mod Run
 pub mod Laws

@@ -1,4 +1,4 @@
--- Which processes there are in the kernel without machines.
+-- Which processes there are: those that each home made, numbered from the first number on.
 use Rattle.std.specs.Prelude.{◌≡◌, ℕ, ◌+◌, ◌<◌, ◌≤◌, true, is_some}
 use Rattle.dm_link.specs.declared.Pid.{Pid}
 use Rattle.dm_link.specs.Names.{pid_of}
