@@ -3,3 +3,4 @@ pub mod Todo
 pub mod Made
 pub mod Run
 pub mod Laws
+pub mod Local

@@ -2,10 +2,9 @@
 use Rattle.std.specs.Prelude.{◌≡◌, ℕ, ◌+◌, ◌≤◌, ◌⊎◌, List, [], ◌∷◌, ◌++◌, length}
 use Rattle.std.specs.declared.option.Option.TheVariants.{Some}
 use Rattle.dm_onekernel.specs.declared.boot.Boot.{Boot}
-use Rattle.dm_onekernel.specs.declared.label.Label.{Label}
 use Rattle.dm_onekernel.specs.Start.{start}
 use Rattle.dm_onekernel.specs.Step.{replay}
-use Rattle.dm_laws.specs.Laws.{reception}
+use Rattle.dm_laws.specs.Laws.{receptions}
 use Rattle.dm_message.specs.declared.MsgId.{MsgId}
 use Rattle.dm_schedule.specs.declared.Step.{Step}
 use Rattle.dm_schedule.specs.declared.Directive.{Directive}
@@ -24,11 +23,6 @@ use Rattle.dm_mirror.specs.Todo.{IsTodo}
 abbrev pub joined : List (List Line) → List Line
 joined [] = []
 joined (g ∷ gs) = g ++ joined gs
-
--- how often these labels receive a message
-abbrev pub receptions : MsgId → List Label → ℕ
-receptions i [] = 0
-receptions i (l ∷ ls) = reception i l + receptions i ls
 
 -- groups of lines are good: one for each of the first directives, by the rule, from where the boot file begins; they replay
 -- as a run of the kernel without machines; and no message is received twice
