@@ -1,10 +1,9 @@
 -- The delivery of a packet, world against point: a machine may take what comes, and does with it what the rule says.
-use Rattle.std.proofs.Common.{◌≡◌, ◌≢◌, ℕ, ◌+◌, ◌-◌, ◌^◌, ◌<◌, ◌≤◌, ◌⊎◌, ◌==◌, nat_le, nat_lt, Bool, true, false, List, [], ◌∷◌, ◌++◌, length, drop, refl, ap, ◌∙◌, sym, subst, inl, inr, arith}
-use Rattle.std.specs.Prelude.{if◌then◌else◌, slice_get, option_map, Ok, Err}
+use Rattle.std.proofs.Common.{◌≡◌, ◌≢◌, ℕ, ◌+◌, ◌^◌, ◌<◌, ◌≤◌, ◌⊎◌, ◌==◌, nat_le, nat_lt, Bool, true, false, List, [], ◌∷◌, length, refl, ap, ◌∙◌, sym, subst, inl, inr, arith}
+use Rattle.std.specs.Prelude.{if◌then◌else◌, slice_get, option_map, Ok}
 use Rattle.std.specs.List.{All}
 use Rattle.std.specs.declared.option.Option.{Option}
 use Rattle.std.specs.declared.option.Option.TheVariants.{None, Some}
-use Rattle.std.specs.declared.result.Result.{Result}
 use Rattle.std.proofs.lemmas.Bool.{cases_Bool}
 use Rattle.std.proofs.lemmas.Bool.Decides.{eqb_tells, nat_tests}
 use Rattle.std.proofs.lemmas.List.Elements.{All-drop}
@@ -12,7 +11,6 @@ use Rattle.dm_message.specs.declared.Message.{Message}
 use Rattle.dm_message.specs.Lawful.{IsLawfulMessage}
 use Rattle.dm_packet.specs.declared.Packet.{Packet}
 use Rattle.dm_packet.specs.declared.Packet.TheVariants as packet
-use Rattle.dm_packet.specs.declared.Bad.{Bad}
 use Rattle.dm_packet.specs.Packets.{packet_of, spelling}
 use Rattle.dm_stream.specs.Packets as stream
 use Rattle.dm_stream.specs.Packets.{Load, Data, Ack, load_at}
@@ -22,29 +20,24 @@ use Rattle.dm_wire.specs.Wire.{after_mark}
 use Rattle.dm_onekernel.specs.declared.boot.Boot.{Boot}
 use Rattle.dm_onekernel.specs.Boot.{IsValid}
 use Rattle.dm_onekernel.specs.Options.{bind}
-use Rattle.dm_schedule.specs.declared.Step.{Step}
 use Rattle.dm_schedule.specs.declared.Step.TheVariants as step
 use Rattle.dm_rule.specs.declared.line.Line.TheVariants as line
 use Rattle.dm_rule.specs.declared.line.Load.TheVariants as load
 use Rattle.dm_rule.specs.Parts as rule
 use Rattle.dm_rule.specs.Parts.{Part, Spelled, spelled}
-use Rattle.dm_rule.specs.View as view
-use Rattle.dm_rule.specs.Point.{Point, after_line, moved}
+use Rattle.dm_rule.specs.Point.{Point, moved}
 use Rattle.dm_rule.specs.Rule as group
 use Rattle.dm_rule.specs.Rule.{headed, kept_from, more}
 use Rattle.dm_rulelaws.proofs.GoesAlways.{Run}
 use Rattle.dm_placed.specs.Placed.{Placed}
 use Rattle.dm_node.specs.Acts as node
 use Rattle.dm_node.specs.Out as out
-use Rattle.dm_node.specs.State.{NodeState, here}
-use Rattle.dm_node.specs.May.{MayAct, MayArrive}
-use Rattle.dm_world.specs.World.{WorldState, Happened, Says, acted, arrives, delivers, reads, world_step}
+use Rattle.dm_node.specs.May.{MayAct}
+use Rattle.dm_world.specs.World.{WorldState, acted, arrives, delivers, reads, world_step}
 use Rattle.dm_world.specs.May.{MayDeliver, MayRead}
 use Rattle.dm_mirror.specs.Stands.{History, StandsWith, line_of, load_of}
 use Rattle.dm_mirror.specs.Run.{GoesOn}
-use Rattle.dm_mirror.proofs.DeliverEnds.{Ends, PairIs, ends_of, stream_with}
-use Rattle.dm_mirror.proofs.DeliverKept.{less_test, not_less_test}
-use Rattle.dm_mirror.proofs.DeliverFollows.{Follows}
+use Rattle.dm_mirror.proofs.DeliverEnds.{PairIs, ends_of, stream_with}
 use Rattle.dm_mirror.proofs.DeliverMoves.{back_pair, there_pair}
 use Rattle.dm_mirror.proofs.DeliverComes.{begun, nothing_stands}
 use Rattle.dm_mirror.proofs.DeliverReads.{IsReadAs, ReadsAs, bytes_are, bytes_for, lines_are, load_is, reads_ack}
@@ -113,7 +106,7 @@ module _ (b : Boot) (w : WorldState) (pt : Point) (l : Placed) (h : History) (a 
   said_is : (p : stream.Packet Message) → slice_get (h.packets a c) k ≡ Some p → slice_get (pt.view.pair a c).wire k ≡ Some (line_of p)
   said_is p is = lines_are b l a c (ends_of w h a c) (w.wires a c) (pt.view.pair a c) k there ∙ ap (option_map line_of) is
 
-  -- each count that was ever acknowledged, and each number, is small
+  -- each count that was ever acknowledged is small
   small_ack : (n : ℕ) → load_at (h.packets a c) k ≡ Some (Ack n) → n < 2 ^ 32
   small_ack n e =
       let v = stream_with (ends_of w h c a) in
@@ -161,6 +154,9 @@ deliver_goes b w pt l h a c k valid run s a_in c_in apart machines_are readable 
 abbrev pub OthersLawful : WorldState → Point → ℕ → Type 0
 OthersLawful w pt m = (y : ℕ) → y < 16 → (y ≡ m) ⊎ (pt.kernel.machines ≤ y) → All IsLawfulMessage ((w.nodes m).senders y).unacked
 
+pub others_lawful : (w : WorldState) (pt : Point) (m : ℕ) → MayAct (w.nodes m) → OthersLawful w pt m
+others_lawful w pt m h y small any = h.unacked y small
+
 -- a machine may act
 pub may_act : (b : Boot) (w : WorldState) (pt : Point) (l : Placed) (h : History) (m : ℕ) → IsValid b → StandsWith b w pt l h → m < pt.kernel.machines → pt.kernel.machines ≡ length b.machines → OthersLawful w pt m → MayAct (w.nodes m)
 may_act b w pt l h m valid s m_in machines_are others =
@@ -197,19 +193,25 @@ module _ (b : Boot) (w : WorldState) (pt : Point) (l : Placed) (h : History) (a 
       let e : load_at (h.packets a c) k ≡ Some (Data n m) = load_is (h.packets a c) k (Some p) is ∙ ap Some loads in
       let x : IsReadAs w a c n m = readable n m e in
       let come = MayCome-stands (stream_with (ends_of w h a c)) (there_pair b w pt l h a c s a_in c_in apart).stream in
-      may_read p (Data n m) (packet.Data a c n x.message) is loads x.read (refl, record {
-        acts = acts;
-        from = (low_a, λ same. apart (same ∙ (s.nodes c c_in).kernel.here));
-        fits = (come.in_window k n m e, come.numbered k n m e);
-      })
+      may_read p (Data n m) (packet.Data a c n x.message) is loads x.read (
+        refl,
+        record {
+          acts = acts;
+          from = (low_a, λ same. apart (same ∙ (s.nodes c c_in).kernel.here));
+          fits = (come.in_window k n m e, come.numbered k n m e);
+        },
+      )
   may_with p (Ack n) low_a low_c is loads acts readable =
       let e : load_at (h.packets a c) k ≡ Some (Ack n) = load_is (h.packets a c) k (Some p) is ∙ ap Some loads in
       let come = MayCome-stands (stream_with (ends_of w h c a)) (back_pair b w pt l h a c s a_in c_in apart).stream in
-      may_read p (Ack n) (packet.Ack a c n) is loads (reads_ack a c n low_a low_c apart (small_ack b w pt l h a c k s a_in c_in apart n e)) (refl, record {
-        acts = acts;
-        from = (low_a, λ same. apart (same ∙ (s.nodes c c_in).kernel.here));
-        fits = come.ack k n e;
-      })
+      may_read p (Ack n) (packet.Ack a c n) is loads (reads_ack a c n low_a low_c apart (small_ack b w pt l h a c k s a_in c_in apart n e)) (
+        refl,
+        record {
+          acts = acts;
+          from = (low_a, λ same. apart (same ∙ (s.nodes c c_in).kernel.here));
+          fits = come.ack k n e;
+        },
+      )
 
   may_of : (o : Option (stream.Packet Message)) → slice_get (h.packets a c) k ≡ o → a < 16 → c < 16 → MayAct (w.nodes c) → ReadsAs w h a c k → MayDeliver w a c (bytes_at (w.wires a c) k)
   may_of None is low_a low_c acts readable = subst (MayDeliver w a c) (sym (bytes_are b l a c (ends_of w h a c) (w.wires a c) (pt.view.pair a c) k (there_pair b w pt l h a c s a_in c_in apart) ∙ ap (option_map (bytes_for a c)) is)) tt

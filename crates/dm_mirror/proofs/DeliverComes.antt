@@ -1,30 +1,21 @@
 -- A packet comes: its mark, and the first line that it gives, make a world that stands.
-use Rattle.std.proofs.Common.{◌≡◌, ◌≢◌, ℕ, ◌+◌, ◌-◌, ◌<◌, ◌≤◌, ◌==◌, ◌&&◌, Bool, true, false, List, [], ◌∷◌, ◌++◌, length, map, refl, ap, ◌∙◌, sym, subst, inl, inr, arith}
-use Rattle.std.specs.Prelude.{if◌then◌else◌, slice_get}
-use Rattle.std.specs.List.{All}
+use Rattle.std.proofs.Common.{◌≡◌, ◌≢◌, ℕ, ◌+◌, ◌-◌, ◌<◌, List, [], ◌∷◌, ◌++◌, refl, ap, ◌∙◌, sym, subst}
+use Rattle.std.specs.Prelude.{slice_get}
 use Rattle.std.specs.declared.option.Option.{Option}
 use Rattle.std.specs.declared.option.Option.TheVariants.{None, Some}
-use Rattle.std.proofs.lemmas.Bool.{cases_Bool}
-use Rattle.std.proofs.lemmas.Bool.Decides.{nat_tests}
-use Rattle.std.proofs.lemmas.List.{map-append}
-use Rattle.std.proofs.lemmas.List.Elements.{All-push, All-get_or}
-use Rattle.std.proofs.lemmas.Option.{get_or_from_slice_get, slice_get_within}
+use Rattle.std.proofs.lemmas.List.Elements.{All-push}
 use Rattle.dm_message.specs.declared.Message.{Message}
 use Rattle.dm_message.specs.declared.MsgId.{MsgId}
 use Rattle.dm_message.specs.Lawful.{IsLawfulMessage}
-use Rattle.dm_packet.specs.declared.Packet.TheVariants as packet
-use Rattle.dm_packet.specs.Packets.{spelling}
-use Rattle.dm_stream.specs.Sending.{due, with_acked, with_sent}
-use Rattle.dm_stream.specs.Receiving.{Receiving, advanced, after_arrival, after_next, kept_once, next}
-use Rattle.dm_stream.specs.Packets.{Data, Ack, just_put, load_at, marked}
+use Rattle.dm_stream.specs.Sending.{with_acked}
+use Rattle.dm_stream.specs.Receiving.{advanced, after_arrival, kept_once}
+use Rattle.dm_stream.specs.Packets.{Data, Ack, load_at, marked}
 use Rattle.dm_wire.specs.Sent as wire
-use Rattle.dm_wire.specs.Wire.{after_mark, after_put}
+use Rattle.dm_wire.specs.Wire.{after_mark}
 use Rattle.dm_onekernel.specs.declared.boot.Boot.{Boot}
 use Rattle.dm_schedule.specs.declared.Step.TheVariants as step
 use Rattle.dm_rule.specs.declared.line.Line.TheVariants as line
-use Rattle.dm_rule.specs.declared.line.Load.TheVariants as load
 use Rattle.dm_rule.specs.Sets.{at_machine, at_pair}
-use Rattle.dm_rule.specs.Parts as rule
 use Rattle.dm_rule.specs.View as view
 use Rattle.dm_rule.specs.View.{NothingElse, Pair, View, at_least, gone_after, oldest}
 use Rattle.dm_rule.specs.Point.{Point, moved}
@@ -32,14 +23,13 @@ use Rattle.dm_placed.specs.Placed.{Placed}
 use Rattle.dm_placed.proofs.Lines.{lines_keep}
 use Rattle.dm_node.specs.State.{NodeState, with_message, with_receiver, with_sender}
 use Rattle.dm_world.specs.World.{WorldState}
-use Rattle.dm_mirror.specs.Stands.{AreMessages, History, StandsWith, id_of}
-use Rattle.dm_mirror.proofs.DeliverEnds.{Ends, PairIs, ends_of, pair_is}
-use Rattle.dm_mirror.proofs.DeliverKept.{after_early_is, after_next_is, after_old_is, after_taken_is, off}
-use Rattle.dm_mirror.proofs.DeliverEvents.{acked_comes, acknowledges, back_comes, due_goes, early_comes, kept_comes, message_is, old_comes, oldest_is, other_acknowledges, other_comes, other_goes, taken_comes}
-use Rattle.dm_mirror.proofs.DeliverStands.{IsOther, Moves, moves_stand}
+use Rattle.dm_mirror.specs.Stands.{AreMessages, History, StandsWith}
+use Rattle.dm_mirror.proofs.DeliverEnds.{PairIs, ends_of}
+use Rattle.dm_mirror.proofs.DeliverKept.{after_early_is, after_old_is, after_taken_is, off}
+use Rattle.dm_mirror.proofs.DeliverEvents.{acked_comes, back_comes, early_comes, old_comes, other_comes, taken_comes}
+use Rattle.dm_mirror.proofs.DeliverStands.{Moves, moves_stand}
 use Rattle.dm_mirror.proofs.DeliverFollows.{machine_same, machine_other}
 use Rattle.dm_mirror.proofs.DeliverMoves.{Taking, back_other, back_pair, ids_set, mark_other, mark_same, messages_push, taking, there_other, there_pair, two_other, two_same}
-
 
 -- the point behind the directive's line
 abbrev pub begun : Point → ℕ → ℕ → ℕ → Point

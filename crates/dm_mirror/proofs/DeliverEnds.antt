@@ -1,5 +1,5 @@
 -- Both ends of a pair's stream, its wire and what the lines say of it, as values; and a stream's events on them.
-use Rattle.std.proofs.Common.{◌≡◌, ℕ, ◌+◌, List, drop, length, map, take, ◌∙◌, ap, sym, subst, is_some}
+use Rattle.std.proofs.Common.{◌≡◌, ℕ, List, drop, map, take, ◌∙◌, sym, subst, is_some}
 use Rattle.std.specs.List.{All}
 use Rattle.dm_message.specs.declared.Message.{Message}
 use Rattle.dm_message.specs.Lawful.{IsLawfulMessage}
@@ -16,7 +16,7 @@ use Rattle.dm_rule.specs.Point.{Point}
 use Rattle.dm_rule.specs.Rule.{has}
 use Rattle.dm_placed.specs.Placed.{Placed}
 use Rattle.dm_world.specs.World.{WorldState}
-use Rattle.dm_mirror.specs.Stands.{AreMessages, History, PairStands, bytes_of, id_of, line_of, stream_of}
+use Rattle.dm_mirror.specs.Stands.{AreMessages, History, PairStands, bytes_of, id_of, line_of}
 
 -- what the sender and the receiver know, what was given, and all packets of both wires
 pub record Ends : Type 0 where

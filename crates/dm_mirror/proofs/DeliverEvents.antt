@@ -1,7 +1,6 @@
 -- What each event of a stream makes of a pair: the ends of its stream, its wire, and what the lines say of it.
-use Rattle.std.proofs.Common.{◌≡◌, ℕ, zero, suc, ◌+◌, ◌-◌, ◌<◌, ◌≤◌, ◌==◌, max, nat_le, Bool, true, false, not, List, [], ◌∷◌, ◌++◌, length, map, drop, take, refl, ap, ◌∙◌, sym, subst, is_some, arith}
-use Rattle.std.specs.Prelude.{if◌then◌else◌, slice_get, slice_set, option_map}
-use Rattle.std.specs.List.{All}
+use Rattle.std.proofs.Common.{◌≡◌, ℕ, zero, suc, ◌+◌, ◌-◌, ◌<◌, max, false, List, [], ◌∷◌, ◌++◌, map, drop, refl, ap, ◌∙◌, sym, subst, arith}
+use Rattle.std.specs.Prelude.{slice_get, option_map}
 use Rattle.std.specs.declared.option.Option.{Option}
 use Rattle.std.specs.declared.option.Option.TheVariants.{None, Some}
 use Rattle.std.proofs.lemmas.Bool.Decides.{nat_tests}
@@ -9,14 +8,12 @@ use Rattle.std.proofs.lemmas.List.{map-append}
 use Rattle.std.proofs.lemmas.Option.{slice_get-map}
 use Rattle.dm_message.specs.declared.Message.{Message}
 use Rattle.dm_message.specs.declared.MsgId.{MsgId}
-use Rattle.dm_message.specs.Lawful.{IsLawfulMessage}
 use Rattle.dm_packet.specs.declared.Packet.TheVariants as packet
 use Rattle.dm_packet.specs.Packets.{spelling}
-use Rattle.dm_stream.specs.Sending.{Sending, due, with_acked, with_sent}
-use Rattle.dm_stream.specs.Receiving.{Receiving, kept_under, kept_once, advanced, arrival, after_arrival, next, after_next}
+use Rattle.dm_stream.specs.Sending.{due, with_acked, with_sent}
+use Rattle.dm_stream.specs.Receiving.{kept_once, advanced, next}
 use Rattle.dm_stream.specs.Packets.{Packet, Load, Data, Ack, just_put, load_at, marked}
-use Rattle.dm_stream.specs.Stream.{Stream, Event, GoOut, Deliver, TakeKept, Acknowledge, DeliverBack, OtherAck, OtherData, happens, arrives, hears, goes_out}
-use Rattle.dm_stream.specs.Order as order
+use Rattle.dm_stream.specs.Stream.{Stream, GoOut, Deliver, TakeKept, Acknowledge, DeliverBack, OtherAck, OtherData, happens, arrives, hears, goes_out}
 use Rattle.dm_stream.proofs.Follows.{MayCome-stands}
 use Rattle.dm_stream.proofs.Lists.{get-drop, drop-more}
 use Rattle.dm_wire.specs.Sent as wire
@@ -27,7 +24,7 @@ use Rattle.dm_rule.specs.View as view
 use Rattle.dm_rule.specs.View.{Pair, at_least, gone_after}
 use Rattle.dm_rule.specs.Rule.{has}
 use Rattle.dm_placed.specs.Placed.{Placed}
-use Rattle.dm_mirror.specs.Stands.{AreMessages, bytes_of, id_of, line_of, load_of}
+use Rattle.dm_mirror.specs.Stands.{AreMessages, bytes_of, id_of, line_of}
 use Rattle.dm_mirror.proofs.DeliverEnds.{Ends, PairIs, event_stands, stream_with}
 use Rattle.dm_mirror.proofs.DeliverKept.{off, kept_taken, kept_early, after_taken_is, after_old_is, after_early_is, after_next_is}
 

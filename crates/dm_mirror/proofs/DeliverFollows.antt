@@ -1,8 +1,8 @@
 -- What a machine gives, in order, is what the rule's parts say, and the world behind it stands.
-use Rattle.std.proofs.Common.{◌≡◌, ◌≢◌, ℕ, ◌==◌, Bool, true, false, List, [], ◌∷◌, ◌++◌, refl, ap, ◌∙◌, sym, subst, inl, inr, arith}
+use Rattle.std.proofs.Common.{◌≡◌, ◌≢◌, ℕ, ◌==◌, Bool, true, false, List, [], ◌∷◌, refl, ap, ◌∙◌, sym, subst, inl, inr, arith}
 use Rattle.std.specs.Prelude.{if◌then◌else◌}
 use Rattle.std.specs.declared.option.Option.{Option}
-use Rattle.std.specs.declared.option.Option.TheVariants.{None, Some}
+use Rattle.std.specs.declared.option.Option.TheVariants.{Some}
 use Rattle.std.proofs.Math.Path.{fun_ext}
 use Rattle.std.proofs.lemmas.Bool.Decides.{eqb_tells, nat_tests}
 use Rattle.dm_packet.specs.declared.Packet.{Packet}
@@ -16,7 +16,6 @@ use Rattle.dm_rule.specs.Parts.{Part, Spelled, behind, spelled}
 use Rattle.dm_rule.specs.Point.{Point, after, after_line}
 use Rattle.dm_placed.specs.Placed.{Placed}
 use Rattle.dm_node.specs.State.{NodeState}
-use Rattle.dm_node.specs.declared.out.Out.{Out}
 use Rattle.dm_node.specs.declared.out.Out.TheVariants.{Says, Sends}
 use Rattle.dm_node.specs.Out.{Acted}
 use Rattle.dm_node.specs.Acts.{before}
@@ -64,8 +63,8 @@ nothing b c w pt l h n e s = record {
   lines = refl;
   history = h;
   stands = (let kept : w.nodes ≡ at_machine w.nodes c n = sym (machine_kept w.nodes c) ∙ ap (at_machine w.nodes c) e in
-  let same : w ≡ acted_on w c (record { state = n; outs = [] }) = λ i. record { nodes = kept i; wires = w.wires; groups = w.groups } in
-  subst (λ (v : WorldState). StandsWith b v pt l h) same s);
+      let same : w ≡ acted_on w c (record { state = n; outs = [] }) = λ i. record { nodes = kept i; wires = w.wires; groups = w.groups } in
+      subst (λ (v : WorldState). StandsWith b v pt l h) same s);
 }
 
 spelled_on : (pt q : Point) (p : Part) (x : Line) (ps : List Part) (z : Spelled) → rule.lines_of pt p ≡ Some (x ∷ []) → after_line pt x ≡ Some q → spelled q ps ≡ Some z → spelled pt (p ∷ ps) ≡ Some (behind (x ∷ []) z)
@@ -83,7 +82,7 @@ says_on b c w pt q l n x y d ps same next f = record {
   lines = λ i. same i ∷ f.lines i;
   history = f.history;
   stands = (let again : acted_on (record w { nodes = at_machine w.nodes c n }) c d ≡ acted_on w c d = λ i. record { nodes = machine_again w.nodes c n d.state i; wires = (spoken w.wires d.outs).wires; groups = w.groups } in
-  subst (λ (v : WorldState). StandsWith b v f.end.point l f.history) again f.stands);
+      subst (λ (v : WorldState). StandsWith b v f.end.point l f.history) again f.stands);
 }
 
 -- a packet first
@@ -95,5 +94,5 @@ sends_on b c w pt q l n p from to carried d ps same next f = record {
   lines = λ i. same i ∷ f.lines i;
   history = f.history;
   stands = (let again : acted_on (record w { nodes = at_machine w.nodes c n; wires = with_packet w.wires p }) c d ≡ acted_on w c (before (Sends p ∷ []) d) = λ i. record { nodes = machine_again w.nodes c n d.state i; wires = (spoken (with_packet w.wires p) d.outs).wires; groups = w.groups } in
-  subst (λ (v : WorldState). StandsWith b v f.end.point l f.history) again f.stands);
+      subst (λ (v : WorldState). StandsWith b v f.end.point l f.history) again f.stands);
 }

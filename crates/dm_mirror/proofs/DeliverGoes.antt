@@ -1,57 +1,40 @@
 -- The delivery of a packet: the machines do what the rule says.
-use Rattle.std.proofs.Common.{◌≡◌, ◌≢◌, ℕ, zero, suc, ◌+◌, ◌-◌, ◌^◌, ◌<◌, ◌≤◌, ◌⊎◌, ◌==◌, nat_le, nat_lt, Bool, true, false, List, [], ◌∷◌, ◌++◌, length, refl, ap, ◌∙◌, sym, subst, inl, inr, arith}
-use Rattle.std.specs.Prelude.{if◌then◌else◌, slice_get, option_map, Ok, Err}
-use Rattle.std.specs.declared.option.Option.{Option}
-use Rattle.std.specs.declared.option.Option.TheVariants.{None, Some}
-use Rattle.std.specs.declared.result.Result.{Result}
-use Rattle.std.proofs.lemmas.Bool.{cases_Bool}
+use Rattle.std.proofs.Common.{◌≡◌, ◌≢◌, ℕ, ◌+◌, ◌-◌, ◌<◌, ◌≤◌, List, [], ◌∷◌, length, refl, ap, ◌∙◌, sym, subst, arith}
+use Rattle.std.specs.declared.option.Option.TheVariants.{Some}
 use Rattle.std.proofs.lemmas.Bool.Decides.{nat_tests}
 use Rattle.dm_message.specs.declared.Message.{Message}
-use Rattle.dm_packet.specs.declared.Packet.{Packet}
-use Rattle.dm_packet.specs.declared.Packet.TheVariants as packet
-use Rattle.dm_packet.specs.declared.Bad.{Bad}
-use Rattle.dm_packet.specs.Packets.{packet_of, spelling}
 use Rattle.dm_stream.specs.Sending.{Sending, with_acked}
-use Rattle.dm_stream.specs.Receiving.{Receiving, after_arrival, arrival}
+use Rattle.dm_stream.specs.Receiving.{Receiving, after_arrival}
 use Rattle.dm_stream.specs.declared.receiver.Arrived.{Arrived}
-use Rattle.dm_stream.specs.declared.receiver.Arrived.TheVariants.{Taken, Old, Early}
-use Rattle.dm_stream.specs.Packets as stream
 use Rattle.dm_stream.specs.Packets.{Load, Data, Ack, load_at}
-use Rattle.dm_wire.specs.Sent.{Sent, bytes_at}
+use Rattle.dm_wire.specs.Sent.{Sent}
 use Rattle.dm_wire.specs.Wire.{after_mark}
 use Rattle.dm_onekernel.specs.declared.boot.Boot.{Boot}
-use Rattle.dm_onekernel.specs.Options.{bind}
-use Rattle.dm_schedule.specs.declared.Step.{Step}
-use Rattle.dm_schedule.specs.declared.Step.TheVariants as step
 use Rattle.dm_rule.specs.declared.line.Line.TheVariants as line
 use Rattle.dm_rule.specs.declared.line.Load.TheVariants as load
-use Rattle.dm_rule.specs.Sets.{at_machine, at_pair}
+use Rattle.dm_rule.specs.Sets.{at_pair}
 use Rattle.dm_rule.specs.Parts as rule
 use Rattle.dm_rule.specs.Parts.{Part, Spelled, spelled}
 use Rattle.dm_rule.specs.View as view
 use Rattle.dm_rule.specs.View.{Pair, oldest, at_least}
-use Rattle.dm_rule.specs.Point.{Point, after_line, moved}
+use Rattle.dm_rule.specs.Point.{Point, moved}
 use Rattle.dm_rule.specs.Rule as group
 use Rattle.dm_rule.specs.Rule.{has, headed, kept_from, less, more, numbers_from, repeats}
 use Rattle.dm_rule.proofs.PairsLines.{taken_pair}
 use Rattle.dm_placed.specs.Placed.{Placed}
 use Rattle.dm_node.specs.State.{NodeState, here, with_message, with_receiver, with_sender}
 use Rattle.dm_node.specs.declared.out.Out.TheVariants.{Says}
-use Rattle.dm_node.specs.Out.{Acted}
 use Rattle.dm_node.specs.Acts as node
 use Rattle.dm_node.specs.Acts.{acknowledges, before, lets_go, takes_kept, then_acknowledges}
-use Rattle.dm_world.specs.World.{WorldState, Happened, acted, delivers, reads, world_step}
-use Rattle.dm_world.specs.World as world
-use Rattle.dm_mirror.specs.Stands.{History, StandsWith, line_of}
-use Rattle.dm_mirror.specs.Run.{GoesOn}
+use Rattle.dm_world.specs.World.{WorldState}
+use Rattle.dm_mirror.specs.Stands.{History, StandsWith}
 use Rattle.dm_mirror.proofs.DeliverEnds.{Ends, PairIs, ends_of}
-use Rattle.dm_mirror.proofs.DeliverKept.{after_early_is, after_old_is, after_taken_is, arrival_early, arrival_old, arrival_taken, less_test, not_less_test, off}
+use Rattle.dm_mirror.proofs.DeliverKept.{after_early_is, after_old_is, after_taken_is, arrival_early, arrival_old, arrival_taken, off}
 use Rattle.dm_mirror.proofs.DeliverFollows.{Follows, machine_same, says_on}
 use Rattle.dm_mirror.proofs.DeliverMoves.{back_other, back_pair, there_pair, two_other, two_same}
 use Rattle.dm_mirror.proofs.DeliverComes.{acked_stands, begun, come_to, early_stands, marked_in, old_stands, taken_stands}
 use Rattle.dm_mirror.proofs.DeliverTakes.{acknowledged, kept_after, taken_parts, takes_follow}
 use Rattle.dm_mirror.proofs.DeliverLets.{lets_follow, room_of}
-use Rattle.dm_mirror.proofs.DeliverReads.{IsReadAs, ReadsAs, bytes_are, lines_are, load_is}
 
 more_is : (m n : ℕ) → more n m ≡ at_least m n
 more_is m n = grind (arith, nat_tests)

@@ -1,12 +1,10 @@
 -- The messages that a receiver keeps are those that the lines name as kept, after each arrival.
-use Rattle.std.proofs.Common.{◌≡◌, ℕ, zero, suc, ◌+◌, ◌-◌, ◌<◌, ◌≤◌, ◌==◌, ◌&&◌, ◌||◌, Bool, true, false, not, filter, nat_lt, List, [], ◌∷◌, length, refl, ap, ◌∙◌, sym, subst, is_some, inl, inr, arith}
+use Rattle.std.proofs.Common.{◌≡◌, ℕ, zero, suc, ◌+◌, ◌-◌, ◌<◌, ◌≤◌, ◌==◌, ◌&&◌, ◌||◌, Bool, true, false, not, filter, nat_lt, List, [], ◌∷◌, length, refl, ap, ◌∙◌, is_some, arith}
 use Rattle.std.specs.Prelude.{◌≢◌, if◌then◌else◌}
 use Rattle.std.specs.declared.option.Option.{Option}
-use Rattle.std.specs.declared.option.Option.TheVariants.{None, Some}
-use Rattle.std.proofs.lemmas.Bool.{cases_Bool}
+use Rattle.std.specs.declared.option.Option.TheVariants.{Some}
 use Rattle.std.proofs.lemmas.Bool.Decides.{nat_tests}
-use Rattle.dm_stream.specs.Receiving.{Receiving, place, kept_under, advanced, moved_up, once, kept_once, arrival, after_arrival, next, after_next}
-use Rattle.dm_stream.specs.declared.receiver.Arrived.{Arrived}
+use Rattle.dm_stream.specs.Receiving.{Receiving, kept_under, advanced, moved_up, kept_once, arrival, after_arrival, next, after_next}
 use Rattle.dm_stream.specs.declared.receiver.Arrived.TheVariants.{Taken, Old, Early}
 use Rattle.dm_stream.proofs.Places.{place-moved_up, place-kept_same, place-kept_other}
 use Rattle.dm_rule.specs.Rule.{has, kept_from}

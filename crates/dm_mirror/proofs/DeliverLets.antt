@@ -1,5 +1,5 @@
 -- The messages that wait go out, as many as the window has room for.
-use Rattle.std.proofs.Common.{◌≡◌, ◌≢◌, ℕ, zero, suc, ◌+◌, ◌-◌, ◌<◌, ◌≤◌, ◌==◌, ◌&&◌, Bool, true, false, nat_le, nat_lt, List, [], ◌∷◌, ◌++◌, length, drop, map, refl, ap, ◌∙◌, sym, subst, inl, inr, ◌⊎◌, arith}
+use Rattle.std.proofs.Common.{◌≡◌, ◌≢◌, ℕ, zero, suc, ◌+◌, ◌-◌, ◌<◌, ◌≤◌, Bool, true, false, nat_le, nat_lt, List, [], ◌∷◌, ◌++◌, length, drop, refl, ap, ◌∙◌, sym, subst, inl, inr, ◌⊎◌, arith}
 use Rattle.std.specs.Prelude.{if◌then◌else◌, slice_get}
 use Rattle.std.specs.declared.option.Option.{Option}
 use Rattle.std.specs.declared.option.Option.TheVariants.{None, Some}
@@ -10,7 +10,7 @@ use Rattle.std.proofs.lemmas.Option.{slice_get_cases, slice_get_past}
 use Rattle.dm_message.specs.declared.Message.{Message}
 use Rattle.dm_packet.specs.declared.Packet.TheVariants as packet
 use Rattle.dm_packet.specs.Packets.{spelling}
-use Rattle.dm_stream.specs.Sending.{Sending, due, numbered, window, with_sent}
+use Rattle.dm_stream.specs.Sending.{Sending, due, numbered, with_sent}
 use Rattle.dm_stream.specs.Packets.{Data, just_put}
 use Rattle.dm_stream.proofs.Lists.{get-drop}
 use Rattle.dm_wire.specs.Wire.{after_put}
@@ -29,7 +29,7 @@ use Rattle.dm_node.specs.declared.out.Out.TheVariants.{Sends}
 use Rattle.dm_node.specs.Acts.{before, lets_go, lets_next}
 use Rattle.dm_world.specs.World.{WorldState}
 use Rattle.dm_mirror.specs.Stands.{History, StandsWith, id_of}
-use Rattle.dm_mirror.proofs.DeliverEnds.{Ends, PairIs, ends_of}
+use Rattle.dm_mirror.proofs.DeliverEnds.{PairIs, ends_of}
 use Rattle.dm_mirror.proofs.DeliverEvents.{gone_is}
 use Rattle.dm_mirror.proofs.DeliverKept.{less_test, not_less_test}
 use Rattle.dm_mirror.proofs.DeliverMoves.{back_pair, gone_stands, two_same}

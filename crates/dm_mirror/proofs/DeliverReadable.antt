@@ -1,18 +1,14 @@
--- Where each packet of a wire can be read, and what waits to be acknowledged fits the fields of a packet, a delivery reads what
--- was put; of a message that was taken long ago, its number.
-use Rattle.std.proofs.Common.{◌≡◌, ◌≢◌, ℕ, ◌+◌, ◌-◌, ◌^◌, ◌<◌, ◌≤◌, ◌==◌, eqb, nat_le, nat_lt, Bool, true, false, not, cond, List, [], ◌∷◌, ◌++◌, length, drop, refl, ap, ◌∙◌, sym, subst, arith}
-use Rattle.std.specs.Prelude.{slice_get, option_map, Ok, Err}
-use Rattle.std.specs.List.{All}
+-- Where each packet of a wire can be read, and what is out and not acknowledged is read as it was put, a delivery reads what
+-- was put; of a message that was acknowledged long ago, its number.
+use Rattle.std.proofs.Common.{◌≡◌, ◌≢◌, ℕ, ◌+◌, ◌-◌, ◌^◌, ◌<◌, ◌≤◌, ◌==◌, eqb, nat_le, nat_lt, Bool, true, not, List, length, drop, refl, ap, ◌∙◌, sym, subst, arith}
+use Rattle.std.specs.Prelude.{if◌then◌else◌, slice_get, option_map, Ok, Err}
 use Rattle.std.specs.declared.option.Option.{Option}
 use Rattle.std.specs.declared.option.Option.TheVariants.{None, Some}
 use Rattle.std.specs.declared.result.Result.{Result}
 use Rattle.std.proofs.lemmas.Bool.{eqb-true, eq-eqb}
 use Rattle.std.proofs.lemmas.Bool.Decides.{nat_tests}
-use Rattle.std.proofs.lemmas.List.Elements.{All-get_or}
-use Rattle.std.proofs.lemmas.Option.{get_or_from_slice_get, slice_get_within}
 use Rattle.dm_link.specs.Lawful.{IsMachine}
 use Rattle.dm_message.specs.declared.Message.{Message}
-use Rattle.dm_message.specs.Lawful.{IsLawfulMessage}
 use Rattle.dm_packet.specs.declared.Bad.{Bad}
 use Rattle.dm_packet.specs.declared.Bad.TheVariants as bad
 use Rattle.dm_packet.specs.declared.Packet.{Packet}
@@ -22,11 +18,12 @@ use Rattle.dm_packet.specs.declared.front.PacketKind.TheVariants as kinds
 use Rattle.dm_packet.specs.Field.{◌>>=◌, both, number}
 use Rattle.dm_packet.specs.Fields.{machine}
 use Rattle.dm_packet.specs.Lawful.{IsRoute}
-use Rattle.dm_packet.specs.Packets.{ended, message, numbered_message, opening, other_machine, packet_kind, packet_of, read_data, read_rest, spell_message, spelling, version}
-use Rattle.dm_packet.specs.Widths.{FitsMessage}
-use Rattle.dm_packet.proofs.Field.{IsField, IsField-both, IsField-for, IsField-made, IsField-number, IsField-tested, bind_ok, guard_ok}
+use Rattle.dm_packet.specs.Packets.{ended, message, numbered_message, opening, other_machine, packet_kind, packet_of, read_rest, spell_message, spelling, version}
+use Rattle.dm_packet.proofs.Field.{IsField, IsField-both, IsField-for, IsField-made, IsField-number, IsField-tested, guard_ok}
 use Rattle.dm_packet.proofs.Fields.{machine_is}
 use Rattle.dm_packet.proofs.Coded.{packet_kind_is}
+use Rattle.dm_stream.specs.Sending as sending
+use Rattle.dm_stream.specs.Sending.{Sending, outstanding}
 use Rattle.dm_stream.specs.Packets.{Load, Data, Ack, load_at, load_in}
 use Rattle.dm_stream.specs.Packets as stream
 use Rattle.dm_stream.proofs.Follows.{MayCome-stands}
@@ -40,15 +37,10 @@ use Rattle.dm_node.specs.Out as out
 use Rattle.dm_world.specs.World.{WorldState}
 use Rattle.dm_mirror.specs.Stands.{History, StandsWith}
 use Rattle.dm_mirror.proofs.DeliverEnds.{PairIs, ends_of, stream_with}
+use Rattle.dm_mirror.proofs.DeliverKept.{less_test}
 use Rattle.dm_mirror.proofs.DeliverMoves.{there_pair}
-use Rattle.dm_mirror.proofs.DeliverReads.{IsReadAs, ReadsAs, bytes_are, bytes_for, load_is, reads_message}
-
--- what the code's types and its encoding say of a world
-pub record IsReadable (w : WorldState) : Type 0 where
-  -- each packet that was put on a wire is some packet
-  pub reads : (a c k : ℕ) (bytes : List ℕ) → bytes_at (w.wires a c) k ≡ Some bytes → (p : Packet) × (packet_of bytes ≡ Ok p)
-  -- what waits to be acknowledged fits the fields of a packet
-  pub fits : (a c : ℕ) → All FitsMessage ((w.nodes a).senders c).unacked
+use Rattle.dm_mirror.proofs.DeliverReads.{ReadsAs, bytes_are, bytes_for, load_is}
+use Rattle.dm_world.specs.Readable.{IsReadable}
 
 -- ---- the opening of a packet is read as it was spelled
 
@@ -107,9 +99,14 @@ same_message a c n x m bytes e f = let g : Ok (packet.Data a c n x) ≡ Ok (pack
 few : (b : Boot) (m n : ℕ) → IsValid b → n ≡ length b.machines → m < n → m < 16
 few b m n valid are lt = let most : nat_le (length b.machines) 16 ≡ true = valid.few_machines in grind (arith, nat_tests)
 
--- an element of a list has what all have
-all_at : {X : Type 0} (P : X → Type 0) (xs : List X) (i : ℕ) (x : X) → slice_get xs i ≡ Some x → All P xs → P x
-all_at P xs i x is h = subst P (get_or_from_slice_get xs i x x is) (All-get_or P xs i x (slice_get_within xs i x is) h)
+-- a number between those acknowledged and those that have gone out is outstanding
+outstanding_is : (s : Sending Message) (given : List Message) (n : ℕ) (m : Message) → s.unacked ≡ drop s.acked given → s.acked ≤ n → n < s.gone → slice_get given n ≡ Some m → outstanding s (n - s.acked) ≡ Some (n, m)
+outstanding_is s given n m e above below is =
+    let here : s.acked + (n - s.acked) ≡ n = omega arith in
+    let waits : slice_get s.unacked (n - s.acked) ≡ Some m = ap (λ (xs : List Message). slice_get xs (n - s.acked)) e ∙ get-drop s.acked given (n - s.acked) n (omega arith) ∙ is in
+    ap (λ (i : ℕ). if nat_lt i s.gone then sending.numbered i (slice_get s.unacked (n - s.acked)) else None) here
+    ∙ ap (λ (t : Bool). if t then sending.numbered n (slice_get s.unacked (n - s.acked)) else None) (less_test n s.gone below)
+    ∙ ap (sending.numbered n) waits
 
 put_is : (a c : ℕ) (o : Option (stream.Packet Message)) (carried : Load Message) → load_in o ≡ Some carried → option_map (bytes_for a c) o ≡ Some (spelling (out.packet_of a c carried))
 put_is a c None carried e = cc
@@ -133,8 +130,7 @@ reads_as b w pt l h a c k valid s a_in c_in apart machines_are readable n m e =
       same = λ le.
           let sender = (w.nodes a).senders c in
           let above : sender.acked ≤ n = omega (arith, le, there.stream.in_order.acked_taken) in
-          let waits : slice_get sender.unacked (n - sender.acked) ≡ Some m = ap (λ (xs : List Message). slice_get xs (n - sender.acked)) there.stream.in_order.unacked ∙ get-drop sender.acked (h.given a c) (n - sender.acked) n (omega arith) ∙ given in
-          let fits : FitsMessage m = all_at FitsMessage sender.unacked (n - sender.acked) m waits (readable.fits a c) in
-          let lawful : IsLawfulMessage m = all_at IsLawfulMessage (h.given a c) n m given there.lawful in
-          same_message a c n x m (spelling (packet.Data a c n m)) (read ∙ ap Ok is) (reads_message a c n m low_a low_c apart (omega arith) lawful fits);
+          let is_out : outstanding sender (n - sender.acked) ≡ Some (n, m) = outstanding_is sender (h.given a c) n m there.stream.in_order.unacked above (there.stream.sent.data_gone k n m e) given in
+          let put_back : packet_of (spelling (packet.Data a c n m)) ≡ Ok (packet.Data a c n m) = subst (λ (i : ℕ). packet_of (spelling (packet.Data i c n m)) ≡ Ok (packet.Data i c n m)) (s.nodes a a_in).kernel.here ((readable.out a c).out (n - sender.acked) n m is_out) in
+          same_message a c n x m (spelling (packet.Data a c n m)) (read ∙ ap Ok is) put_back;
     }

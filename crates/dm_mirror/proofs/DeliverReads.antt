@@ -1,38 +1,24 @@
 -- The packet of a delivery is read as it was put, and its machine may take it.
-use Rattle.std.proofs.Common.{◌≡◌, ◌≢◌, ℕ, ◌+◌, ◌^◌, ◌<◌, ◌≤◌, ◌⊎◌, Bool, true, false, List, [], ◌∷◌, length, map, drop, refl, ap, ◌∙◌, sym, subst, inl, inr, arith}
-use Rattle.std.specs.Prelude.{slice_get, option_map, Ok, Err}
-use Rattle.std.specs.List.{All}
+use Rattle.std.proofs.Common.{◌≡◌, ◌≢◌, ℕ, ◌^◌, ◌<◌, ◌≤◌, List, refl, ap, ◌∙◌, sym, arith}
+use Rattle.std.specs.Prelude.{slice_get, option_map, Ok}
 use Rattle.std.specs.declared.option.Option.{Option}
 use Rattle.std.specs.declared.option.Option.TheVariants.{None, Some}
-use Rattle.std.proofs.lemmas.Bool.{cases_Bool}
-use Rattle.std.proofs.lemmas.Bool.Decides.{eqb_tells, nat_tests}
-use Rattle.std.proofs.lemmas.List.Elements.{All-drop, All-get_or, All-nil}
-use Rattle.std.proofs.lemmas.Option.{get_or_from_slice_get, slice_get-map, slice_get_within}
+use Rattle.std.proofs.lemmas.Option.{slice_get-map}
 use Rattle.dm_message.specs.declared.Message.{Message}
-use Rattle.dm_message.specs.Lawful.{IsLawfulMessage}
 use Rattle.dm_packet.specs.declared.Packet.TheVariants as packet
-use Rattle.dm_packet.specs.Lawful.{IsRoute}
 use Rattle.dm_packet.specs.Packets.{packet_of, spelling}
-use Rattle.dm_packet.specs.Widths.{FitsMessage, FitsPacket}
 use Rattle.dm_packet.proofs.Packets.{packet_again}
 use Rattle.dm_stream.specs.Packets as stream
 use Rattle.dm_stream.specs.Packets.{Load, Data, Ack, load_at, load_in}
-use Rattle.dm_stream.proofs.Follows.{MayCome-stands}
 use Rattle.dm_wire.specs.Sent.{Sent, bytes_at}
 use Rattle.dm_onekernel.specs.declared.boot.Boot.{Boot}
-use Rattle.dm_onekernel.specs.Boot.{IsValid}
 use Rattle.dm_rule.specs.View as view
 use Rattle.dm_rule.specs.View.{Pair}
-use Rattle.dm_rule.specs.Point.{Point}
 use Rattle.dm_placed.specs.Placed.{Placed}
 use Rattle.dm_node.specs.Out as node
-use Rattle.dm_node.specs.State.{NodeState, here}
-use Rattle.dm_node.specs.May.{MayAct, MayArrive, MayArrivePacket}
 use Rattle.dm_world.specs.World.{WorldState}
-use Rattle.dm_world.specs.May.{MayDeliver, MayRead}
-use Rattle.dm_mirror.specs.Stands.{History, StandsWith, bytes_of, line_of}
-use Rattle.dm_mirror.proofs.DeliverEnds.{Ends, PairIs, ends_of, stream_with}
-use Rattle.dm_mirror.proofs.DeliverMoves.{back_pair, there_pair}
+use Rattle.dm_mirror.specs.Stands.{History, bytes_of, line_of}
+use Rattle.dm_mirror.proofs.DeliverEnds.{Ends, PairIs}
 
 -- the bytes of the packet with this number
 abbrev pub bytes_for : ℕ → ℕ → stream.Packet Message → List ℕ
@@ -67,7 +53,3 @@ load_is ps k o e = ap load_in e
 -- an acknowledgement is read as it was put
 pub reads_ack : (a c n : ℕ) → a < 16 → c < 16 → a ≢ c → n < 2 ^ 32 → packet_of (spelling (packet.Ack a c n)) ≡ Ok (packet.Ack a c n)
 reads_ack a c n a_in c_in apart small = packet_again (packet.Ack a c n) (record { from = omega arith; to = omega arith; apart = λ e. apart (sym e) }) (omega arith)
-
--- a message whose numbers fit their fields is read as it was put
-pub reads_message : (a c n : ℕ) (m : Message) → a < 16 → c < 16 → a ≢ c → n < 2 ^ 32 → IsLawfulMessage m → FitsMessage m → packet_of (spelling (packet.Data a c n m)) ≡ Ok (packet.Data a c n m)
-reads_message a c n m a_in c_in apart small lawful fits = packet_again (packet.Data a c n m) (record { from = omega arith; to = omega arith; apart = λ e. apart (sym e) }, lawful) (omega arith, fits)

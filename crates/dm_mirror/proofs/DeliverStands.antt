@@ -1,6 +1,5 @@
 -- A machine's inbox and its streams with one other machine change: what stands then of the whole world.
-use Rattle.std.proofs.Common.{◌≡◌, ◌≢◌, ℕ, ◌<◌, ◌≤◌, ◌==◌, ◌&&◌, Bool, true, false, List, [], ◌∷◌, length, map, refl, ap, ◌∙◌, sym, subst, inl, inr, arith}
-use Rattle.std.specs.Prelude.{if◌then◌else◌}
+use Rattle.std.proofs.Common.{◌≡◌, ◌≢◌, ℕ, ◌≤◌, ◌==◌, ◌&&◌, false, List, length, ap, ◌∙◌, sym, subst, inl, inr, arith}
 use Rattle.std.specs.List.{All}
 use Rattle.std.proofs.lemmas.Bool.{cases_Bool}
 use Rattle.std.proofs.lemmas.Bool.Decides.{eqb_tells, nat_tests}
@@ -9,11 +8,8 @@ use Rattle.dm_message.specs.declared.MsgId.{MsgId}
 use Rattle.dm_message.specs.Lawful.{IsLawfulMessage}
 use Rattle.dm_stream.specs.Sending.{Sending}
 use Rattle.dm_stream.specs.Receiving.{Receiving}
-use Rattle.dm_stream.specs.Packets.{Packet}
 use Rattle.dm_wire.specs.Sent.{Sent}
 use Rattle.dm_onekernel.specs.declared.boot.Boot.{Boot}
-use Rattle.dm_kernel.specs.Lawful.{IsLawfulState}
-use Rattle.dm_rule.specs.Sets.{at_machine}
 use Rattle.dm_rule.specs.View.{About, Pair}
 use Rattle.dm_rule.specs.Point.{Point}
 use Rattle.dm_rule.proofs.PairsStand.{two_of}
@@ -21,7 +17,7 @@ use Rattle.dm_placed.specs.Placed.{Placed, Mirrors}
 use Rattle.dm_node.specs.State.{NodeState}
 use Rattle.dm_world.specs.World.{WorldState}
 use Rattle.dm_mirror.specs.Stands.{AreMessages, History, KernelStands, NodeStands, PairStands, StandsWith}
-use Rattle.dm_mirror.proofs.DeliverEnds.{Ends, Holds, PairIs, ends_of, holds_stands, pair_is}
+use Rattle.dm_mirror.proofs.DeliverEnds.{Ends, PairIs, ends_of, holds_stands, pair_is}
 
 -- a point after lines that tell of pairs and inboxes alone
 abbrev pub told_on : Point → ℕ → ℕ → About → (ℕ → ℕ → Pair) → (ℕ → List MsgId) → Point

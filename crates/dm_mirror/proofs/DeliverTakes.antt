@@ -1,13 +1,11 @@
 -- The messages that were kept are taken once their turn has come, and all that was taken is acknowledged.
-use Rattle.std.proofs.Common.{◌≡◌, ◌≢◌, ℕ, zero, suc, ◌+◌, ◌<◌, ◌≤◌, ◌==◌, ◌&&◌, Bool, true, false, not, List, [], ◌∷◌, ◌++◌, length, map, refl, ap, ◌∙◌, sym, subst, is_some, arith}
-use Rattle.std.specs.Prelude.{if◌then◌else◌, slice_get}
+use Rattle.std.proofs.Common.{◌≡◌, ◌≢◌, ℕ, zero, suc, ◌+◌, ◌<◌, ◌≤◌, ◌==◌, ◌&&◌, Bool, true, false, not, List, [], ◌∷◌, ◌++◌, length, refl, ap, ◌∙◌, sym, subst, is_some, arith}
+use Rattle.std.specs.Prelude.{if◌then◌else◌}
 use Rattle.std.specs.declared.option.Option.{Option}
 use Rattle.std.specs.declared.option.Option.TheVariants.{None, Some}
-use Rattle.std.proofs.lemmas.Bool.{false≢true}
 use Rattle.std.proofs.lemmas.Bool.Decides.{nat_tests}
 use Rattle.std.proofs.lemmas.List.{length-map}
 use Rattle.dm_message.specs.declared.Message.{Message}
-use Rattle.dm_packet.specs.declared.Packet.{Packet}
 use Rattle.dm_packet.specs.declared.Packet.TheVariants as packet
 use Rattle.dm_packet.specs.Packets.{spelling}
 use Rattle.dm_stream.specs.Receiving.{Receiving, after_next, kept_under, next}
@@ -27,8 +25,7 @@ use Rattle.dm_rule.specs.Rule.{has, kept_from, takes}
 use Rattle.dm_rule.proofs.PairsLines.{taken_pair}
 use Rattle.dm_placed.specs.Placed.{Placed}
 use Rattle.dm_node.specs.State.{NodeState, here, with_message, with_receiver}
-use Rattle.dm_node.specs.declared.out.Out.TheVariants.{Says, Sends}
-use Rattle.dm_node.specs.Out.{Acted}
+use Rattle.dm_node.specs.declared.out.Out.TheVariants.{Sends}
 use Rattle.dm_node.specs.Acts as node
 use Rattle.dm_node.specs.Acts.{takes_kept, takes_next, then_acknowledges}
 use Rattle.dm_world.specs.World.{WorldState}

@@ -23,10 +23,18 @@ use Rattle.dm_world.specs.Next as world
 use Rattle.dm_mirror.specs.Todo.{IsTwo}
 use Rattle.dm_mirror.specs.Run.{joined, GoesOn, RunStands}
 use Rattle.dm_mirror.specs.Laws.{StartStands, StepsStand, NextIsSaid, RunBegins, RunGoesOn}
+use Rattle.dm_mirror.proofs.May.{acts_start, acts_step}
+use Rattle.dm_world.specs.Readable.{AreReadBack, gave}
+use Rattle.dm_mirror.proofs.DeliverKeeps.{first_readable}
+use Rattle.dm_mirror.proofs.Readable.{readable_step}
+use Rattle.dm_mirror.proofs.Staying.{kernel_stays}
+use Rattle.dm_world.specs.May.{MayStep}
 use Rattle.dm_mirror.proofs.Next.{MachinesStay, NextFits, next_fits}
 
 pub run_begins : StartStands → RunBegins
 run_begins begins b ds valid fit = record {
+  able = acts_start b valid;
+  readable = first_readable b;
   good = record { run = (refl, refl); replays = refl; received = λ i. omega arith };
   steps = [];
   leads = refl;
@@ -65,8 +73,8 @@ replays_last b gs pt e v g before is lines =
 
 -- where the machines do what the rule says, the run goes on
 goes_on : (b : Boot) (ds : List Directive) (gs : List (List Line)) (pt : Point) (left : Todo) (w : WorldState) (n : Next) → IsValid b → pt.kernel.machines ≡ length b.machines → RunStands b ds gs pt left w
-    → next_step pt.kernel.machines pt.view left ≡ Some n → NextFits (length b.machines) n → (g : GoesOn b w pt n.step) → RunStands b ds (gs ++ g.said.lines ∷ []) g.group.point n.left g.said.state
-goes_on b ds gs pt left w n valid machines r is fits g =
+    → next_step pt.kernel.machines pt.view left ≡ Some n → NextFits (length b.machines) n → MayStep b w n.step → (g : GoesOn b w pt n.step) → AreReadBack (gave b w n.step) → RunStands b ds (gs ++ g.said.lines ∷ []) g.group.point n.left g.said.state
+goes_on b ds gs pt left w n valid machines r is fits may g again =
     let on = leads_last b r.steps (first_point b) pt n.step g.group r.leads (subst (λ (k : ℕ). IsStep k n.step) (sym machines) fits.step) g.due in
     let lines = sym g.lines in
     let replays = replays_last b gs pt n.step g.group g.said.lines r.good.replays g.due lines in
@@ -82,6 +90,8 @@ goes_on b ds gs pt left w n valid machines r is fits g =
       leads = on;
       todo = fits.left;
       stands = g.stands;
+      able = acts_step kernel_stays b w n.step g.said valid may g.happens r.able;
+      readable = readable_step b w n.step g.said may g.happens again r.readable;
     }
 
 pub run_goes_on : MachinesStay → NextIsSaid → StepsStand → RunGoesOn
@@ -89,5 +99,5 @@ run_goes_on stay said steps b ds gs pt left w n valid r is =
     let machines = stay b r.steps pt valid r.leads in
     let due : next_step pt.kernel.machines pt.view left ≡ Some n = sym (said b r.steps w pt left valid r.leads r.stands r.todo) ∙ is in
     let fits = next_fits (length b.machines) (world.undelivered w) left n r.todo is in
-    let (may, does) = steps b r.steps w pt n.step valid r.leads r.stands fits.step fits.still in
-    record { may = may; steps = does; on = λ g. goes_on b ds gs pt left w n valid machines r due fits g }
+    let (may, does) = steps b r.steps w pt n.step valid r.leads r.stands r.able r.readable fits.step fits.still in
+    record { may = may; steps = does; on = λ g. goes_on b ds gs pt left w n valid machines r due fits may g }

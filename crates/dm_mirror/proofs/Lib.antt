@@ -83,3 +83,8 @@ pub mod Ending
 pub mod Outs
 pub mod Local
 pub mod TurnGoes
+pub mod Staying
+pub mod Readable
+pub mod DeliverSent
+pub mod DeliverOuts
+pub mod DeliverKeeps

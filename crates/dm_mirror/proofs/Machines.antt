@@ -1,12 +1,12 @@
 -- Which machines there are, and that each message is for one of them.
-use Rattle.std.proofs.Common.{◌≡◌, ◌⊎◌, inl, inr, ℕ, zero, suc, ◌+◌, ◌<◌, ◌≤◌, ◌==◌, Bool, true, false, List, [], ◌∷◌, length, refl, ap, ◌∙◌, sym, subst, is_some, nat_le, nat_lt, arith}
-use Rattle.std.specs.Prelude.{◌||◌, option_map}
+use Rattle.std.proofs.Common.{◌≡◌, inl, inr, ℕ, ◌+◌, ◌<◌, ◌≤◌, Bool, true, false, List, [], ◌∷◌, length, refl, ap, ◌∙◌, sym, is_some, nat_lt, arith}
+use Rattle.std.specs.Prelude.{◌||◌, if◌then◌else◌, option_map}
 use Rattle.std.specs.declared.option.Option.{Option}
 use Rattle.std.specs.declared.option.Option.TheVariants.{None, Some}
 use Rattle.std.proofs.lemmas.Bool.{false≢true}
 use Rattle.std.proofs.lemmas.Bool.Decides.{nat_tests}
 use Rattle.dm_link.specs.declared.Pid.{Pid}
-use Rattle.dm_link.specs.Names.{Place, pid_eq, place_of}
+use Rattle.dm_link.specs.Names.{Place, pid_eq}
 use Rattle.dm_message.specs.declared.Message.{Message}
 use Rattle.dm_message.specs.declared.MsgId.{MsgId}
 use Rattle.dm_message.specs.Plain as what
@@ -14,20 +14,21 @@ use Rattle.dm_message.specs.Plain.{PlainMessage, PlainWhat, plain_message}
 use Rattle.dm_onekernel.specs.declared.boot.Boot.{Boot}
 use Rattle.dm_onekernel.specs.declared.label.Label.{Label}
 use Rattle.dm_onekernel.specs.Boot.{IsValid, switchboard, manager}
-use Rattle.dm_onekernel.specs.Kernel.{Life, Alive, Ended, OneKernel}
+use Rattle.dm_onekernel.specs.Kernel.{Life, OneKernel}
 use Rattle.dm_onekernel.specs.Step as kernel
 use Rattle.dm_onekernel.specs.Step.{replay}
-use Rattle.dm_laws.proofs.Equal.{pid_eq-is}
+use Rattle.dm_laws.specs.Laws.{in_bag}
+use Rattle.dm_laws.proofs.Entered.{is_counted}
 use Rattle.dm_laws.proofs.Steps.{bind-is}
 use Rattle.dm_schedule.specs.declared.Step.{Step}
 use Rattle.dm_rule.specs.Addresses.{Receiver, unmoved}
-use Rattle.dm_rule.specs.Homes.{Homes, to_of}
+use Rattle.dm_rule.specs.Homes.{to_of}
 use Rattle.dm_rule.specs.Laws.{Leads}
 use Rattle.dm_rule.specs.Parts.{Spelled}
 use Rattle.dm_rule.specs.Point.{Point, first_point, labels}
 use Rattle.dm_rule.specs.Rule.{group_of}
 use Rattle.dm_rule.proofs.HomesLines.{homes_of}
-use Rattle.dm_rulelaws.specs.Fits.{WhatFits, awaits, has_bytes, is_server, takes_users}
+use Rattle.dm_rulelaws.specs.Fits.{WhatFits, awaits, has_bytes, is_server}
 use Rattle.dm_rulelaws.proofs.GoesAlways.{Run, run_always}
 use Rattle.dm_rulelaws.proofs.RunLabels.{group_replay}
 use Rattle.dm_placed.specs.Placed.{Placed, Mirrors}
@@ -103,6 +104,23 @@ what_home s i m (what.Moved outcome) some made h = absurd h
 
 pub receiver_home : (b : Boot) (pt : Point) → 1 ≤ pt.kernel.machines → Run b pt → MadeStands pt.kernel → (i : MsgId) (m : PlainMessage) → pt.kernel.bag i ≡ Some m → m.to.home < pt.kernel.machines
 receiver_home b pt some run made i m there = what_home pt.kernel i m m.what some made (run.seen.fits.messages i m there)
+
+-- and so is its name's process: it is counted there
+counted_some : (n : ℕ) (o : Option Life) → is_counted n o ≡ true → is_some o ≡ true
+counted_some n None e = absurd (false≢true e)
+counted_some n (Some l) e = refl
+
+counted_home : (s : OneKernel) (i : MsgId) (c d : Bool) → pid_eq i.from switchboard ≡ c → pid_eq i.from manager ≡ d → 1 ≤ s.machines → MadeStands s
+    → (if c then nat_lt i.n s.switchboard.sent else if d then nat_lt i.n s.manager.sent else is_counted i.n (s.processes i.from)) ≡ true → i.from.home < s.machines
+counted_home s i true d e f some made k = let z : i.from.home ≡ 0 = grind (arith, nat_tests) in omega (arith, some, z)
+counted_home s i false true e f some made k = let z : i.from.home ≡ 0 = grind (arith, nat_tests) in omega (arith, some, z)
+counted_home s i false false e f some made k = made.home i.from (counted_some i.n (s.processes i.from) k)
+
+pub name_home : (b : Boot) (pt : Point) → 1 ≤ pt.kernel.machines → Run b pt → MadeStands pt.kernel → (i : MsgId) (m : PlainMessage) → pt.kernel.bag i ≡ Some m → i.from.home < pt.kernel.machines
+name_home b pt some run made i m there =
+    let few = run.seen.sound.entered.fewer i in
+    let one : in_bag (pt.kernel.bag i) ≡ 1 = ap in_bag there in
+    counted_home pt.kernel i (pid_eq i.from switchboard) (pid_eq i.from manager) refl refl some made (run.seen.sound.entered.counted i (omega (arith, few, one)))
 
 -- and its address leads there
 pub receiver_place : (b : Boot) (pt : Point) → Run b pt → (i : MsgId) (m : PlainMessage) → pt.kernel.bag i ≡ Some m → pt.addresses (Receiver i) ≡ unmoved m.to.home

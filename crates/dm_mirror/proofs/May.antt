@@ -1,5 +1,5 @@
 -- Where the world stands for a point, each machine may take a turn or a tick; and each machine may act, from the start on.
-use Rattle.std.proofs.Common.{◌≡◌, inl, inr, ℕ, zero, suc, ◌+◌, ◌^◌, ◌<◌, ◌≤◌, ◌==◌, Bool, true, false, List, [], ◌∷◌, length, refl, ap, ◌∙◌, sym, subst, arith}
+use Rattle.std.proofs.Common.{◌≡◌, ℕ, ◌+◌, ◌^◌, ◌<◌, ◌≤◌, ◌==◌, Bool, true, false, List, [], ◌∷◌, length, refl, sym, subst, arith}
 use Rattle.std.specs.Prelude.{if◌then◌else◌}
 use Rattle.std.specs.List.{All}
 use Rattle.std.specs.declared.option.Option.{Option}
@@ -25,20 +25,20 @@ use Rattle.dm_rule.specs.declared.line.Line.TheVariants as line
 use Rattle.dm_rule.specs.Laws.{Leads}
 use Rattle.dm_rule.specs.Point.{Point, first_point}
 use Rattle.dm_rulelaws.proofs.GoesAlways.{run_always}
-use Rattle.dm_kernel.specs.Lawful.{IsLawfulPart, IsLawfulState}
+use Rattle.dm_kernel.specs.Lawful.{IsLawfulState}
 use Rattle.dm_kernel.specs.State.{KernelState, Turned}
 use Rattle.dm_kernel.specs.Turn as kernel
 use Rattle.dm_kernel.proofs.LawfulStart.{opened_may}
 use Rattle.dm_kernel.proofs.LawfulTurns.{turn_lawful}
 use Rattle.dm_node.specs.Acts as node
 use Rattle.dm_node.specs.Out.{Acted, Acts, Goes, Worn}
-use Rattle.dm_node.specs.State.{NodeState, here, opened}
+use Rattle.dm_node.specs.State.{NodeState}
 use Rattle.dm_node.specs.May.{MayAct, MayArrive, MayTurn}
 use Rattle.dm_node.proofs.Staying.{MayAfter, arrives_may, turn_may}
-use Rattle.dm_world.specs.World.{Happened, Said, Says, WornOut, WorldState, acted, arrives, delivers, first_world, reads, turned, world_step}
+use Rattle.dm_world.specs.World.{Said, Says, WorldState, acted, arrives, delivers, first_world, reads, turned, world_step}
 use Rattle.dm_world.specs.May.{MayDeliver, MayRead, MayStep}
 use Rattle.dm_mirror.specs.Able.{AllMayAct}
-use Rattle.dm_mirror.specs.Stands.{Stands, StandsWith}
+use Rattle.dm_mirror.specs.Stands.{Stands}
 use Rattle.dm_mirror.proofs.Counts.{counts_few}
 use Rattle.dm_mirror.proofs.Machines.{few_machines, machines_are}
 use Rattle.dm_mirror.proofs.Made.{made_always}
@@ -49,11 +49,13 @@ pub may_turn : (b : Boot) (es : List Step) (w : WorldState) (pt : Point) (m : �
 may_turn b es w pt m valid leads (l, h, st) acts lt =
     let are = machines_are b es pt leads in
     let few = few_machines b valid in
-    let node = st.nodes m (omega (arith, lt, are)) in
-    (record {
-      acts = acts.each m lt;
-      kernel = turns.may_turn b pt l m (w.nodes m).kernel (omega (arith, lt, few)) (run_always b es pt valid leads) (made_always b es pt valid leads) (counts_few b es pt valid leads st.counts) st.mirrors node.kernel node.lawful;
-    }, node.lawful)
+    let node = st.nodes m (omega (arith, lt, are)) in (
+      record {
+        acts = acts.each m lt;
+        kernel = turns.may_turn b pt l m (w.nodes m).kernel (omega (arith, lt, few)) (run_always b es pt valid leads) (made_always b es pt valid leads) (counts_few b es pt valid leads st.counts) st.mirrors node.kernel node.lawful;
+      },
+      node.lawful,
+    )
 
 pub may_step_turn : (b : Boot) (es : List Step) (w : WorldState) (pt : Point) (m : ℕ) → IsValid b → Leads b (first_point b) es pt → Stands b w pt → AllMayAct b w → m < length b.machines → MayStep b w (step.Turn m)
 may_step_turn b es w pt m valid leads stands acts lt = let k = may_turn b es w pt m valid leads stands acts lt in (lt, k.0, k.1)
@@ -61,6 +63,10 @@ may_step_turn b es w pt m valid leads stands acts lt = let k = may_turn b es w p
 -- a tick
 pub may_step_tick : (b : Boot) (w : WorldState) (m : ℕ) → AllMayAct b w → m < length b.machines → MayStep b w (step.Tick m)
 may_step_tick b w m acts lt = (lt, acts.each m lt)
+
+-- what waits on any stream of a machine can be put into packets, on those that lead nowhere too
+pub all_lawful : (b : Boot) (w : WorldState) (m : ℕ) → AllMayAct b w → m < length b.machines → (c : ℕ) → c < 16 → All IsLawfulMessage ((w.nodes m).senders c).unacked
+all_lawful b w m acts lt c small = (acts.each m lt).unacked c small
 
 -- where a run begins
 few_numbers : (b : Boot) → IsValid b → b.numbers < 2 ^ 32

@@ -1,66 +1,41 @@
 -- The message at the front of a machine's inbox is one that the machine can handle: for a kernel, a server, or a process.
-use Rattle.std.proofs.Common.{◌≡◌, inl, inr, ℕ, zero, suc, ◌+◌, ◌<◌, ◌≤◌, ◌==◌, ◌&&◌, ◌||◌, Bool, true, false, List, [], ◌∷◌, length, map, refl, ap, ◌∙◌, sym, subst, is_some, nat_le, nat_lt, arith}
-use Rattle.std.specs.Prelude.{if◌then◌else◌, IsSome}
-use Rattle.std.specs.List.{All}
+use Rattle.std.proofs.Common.{◌≡◌, ℕ, ◌+◌, ◌<◌, ◌≤◌, ◌==◌, ◌||◌, Bool, true, false, List, [], ◌∷◌, length, map, refl, ap, ◌∙◌, sym, subst, is_some, arith}
+use Rattle.std.specs.Prelude.{if◌then◌else◌}
 use Rattle.std.proofs.lemmas.List.{length-map}
-use Rattle.std.proofs.lemmas.List.Elements.{All-head}
 use Rattle.std.specs.declared.option.Option.{Option}
 use Rattle.std.specs.declared.option.Option.TheVariants.{None, Some}
-use Rattle.std.proofs.lemmas.Bool.{false≢true}
 use Rattle.std.proofs.lemmas.Bool.Decides.{nat_tests}
 use Rattle.dm_link.specs.declared.Pid.{Pid}
-use Rattle.dm_link.specs.declared.Addr.{Addr}
 use Rattle.dm_link.specs.Names.{pid_eq}
 use Rattle.dm_message.specs.declared.Message.{Message}
 use Rattle.dm_message.specs.declared.MsgId.{MsgId}
-use Rattle.dm_message.specs.declared.What.{What}
-use Rattle.dm_message.specs.declared.What.TheVariants as what
 use Rattle.dm_message.specs.declared.kind.MessageKind.TheVariants as kind
 use Rattle.dm_message.specs.Kinds.{kind_of}
 use Rattle.dm_message.specs.Plain as plain
 use Rattle.dm_message.specs.Plain.{PlainMessage, PlainWhat, plain_message, plain_what, with_what}
-use Rattle.dm_process.specs.declared.process.Direction.{Direction}
-use Rattle.dm_process.specs.declared.process.Direction.TheVariants as direction
-use Rattle.dm_process.specs.declared.process.Process.{Process}
-use Rattle.dm_process.specs.declared.process.Status.{Status}
-use Rattle.dm_process.specs.declared.process.Status.TheVariants as status
-use Rattle.dm_forward.specs.declared.record.Record.TheVariants as record_
-use Rattle.dm_datamove.specs.Landing.{IsAnswerOf, IsAwaited}
-use Rattle.dm_datamove.specs.Serving.{IsWithin}
 use Rattle.dm_procman.specs.declared.pending.Pending.{Pending}
 use Rattle.dm_procman.specs.Managing.{plain_child, plain_manager, plain_pending}
 use Rattle.dm_procman.specs.Taking.{IsForManager, pending_numbered}
-use Rattle.dm_switchboard.specs.Board.{plain_board}
 use Rattle.dm_onekernel.specs.declared.boot.Boot.{Boot}
-use Rattle.dm_onekernel.specs.declared.label.Why.{Why}
 use Rattle.dm_onekernel.specs.Boot.{first_number, manager, switchboard}
 use Rattle.dm_onekernel.specs.Kernel.{Life, Alive, Ended, Manager, OneKernel, Switchboard}
 use Rattle.dm_onekernel.specs.Kernel as one
 use Rattle.dm_onekernel.specs.Manager as manage
-use Rattle.dm_onekernel.specs.Pieces.{piece_of}
-use Rattle.dm_onekernel.specs.Plain.{plain_process, plain_status}
 use Rattle.dm_rule.specs.Homes.{are_for_home, is_for_home}
 use Rattle.dm_rule.specs.Point.{Point}
-use Rattle.dm_rule.specs.View.{Known}
-use Rattle.dm_rule.specs.View as view
 use Rattle.dm_rule.proofs.HomesLines.{homes_of}
-use Rattle.dm_rulelaws.specs.Fits.{WhatFits, awaits, has_bytes, is_server, piece_fits, status_awaits}
-use Rattle.dm_rulelaws.specs.KnownStands.{known_of_life}
+use Rattle.dm_rulelaws.specs.Fits.{WhatFits, is_server}
 use Rattle.dm_rulelaws.proofs.FitsRises.{both}
 use Rattle.dm_rulelaws.proofs.GoesAlways.{Run}
 use Rattle.dm_rulelaws.proofs.GoesFront.{ForOther, ForOthers, ForProcess, ForWhom, for_whom}
 use Rattle.dm_placed.specs.Placed.{Placed, Mirrors}
-use Rattle.dm_placed.proofs.Whats.{block_what, create_what, created_what, gone_what, kill_what, no_room_what, read_what, resume_what, stop_what, user_what, write_what, written_what}
-use Rattle.dm_kernel.specs.declared.kernel.Servers.{Servers}
-use Rattle.dm_kernel.specs.Lawful.{IsLawfulState}
-use Rattle.dm_kernel.specs.May.{FitsBoard, FitsEnded, FitsHere, FitsKernel, FitsKnown, FitsManager, FrontMay, MayHandle, MayTurn}
-use Rattle.dm_kernel.specs.State as machine
+use Rattle.dm_placed.proofs.Whats.{create_what, created_what, no_room_what, user_what}
+use Rattle.dm_kernel.specs.May.{FitsBoard, FitsKernel, FitsManager}
 use Rattle.dm_kernel.specs.State.{KernelState}
 use Rattle.dm_mirror.specs.Made.{MadeStands}
-use Rattle.dm_mirror.specs.Stands.{AreMessages, KernelStands, KnownStands, servers_at}
+use Rattle.dm_mirror.specs.Stands.{servers_at}
 use Rattle.dm_mirror.proofs.Counts.{CountsFew}
 use Rattle.dm_mirror.proofs.Machines.{there_plainly}
-use Rattle.dm_mirror.proofs.MayHave.{HereSo, here_so, may_act}
 
 -- the message with and without places
 pub record FrontSo (pt : Point) (m : ℕ) (i : MsgId) (x : Message) (p : PlainMessage) : Type 0 where

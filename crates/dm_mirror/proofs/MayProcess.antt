@@ -1,6 +1,6 @@
 -- A message for a process, where the process is here or has ended here: a piece lies in its memory, an answer is the one that it
 -- waits for.
-use Rattle.std.proofs.Common.{◌≡◌, inl, inr, ℕ, zero, suc, ◌+◌, ◌<◌, ◌≤◌, ◌==◌, ◌&&◌, ◌||◌, Bool, true, false, List, [], ◌∷◌, length, refl, ap, ◌∙◌, sym, subst, is_some, nat_le, nat_lt, arith}
+use Rattle.std.proofs.Common.{◌≡◌, ℕ, ◌+◌, ◌≤◌, ◌==◌, Bool, true, false, List, length, refl, ap, ◌∙◌, sym, subst, is_some, arith}
 use Rattle.std.specs.Prelude.{if◌then◌else◌}
 use Rattle.std.specs.declared.option.Option.{Option}
 use Rattle.std.specs.declared.option.Option.TheVariants.{None, Some}
@@ -10,8 +10,6 @@ use Rattle.dm_link.specs.declared.Pid.{Pid}
 use Rattle.dm_link.specs.Names.{pid_eq}
 use Rattle.dm_message.specs.declared.Message.{Message}
 use Rattle.dm_message.specs.declared.MsgId.{MsgId}
-use Rattle.dm_message.specs.declared.What.{What}
-use Rattle.dm_message.specs.declared.What.TheVariants as what
 use Rattle.dm_message.specs.Plain as plain
 use Rattle.dm_message.specs.Plain.{PlainMessage, PlainWhat, plain_what}
 use Rattle.dm_process.specs.declared.process.Direction.{Direction}
@@ -24,7 +22,7 @@ use Rattle.dm_datamove.specs.Landing.{IsAnswerOf, IsAwaited}
 use Rattle.dm_datamove.specs.Serving.{IsWithin}
 use Rattle.dm_onekernel.specs.declared.boot.Boot.{Boot}
 use Rattle.dm_onekernel.specs.declared.label.Why.{Why}
-use Rattle.dm_onekernel.specs.Boot.{manager, switchboard}
+use Rattle.dm_onekernel.specs.Boot.{manager}
 use Rattle.dm_onekernel.specs.Kernel.{Life, Alive, Ended}
 use Rattle.dm_onekernel.specs.Pieces.{piece_of}
 use Rattle.dm_onekernel.specs.Plain.{plain_process, plain_status}
@@ -43,7 +41,7 @@ use Rattle.dm_kernel.specs.State as machine
 use Rattle.dm_kernel.specs.State.{KernelState}
 use Rattle.dm_mirror.specs.Stands.{KernelStands, KnownStands}
 use Rattle.dm_mirror.proofs.MayFront.{FrontSo}
-use Rattle.dm_mirror.proofs.MayHave.{HereSo, here_so}
+use Rattle.dm_mirror.proofs.MayHave.{here_so}
 
 -- a piece within the memory
 within_memory : (n : ℕ) (x : Process) (o : Option Life) → o ≡ Some (Alive (plain_process x)) → has_bytes n o ≡ true → n ≤ length x.memory

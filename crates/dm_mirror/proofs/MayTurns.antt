@@ -1,8 +1,8 @@
 -- A machine's kernel that stands for a point may take a turn.
-use Rattle.std.proofs.Common.{◌≡◌, inl, inr, ℕ, zero, suc, ◌+◌, ◌<◌, ◌≤◌, ◌==◌, ◌||◌, Bool, true, false, List, [], ◌∷◌, map, refl, ap, ◌∙◌, sym, subst, is_some, arith}
+use Rattle.std.proofs.Common.{◌≡◌, ℕ, ◌<◌, ◌==◌, ◌||◌, Bool, true, false, List, [], ◌∷◌, map, refl, ap, ◌∙◌, sym, subst, is_some, arith}
 use Rattle.std.specs.List.{All}
 use Rattle.std.specs.declared.option.Option.{Option}
-use Rattle.std.specs.declared.option.Option.TheVariants.{None, Some}
+use Rattle.std.specs.declared.option.Option.TheVariants.{Some}
 use Rattle.std.proofs.lemmas.Bool.{false≢true}
 use Rattle.std.proofs.lemmas.Bool.Decides.{nat_tests}
 use Rattle.std.proofs.lemmas.List.Elements.{All-head}
@@ -14,7 +14,7 @@ use Rattle.dm_message.specs.Lawful.{IsLawfulMessage}
 use Rattle.dm_message.specs.Plain as plain
 use Rattle.dm_message.specs.Plain.{PlainMessage, PlainWhat}
 use Rattle.dm_onekernel.specs.declared.boot.Boot.{Boot}
-use Rattle.dm_onekernel.specs.Boot.{first_number, manager, switchboard}
+use Rattle.dm_onekernel.specs.Boot.{manager, switchboard}
 use Rattle.dm_onekernel.specs.Kernel.{OneKernel}
 use Rattle.dm_laws.proofs.Equal.{pid_eq-is, pid_eq-same}
 use Rattle.dm_rule.specs.Point.{Point}
@@ -23,7 +23,7 @@ use Rattle.dm_rulelaws.proofs.GoesAlways.{Run}
 use Rattle.dm_rulelaws.proofs.GoesFront.{ForOther, ForOthers, ForProcess, ForWhom, for_whom}
 use Rattle.dm_placed.specs.Placed.{Placed, Mirrors}
 use Rattle.dm_kernel.specs.Lawful.{IsLawfulState}
-use Rattle.dm_kernel.specs.May.{FitsBoard, FitsKernel, FitsKnown, FitsManager, FrontMay, MayHandle, MayTurn}
+use Rattle.dm_kernel.specs.May.{FitsKnown, FrontMay, MayHandle, MayTurn}
 use Rattle.dm_kernel.specs.State.{KernelState}
 use Rattle.dm_mirror.specs.Made.{MadeStands}
 use Rattle.dm_mirror.specs.Stands.{KernelStands}

@@ -1,5 +1,5 @@
 -- Where a turn raises a count, it routes a message.
-use Rattle.std.proofs.Common.{◌≡◌, ◌⊎◌, inl, inr, ℕ, zero, suc, ◌+◌, ◌≤◌, ◌==◌, Bool, true, false, List, [], ◌∷◌, ◌++◌, length, refl, ap, ◌∙◌, sym, subst, arith}
+use Rattle.std.proofs.Common.{◌≡◌, ◌⊎◌, inl, inr, ℕ, ◌+◌, ◌==◌, Bool, true, false, List, [], ◌∷◌, length, refl, ap, ◌∙◌, sym, subst, arith}
 use Rattle.std.specs.Prelude.{⊤, if◌then◌else◌, slice_get}
 use Rattle.std.specs.declared.option.Option.{Option}
 use Rattle.std.specs.declared.option.Option.TheVariants.{None, Some}
@@ -17,7 +17,7 @@ use Rattle.dm_onekernel.specs.declared.label.Why.TheVariants as why
 use Rattle.dm_onekernel.specs.Boot.{first_number, switchboard, manager}
 use Rattle.dm_onekernel.specs.Options.{bind}
 use Rattle.dm_onekernel.specs.PlainProcess.{PlainProcess, PlainStatus, Ready, Waiting, Moving}
-use Rattle.dm_onekernel.specs.Kernel.{Life, Alive, OneKernel}
+use Rattle.dm_onekernel.specs.Kernel.{Alive, OneKernel}
 use Rattle.dm_onekernel.specs.Calls as calls
 use Rattle.dm_onekernel.specs.Pieces as pieces
 use Rattle.dm_onekernel.specs.Pieces.{answer_id}
@@ -33,7 +33,7 @@ use Rattle.dm_rule.specs.Parts.{Part, Says, Routes, Transmits}
 use Rattle.dm_rule.specs.Rule as rule
 use Rattle.dm_rule.specs.View as view
 use Rattle.dm_rule.proofs.Groups.{IsNetLine, IsNet}
-use Rattle.dm_mirror.proofs.Raises.{Within, Raises, ran_raises, call_raises, send_raises, wait_raises, out_raises, end_raises, receive_raises, refuse_raises}
+use Rattle.dm_mirror.proofs.Raises.{Within, ran_raises, call_raises, send_raises, wait_raises, out_raises, end_raises, receive_raises, refuse_raises}
 use Rattle.dm_mirror.proofs.RaisesServed.{landed_raise, served_raise, sent_raise, dropped_raises, gone_raises, no_space_raises, served_raises}
 use Rattle.dm_mirror.proofs.RaisesMade.{board_raise, manager_raise, took_raise, took_raises, created_makes}
 
@@ -100,8 +100,11 @@ receives_paid s p x (Some i) = received_paid s p i x (s.bag i)
 status_paid : (quantum : ℕ) (s : OneKernel) (p : Pid) (queue : List MsgId) (x : PlainProcess) (st : PlainStatus) → PaidIf s (rule.serves_status quantum s p queue x st)
 status_paid quantum s p queue x Ready =
     let r = rule.ran quantum (kernel.machine_of x) in
-    λ t e. inl ((ran_raises s t p r.count e).within, unless_paid t (r.count == quantum) (rule.stops p queue (kernel.next_row p (kernel.with_machine x r.machine) (instruction r.machine.regs r.machine.bytes)))
-    (stops_paid t p queue (kernel.next_row p (kernel.with_machine x r.machine) (instruction r.machine.regs r.machine.bytes))))
+    λ t e. inl (
+      (ran_raises s t p r.count e).within,
+      unless_paid t (r.count == quantum) (rule.stops p queue (kernel.next_row p (kernel.with_machine x r.machine) (instruction r.machine.regs r.machine.bytes)))
+          (stops_paid t p queue (kernel.next_row p (kernel.with_machine x r.machine) (instruction r.machine.regs r.machine.bytes))),
+    )
 status_paid quantum s p queue x (Waiting mask base size) = receives_paid s p x (rule.first_awaited s mask queue)
 status_paid quantum s p queue x (Moving dir owner base own left pending) = tt
 

@@ -1,35 +1,27 @@
 -- How much a step raises counts: what kernels and servers say.
-use Rattle.std.proofs.Common.{◌≡◌, inl, inr, ℕ, ◌+◌, ◌*◌, ◌≤◌, ◌==◌, ◌&&◌, Bool, true, false, List, [], ◌∷◌, ◌++◌, refl, ap, ◌∙◌, sym, subst, is_some, nat_lt, arith, length}
-use Rattle.std.specs.Prelude.{if◌then◌else◌, slice_get, take, drop}
+use Rattle.std.proofs.Common.{◌≡◌, ℕ, ◌+◌, Bool, true, false, refl, ap, sym, subst, arith}
+use Rattle.std.specs.Prelude.{if◌then◌else◌, take, drop}
 use Rattle.std.specs.declared.option.Option.{Option}
 use Rattle.std.specs.declared.option.Option.TheVariants.{None, Some}
-use Rattle.std.proofs.lemmas.Bool.Decides.{nat_tests}
-use Rattle.dm_link.specs.declared.Pid.{Pid}
-use Rattle.dm_link.specs.Names.{pid_eq, pid_of}
-use Rattle.dm_link.specs.Plain.{PlainLink}
 use Rattle.dm_message.specs.declared.MsgId.{MsgId}
 use Rattle.dm_message.specs.Plain as what
 use Rattle.dm_message.specs.Plain.{PlainMessage, PlainWhat}
-use Rattle.dm_onekernel.specs.declared.boot.BootImage.{BootImage}
 use Rattle.dm_onekernel.specs.declared.label.Label.TheVariants as label
 use Rattle.dm_onekernel.specs.declared.label.Why.TheVariants as why
-use Rattle.dm_onekernel.specs.Boot.{first_number, switchboard, manager}
+use Rattle.dm_onekernel.specs.Boot.{switchboard}
 use Rattle.dm_onekernel.specs.Options.{bind}
 use Rattle.dm_onekernel.specs.PlainProcess.{PlainProcess}
-use Rattle.dm_onekernel.specs.Kernel.{Life, Alive, Ended, Switchboard, Manager, Pending, OneKernel, with_process, with_sent}
+use Rattle.dm_onekernel.specs.Kernel.{Alive, Ended, Switchboard, OneKernel, with_process, with_sent}
 use Rattle.dm_onekernel.specs.Pieces as pieces
 use Rattle.dm_onekernel.specs.Pieces.{answer_to}
-use Rattle.dm_onekernel.specs.Start.{begun}
 use Rattle.dm_onekernel.specs.Switchboard as board
-use Rattle.dm_onekernel.specs.Manager as manage
 use Rattle.dm_onekernel.specs.Service as service
 use Rattle.dm_onekernel.specs.Service.{without_message, is_of_memory, is_dropped}
 use Rattle.dm_onekernel.specs.Step as step
-use Rattle.dm_laws.proofs.Equal.{pid_eq-is, pid_eq-same}
 use Rattle.dm_laws.proofs.Steps.{bind-is, when-is, alive-is}
 use Rattle.dm_laws.proofs.Services.{LandsSo, lands-is}
-use Rattle.dm_laws.proofs.Servers.{ServerSends, board_takes, manager_takes}
-use Rattle.dm_mirror.proofs.Raises.{Within, Stays, Raises, sent_of, bag_raises, set_raises}
+use Rattle.dm_laws.proofs.Servers.{ServerSends, board_takes}
+use Rattle.dm_mirror.proofs.Raises.{Raises, bag_raises, set_raises}
 
 -- messages that have nobody to take them
 pub dropped_raises : (s t : OneKernel) (id : MsgId) → step.step s (label.Dropped id) ≡ Some t → Raises 0 s t

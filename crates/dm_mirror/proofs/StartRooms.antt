@@ -1,6 +1,6 @@
 -- What the processes of a boot file take of each machine.
-use Rattle.std.proofs.Common.{◌≡◌, ◌≢◌, inl, inr, ℕ, zero, suc, ◌+◌, ◌*◌, ◌-◌, ◌/◌, ◌<◌, ◌≤◌, ◌==◌, Bool, true, false, List, [], ◌∷◌, ◌++◌, length, replicate, refl, ap, ◌∙◌, sym, subst, is_some, nat_le, nat_lt, arith}
-use Rattle.std.specs.Prelude.{◌&&◌, if◌then◌else◌, slice_get, map}
+use Rattle.std.proofs.Common.{◌≡◌, inl, inr, ℕ, zero, suc, ◌+◌, ◌*◌, ◌/◌, ◌<◌, ◌≤◌, ◌==◌, Bool, true, false, List, [], ◌∷◌, ◌++◌, length, refl, ap, ◌∙◌, sym, arith}
+use Rattle.std.specs.Prelude.{if◌then◌else◌, slice_get, map}
 use Rattle.std.proofs.lemmas.Grind.{common_steps}
 use Rattle.std.specs.declared.option.Option.{Option}
 use Rattle.std.specs.declared.option.Option.TheVariants.{None, Some}
@@ -12,20 +12,20 @@ use Rattle.dm_link.specs.Plain.{plain_link}
 use Rattle.dm_onekernel.specs.declared.boot.BootImage.{BootImage}
 use Rattle.dm_onekernel.specs.declared.boot.BootProcess.{BootProcess}
 use Rattle.dm_onekernel.specs.declared.boot.Boot.{Boot}
-use Rattle.dm_onekernel.specs.Boot.{IsValid, starting_at, blocks_at, blocks_of_image, images_are_valid, image_is_valid, processes_are_valid, process_named}
+use Rattle.dm_onekernel.specs.Boot.{IsValid, starting_at, blocks_at, blocks_of_image, image_is_valid, processes_are_valid, process_named}
 use Rattle.dm_onekernel.specs.Kernel.{Life, Alive}
 use Rattle.dm_onekernel.specs.Options.{bind}
 use Rattle.dm_onekernel.specs.Start.{begun, first_life, memory_of}
 use Rattle.dm_onekernel.specs.Step as kernel
 use Rattle.dm_kernel.proofs.Making.{image_fits}
-use Rattle.dm_rule.specs.Point.{Point, first_point}
+use Rattle.dm_rule.specs.Point.{first_point}
 use Rattle.dm_rule.specs.Rule.{Room, and, blocks_of, taken_at, taken_by, taken_of_home, takes_room}
 use Rattle.dm_rule.specs.View.{Known}
 use Rattle.dm_rule.specs.View as view
 use Rattle.dm_rulelaws.specs.Fits.{is_server}
 use Rattle.dm_rulelaws.specs.KnownStands.{known_of_life}
-use Rattle.dm_rulelaws.proofs.GoesAlways.{Run, run_start}
-use Rattle.dm_mirror.proofs.Numbering.{Named, Listed, listed, named_is, none_again, life_named, one_if, starting-last}
+use Rattle.dm_rulelaws.proofs.GoesAlways.{run_start}
+use Rattle.dm_mirror.proofs.Numbering.{Listed, listed, named_is, none_again, life_named, one_if, starting-last}
 
 abbrev nothing : Room
 nothing = record { slots = 0; blocks = 0 }

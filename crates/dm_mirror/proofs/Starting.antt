@@ -1,47 +1,41 @@
 -- The world as the boot file has it stands for the first point.
-use Rattle.std.proofs.Common.{◌≡◌, ◌≢◌, inl, inr, ℕ, zero, suc, ◌+◌, ◌-◌, ◌^◌, ◌<◌, ◌≤◌, ◌==◌, Bool, true, false, List, [], ◌∷◌, ◌++◌, length, map, replicate, refl, ap, ◌∙◌, sym, subst, is_some, nat_le, nat_lt, arith}
-use Rattle.std.specs.Prelude.{◌&&◌, ◌||◌, if◌then◌else◌, slice_get}
+use Rattle.std.proofs.Common.{◌≡◌, ℕ, zero, suc, ◌-◌, ◌^◌, ◌<◌, ◌≤◌, ◌==◌, Bool, true, false, [], length, map, replicate, refl, ap, ◌∙◌, sym, subst, is_some, nat_lt, arith}
+use Rattle.std.specs.Prelude.{◌||◌, if◌then◌else◌, slice_get}
 use Rattle.std.specs.declared.option.Option.{Option}
 use Rattle.std.specs.declared.option.Option.TheVariants.{None, Some}
-use Rattle.std.proofs.lemmas.Bool.{cases_Bool}
 use Rattle.std.proofs.lemmas.Bool.Decides.{nat_tests}
 use Rattle.std.proofs.lemmas.List.Elements.{All-nil}
 use Rattle.dm_link.specs.declared.Pid.{Pid}
-use Rattle.dm_link.specs.Names.{pid_of, pid_eq}
-use Rattle.dm_link.specs.Plain.{plain_link}
+use Rattle.dm_link.specs.Names.{pid_eq}
 use Rattle.dm_message.specs.declared.Message.{Message}
 use Rattle.dm_message.specs.Lawful.{IsLawfulMessage}
 use Rattle.dm_process.specs.declared.process.Process.{Process}
-use Rattle.dm_room.specs.Room.{Taken}
 use Rattle.dm_stream.specs.Order as order
 use Rattle.dm_stream.specs.Sending.{Sending, fresh_sending}
-use Rattle.dm_stream.specs.Stream.{Stream, start}
 use Rattle.dm_stream.specs.Receiving.{fresh_receiving, kept_under, place}
 use Rattle.dm_stream.proofs.Together.{Stands-start}
 use Rattle.dm_onekernel.specs.declared.boot.BootMachine.{BootMachine}
 use Rattle.dm_onekernel.specs.declared.boot.BootProcess.{BootProcess}
 use Rattle.dm_onekernel.specs.declared.boot.Boot.{Boot}
-use Rattle.dm_onekernel.specs.Boot.{IsValid, starting_at, process_named, switchboard, manager}
-use Rattle.dm_onekernel.specs.Kernel.{Life, Alive}
+use Rattle.dm_onekernel.specs.Boot.{IsValid, process_named, switchboard, manager}
 use Rattle.dm_onekernel.specs.Options.{bind}
-use Rattle.dm_onekernel.specs.Start.{begun, first_life}
+use Rattle.dm_onekernel.specs.Start.{first_life}
 use Rattle.dm_kernel.specs.Begun.{child_of, empty, opened, room_of}
 use Rattle.dm_kernel.proofs.LawfulStart.{opened_lawful}
 use Rattle.dm_forward.specs.declared.record.Record.TheVariants as record_
 use Rattle.dm_node.specs.State.{fresh_sender}
 use Rattle.dm_placed.specs.PlacedStart.{placed_start, started}
 use Rattle.dm_placed.proofs.Starts.{start_mirrors}
-use Rattle.dm_rule.specs.Point.{Point, first_point}
-use Rattle.dm_rule.specs.Rule.{Room, taken_at}
+use Rattle.dm_rule.specs.Point.{first_point}
 use Rattle.dm_rule.specs.View.{Known}
 use Rattle.dm_rule.specs.View as view
 use Rattle.dm_rulelaws.specs.Fits.{is_server}
 use Rattle.dm_rulelaws.specs.KnownStands.{known_of_life}
-use Rattle.dm_world.specs.World.{WorldState, first_world}
-use Rattle.dm_mirror.specs.Stands.{History, KernelStands, KnownStands, NodeStands, PairStands, RoomStands, StandsWith}
+use Rattle.dm_world.specs.World.{first_world}
+use Rattle.dm_mirror.specs.Stands.{History, KernelStands, KnownStands, PairStands}
 use Rattle.dm_mirror.specs.Laws.{StartStands}
 use Rattle.dm_mirror.proofs.Numbering.{named_is, none_below, started_named}
-use Rattle.dm_mirror.proofs.Opening.{Opens, first_here, first_record, first_started, opens_all}
+use Rattle.dm_mirror.proofs.Opening.{first_here, first_record, first_started, opens_all}
 use Rattle.dm_mirror.proofs.StartRooms.{first_alive, first_known, first_taken}
 
 -- what is known of a process of the file that begins here

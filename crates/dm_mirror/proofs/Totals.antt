@@ -1,5 +1,5 @@
 -- How many messages were routed, pair by pair and in all: no line takes any away, and a route adds one.
-use Rattle.std.proofs.Common.{◌≡◌, inl, inr, ℕ, zero, suc, ◌+◌, ◌*◌, ◌<◌, ◌≤◌, ◌==◌, ◌&&◌, Bool, true, false, not, filter, List, [], ◌∷◌, ◌++◌, length, refl, ap, ◌∙◌, sym, subst, arith}
+use Rattle.std.proofs.Common.{◌≡◌, inl, inr, ℕ, zero, suc, ◌+◌, ◌*◌, ◌<◌, ◌≤◌, ◌==◌, ◌&&◌, Bool, true, false, not, filter, List, [], ◌∷◌, ◌++◌, length, refl, ap, ◌∙◌, subst, arith}
 use Rattle.std.specs.Prelude.{if◌then◌else◌}
 use Rattle.std.specs.declared.option.Option.{Option}
 use Rattle.std.specs.declared.option.Option.TheVariants.{None, Some}
@@ -55,10 +55,12 @@ pair_grows f a b p le c d = elim (cases_Bool ((a == c) && (b == d))) [
 ]
 
 set_grows : (v w : View) (a b : ℕ) (p : Pair) → w.pair ≡ at_pair v.pair a b p → length (v.pair a b).ids ≤ length p.ids → Grows v w
-set_grows v w a b p e le = record { ids = λ c d.
-  let f : ids_of w c d ≡ length (at_pair v.pair a b p c d).ids = ap (λ (q : ℕ → ℕ → Pair). length (q c d).ids) e in
-  let g = pair_grows v.pair a b p le c d in
-  omega (arith, f, g) }
+set_grows v w a b p e le = record {
+  ids = λ c d.
+      let f : ids_of w c d ≡ length (at_pair v.pair a b p c d).ids = ap (λ (q : ℕ → ℕ → Pair). length (q c d).ids) e in
+      let g = pair_grows v.pair a b p le c d in
+      omega (arith, f, g);
+}
 
 -- a row a line
 dropped_pair : (v : View) (i : MsgId) (o : Option Pid) → (view.dropped_for v i o).pair ≡ v.pair

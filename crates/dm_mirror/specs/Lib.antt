@@ -1,6 +1,7 @@
 pub mod Stands
+pub mod Able
 pub mod Todo
-pub mod Made
 pub mod Run
-pub mod Laws
+pub mod Made
 pub mod Local
+pub mod Laws

@@ -16,6 +16,8 @@ use Rattle.dm_rule.specs.Point.{Point, first_point, labels}
 use Rattle.dm_rule.specs.Rule.{group_of}
 use Rattle.dm_rule.specs.Worn.{IsWorn}
 use Rattle.dm_world.specs.World.{WorldState, Said, Says, WornOut, world_step}
+use Rattle.dm_world.specs.Readable.{IsReadable}
+use Rattle.dm_mirror.specs.Able.{AllMayAct}
 use Rattle.dm_mirror.specs.Stands.{Stands}
 use Rattle.dm_mirror.specs.Todo.{IsTodo}
 
@@ -39,6 +41,9 @@ pub record RunStands (b : Boot) (ds : List Directive) (gs : List (List Line)) (p
   pub leads : Leads b (first_point b) steps pt
   pub todo : IsTodo (length b.machines) left
   pub stands : Stands b w pt
+  -- each machine may act, and packets are read again
+  pub able : AllMayAct b w
+  pub readable : IsReadable w
 
 -- the machines do what the rule says
 pub record GoesOn (b : Boot) (w : WorldState) (pt : Point) (e : Step) : Type 0 where

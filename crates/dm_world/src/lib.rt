@@ -1,2 +1,12 @@
 //! All machines and the wires between them.
 #![tactic(auto)]
+
+pub mod cursor;
+mod speak;
+mod step;
+pub mod world;
+
+pub use cursor::{Cursor, Stage};
+pub use dm_memory::NoMemory;
+pub use dm_node::Stop;
+pub use world::World;

@@ -1,4 +1,4 @@
-use Rattle.dm_mirror.proofs.Given.{kernel_stays}
+use Rattle.dm_mirror.proofs.Staying.{kernel_stays}
 use Rattle.dm_mirror.proofs.Local.{acts_locally}
 use Rattle.dm_mirror.proofs.laws.acts_locally.Goals as goal
 

@@ -1,4 +1,4 @@
-use Rattle.dm_mirror.proofs.Given.{kernel_stays}
+use Rattle.dm_mirror.proofs.Staying.{kernel_stays}
 use Rattle.dm_mirror.proofs.Local.{reads_locally}
 use Rattle.dm_mirror.proofs.laws.reads_locally.Goals as goal
 
