@@ -88,3 +88,4 @@ pub mod Readable
 pub mod DeliverSent
 pub mod DeliverOuts
 pub mod DeliverKeeps
+pub mod EndMay

@@ -17,6 +17,7 @@ use Rattle.dm_world.specs.World.{WorldState, first_world}
 use Rattle.dm_world.specs.May.{MayStep}
 use Rattle.dm_world.specs.Next as world
 use Rattle.dm_world.specs.Ends as world_ends
+use Rattle.dm_world.specs.Ends.{MayEnd}
 use Rattle.dm_world.specs.Readable.{IsReadable, AreReadBack, gave}
 use Rattle.dm_mirror.specs.Able.{AllMayAct}
 use Rattle.dm_mirror.specs.Stands.{Stands}
@@ -45,6 +46,10 @@ abbrev pub EndIsSaid : Type 0
 EndIsSaid =
     (b : Boot) (es : List Step) (w : WorldState) (pt : Point) → IsValid b → Leads b (first_point b) es pt → Stands b w pt
     → world_ends.end_lines (length b.machines) w ≡ rule_ends.end_lines pt
+
+-- and that can be said
+abbrev pub EndMay : Type 0
+EndMay = (b : Boot) (es : List Step) (w : WorldState) (pt : Point) → IsValid b → Leads b (first_point b) es pt → Stands b w pt → MayEnd (length b.machines) w
 
 -- a run begins, and goes on
 abbrev pub RunBegins : Type 0

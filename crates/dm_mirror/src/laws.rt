@@ -1,6 +1,6 @@
 //! What holds of every run of the machines and their wires, whoever runs them.
 ghost use Rattle.dm_mirror.specs.Local.{ActsLocally, ReadsLocally, NothingComes};
-ghost use Rattle.dm_mirror.specs.Laws.{StartStands, StepsStand, NextIsSaid, EndIsSaid, RunBegins, RunGoesOn};
+ghost use Rattle.dm_mirror.specs.Laws.{StartStands, StepsStand, NextIsSaid, EndIsSaid, EndMay, RunBegins, RunGoesOn};
 
 /// The machines as the boot file has them, with empty wires, stand for the point where printed lines begin.
 pub fn start_stands()
@@ -23,6 +23,11 @@ pub fn next_is_said()
 /// lines say: each process with its registers, memory and links, the servers, and every message.
 pub fn end_is_said()
     ensures { EndIsSaid }
+{}
+
+/// And that can be said: no number is too great for it.
+pub fn end_may()
+    ensures { EndMay }
 {}
 
 /// Before the first directive nothing was printed, and the machines stand for that.

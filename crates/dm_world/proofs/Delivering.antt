@@ -29,10 +29,10 @@ came : (w : WorldState) (e : Step) (a c : ℕ) (p : Packet) → sent_by p ≡ a 
 came w e a c (packet.Data from to k m) h = ap (λ x. Some (Says (acted w e c (node.arrives (w.nodes c) x (Data k m))))) (sym h)
 came w e a c (packet.Ack from to k) h = ap (λ x. Some (Says (acted w e c (node.arrives (w.nodes c) x (Ack k))))) (sym h)
 
-may_read : (w : WorldState) (a c : ℕ) (r : Result Packet Bad) (p : Packet) → r ≡ Ok p → MayRead w a c r → MayRead w a c (Ok p)
+pub may_read : (w : WorldState) (a c : ℕ) (r : Result Packet Bad) (p : Packet) → r ≡ Ok p → MayRead w a c r → MayRead w a c (Ok p)
 may_read w a c r p e h = subst (MayRead w a c) e h
 
-read_bytes : (bytes : List ℕ) (p : Packet) → Some (packet_of bytes) ≡ Some (Ok p) → packet_of bytes ≡ Ok p
+pub read_bytes : (bytes : List ℕ) (p : Packet) → Some (packet_of bytes) ≡ Some (Ok p) → packet_of bytes ≡ Ok p
 read_bytes bytes p e = cc
 
 record_at : (ps : List Sent) (k : ℕ) (bytes : List ℕ) (o : Option Sent) → slice_get ps k ≡ o → option_map (λ (x : Sent). x.bytes) o ≡ Some bytes → k < length ps

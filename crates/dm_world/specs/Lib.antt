@@ -5,4 +5,5 @@ pub mod Ends
 pub mod Meets
 pub mod Local
 pub mod Cursor
+pub mod Running
 pub mod Readable

@@ -2,6 +2,11 @@
 #![tactic(auto)]
 
 pub mod cursor;
+mod end_lines;
+mod end_messages;
+mod end_process;
+mod end_servers;
+mod run;
 mod speak;
 mod step;
 pub mod world;

@@ -1,10 +1,12 @@
 //! How what a machine gives is printed and put on the wires.
-ghost use Rattle.std.specs.Prelude.{◌≡◌, ◌++◌, ◌∷◌, ℕ, IfOk, OnOk};
+ghost use Rattle.std.specs.Prelude.{◌≡◌, ◌++◌, ◌∷◌, ℕ, IfOk, Ok, OnOk};
 ghost use Rattle.std.specs.List.{All};
 ghost use Rattle.dm_packet.specs.Lawful.{IsLawfulPacket};
+ghost use Rattle.dm_packet.specs.Packets.{packet_of, spelling};
 ghost use Rattle.dm_wire.specs.Wire.{packets_on};
 ghost use Rattle.dm_node.specs.Wired.{packet_line, spoken, with_packet};
 ghost use Rattle.dm_world.specs.Meets.{IsSendable, Spoke};
+ghost use Rattle.dm_world.specs.Readable.{AreReadBack};
 
 use dm_memory::NoMemory;
 use dm_node::Out;
@@ -21,7 +23,8 @@ pub fn speak(
     lines: &mut Vec<Line>,
 ) -> Result<(), NoMemory>
     requires { All IsSendable outs.items }
-    ensures { OnOk result (Spoke lines.old.items lines.new.items (packets_on wires.new) (spoken (packets_on wires.old) outs.items)) }
+    ensures spoke { OnOk result (Spoke lines.old.items lines.new.items (packets_on wires.new) (spoken (packets_on wires.old) outs.items)) }
+    ensures again { OnOk result (AreReadBack outs.items) }
 {
     for out in outs {
         match out {
@@ -37,6 +40,7 @@ fn send(alloc: Global, wires: &mut Wire, packet: &Packet) -> Result<Line, NoMemo
     requires { IsLawfulPacket packet.now }
     ensures line { IfOk result (λ l. l ≡ packet_line (packets_on wires.old) packet.now) }
     ensures wires { OnOk result ((x y : ℕ) → packets_on wires.new x y ≡ with_packet (packets_on wires.old) packet.now x y) }
+    ensures again { OnOk result (packet_of (spelling packet.now) ≡ Ok packet.now) }
 {
     let mut bytes = Vec::new(alloc);
     encode(packet, &mut bytes)?;

@@ -15,6 +15,7 @@ ghost use Rattle.dm_rule.specs.declared.line.Line.TheVariants as line;
 ghost use Rattle.dm_world.specs.Local.{ActsAlone, acts_on};
 ghost use Rattle.dm_world.specs.May.{MayDeliver, MayStep};
 ghost use Rattle.dm_world.specs.Meets.{ActedAt, Answers, AreNodes, IsSendable, IsWorld, TurnAnswers, node_in, state_of};
+ghost use Rattle.dm_world.specs.Readable.{AreReadBack, gave};
 ghost use Rattle.dm_world.specs.World.{world_step};
 
 use crate::speak::speak;
@@ -40,6 +41,7 @@ impl World {
         ensures answers { Answers result (state_of self.new) (world_step self.old.boot (state_of self.old) step.now) }
         ensures world { OnOk result (IsWorld self.new) }
         ensures alone { OnOk result (ActsAlone (acts_on step.now) (state_of self.old) (state_of self.new)) }
+        ensures again { OnOk result (AreReadBack (gave self.old.boot (state_of self.old) step.now)) }
         ensures boot { self.new.boot ≡ self.old.boot }
         ensures running { OnOk result (self.new.stopped ≡ false) }
         ensures stopped { OnErr result (self.new.stopped ≡ true) }
@@ -60,6 +62,7 @@ impl World {
         requires groups { self.old.groups < 2 ^ 127 }
         ensures answers { Answers result (state_of self.new) (world_step self.old.boot (state_of self.old) step.now) }
         ensures world { OnOk result (IsWorld self.new) }
+        ensures again { OnOk result (AreReadBack (gave self.old.boot (state_of self.old) step.now)) }
         ensures boot { self.new.boot ≡ self.old.boot }
         ensures stopped { self.new.stopped ≡ self.old.stopped }
     {
@@ -78,6 +81,7 @@ impl World {
         requires groups { self.old.groups < 2 ^ 127 }
         ensures answers { Answers result (state_of self.new) (world_step self.old.boot (state_of self.old) (directive.Turn m)) }
         ensures world { OnOk result (IsWorld self.new) }
+        ensures again { OnOk result (AreReadBack (gave self.old.boot (state_of self.old) (directive.Turn m))) }
         ensures boot { self.new.boot ≡ self.old.boot }
         ensures stopped { self.new.stopped ≡ self.old.stopped }
     {
@@ -93,6 +97,7 @@ impl World {
         requires groups { self.old.groups < 2 ^ 127 }
         ensures answers { Answers result (state_of self.new) (world_step self.old.boot (state_of self.old) (directive.Tick m)) }
         ensures world { OnOk result (IsWorld self.new) }
+        ensures again { OnOk result (AreReadBack (gave self.old.boot (state_of self.old) (directive.Tick m))) }
         ensures boot { self.new.boot ≡ self.old.boot }
         ensures stopped { self.new.stopped ≡ self.old.stopped }
     {
@@ -108,6 +113,7 @@ impl World {
         requires groups { self.old.groups < 2 ^ 127 }
         ensures answers { Answers result (state_of self.new) (world_step self.old.boot (state_of self.old) (directive.Deliver a b k)) }
         ensures world { OnOk result (IsWorld self.new) }
+        ensures again { OnOk result (AreReadBack (gave self.old.boot (state_of self.old) (directive.Deliver a b k))) }
         ensures boot { self.new.boot ≡ self.old.boot }
         ensures stopped { self.new.stopped ≡ self.old.stopped }
     {
@@ -125,6 +131,7 @@ impl World {
         requires packet { option_map packet_of (bytes_at (packets_on self.old.wires a b) k) ≡ Some (Ok packet) }
         ensures answers { Answers result (state_of self.new) (world_step self.old.boot (state_of self.old) (directive.Deliver a b k)) }
         ensures world { OnOk result (IsWorld self.new) }
+        ensures again { OnOk result (AreReadBack (gave self.old.boot (state_of self.old) (directive.Deliver a b k))) }
         ensures boot { self.new.boot ≡ self.old.boot }
         ensures stopped { self.new.stopped ≡ self.old.stopped }
     {
@@ -141,6 +148,7 @@ impl World {
         requires none { bytes_at (packets_on self.old.wires a b) k ≡ None }
         ensures answers { Answers result (state_of self.new) (world_step self.old.boot (state_of self.old) (directive.Deliver a b k)) }
         ensures world { OnOk result (IsWorld self.new) }
+        ensures again { OnOk result (AreReadBack (gave self.old.boot (state_of self.old) (directive.Deliver a b k))) }
         ensures boot { self.new.boot ≡ self.old.boot }
         ensures stopped { self.new.stopped ≡ self.old.stopped }
     {
@@ -156,6 +164,7 @@ impl World {
         ensures lines { IfOk result (λ lines. lines.items ≡ line.Head step ∷ (spoken (packets_on self.old.wires) outs.items).lines) }
         ensures wires { OnOk result ((x y : ℕ) → packets_on self.new.wires x y ≡ (spoken (packets_on self.old.wires) outs.items).wires x y) }
         ensures groups { OnOk result (self.new.groups ≡ self.old.groups + 1) }
+        ensures again { OnOk result (AreReadBack outs.items) }
         ensures nodes { self.new.nodes ≡ self.old.nodes }
         ensures boot { self.new.boot ≡ self.old.boot }
         ensures stopped { self.new.stopped ≡ self.old.stopped }

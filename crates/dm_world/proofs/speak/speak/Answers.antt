@@ -5,6 +5,7 @@ use Rattle.dm_wire.specs.Wire.{packets_on}
 use Rattle.dm_node.specs.Wired.{spoken}
 use Rattle.dm_world.specs.Meets.{IsSendable}
 use Rattle.dm_world.proofs.Speaking.{leads_line, leads_packet}
+use Rattle.dm_world.proofs.Rereading.{back_line, back_packet}
 use Rattle.dm_world.proofs.speak.speak.Goals as goal
 
 pub loop-out-preserved-in_ok-push-in-Says : goal.loop-out-preserved-in_ok-push-in-Says
@@ -19,6 +20,7 @@ loop-out-preserved-in_ok-push-in-Says c =
       finite = tt;
       sendable = All-rest IsSendable c.in-Some.out left whole c.in-Some.ensures.steps.0 here.invariant.sendable;
       leads = leads_line c.args.lines.now.items here.lines.items c.push.new.self.items all (packets_on here.wires) c.in-Says.line left whole is c.in_ok-push-in-Says.ensures.items here.invariant.leads;
+      back = back_line c.in-Says.line c.args.outs.items left whole is here.invariant.back;
     }
 
 pub loop-out-preserved : goal.loop-out-preserved
@@ -35,4 +37,5 @@ loop-out-preserved c =
       leads =
           leads_packet c.args.lines.now.items here.lines.items c.push-in-Sends.new.self.items all (packets_on here.wires) (packets_on c.send.new.wires) c.in-Sends.packet c.in_ok-send-in-Sends.field-0 left
           whole is c.in_ok-send-in-Sends.ensures.line c.in_ok-push-in-Sends.ensures.items c.in_ok-send-in-Sends.ensures.wires here.invariant.leads;
+      back = back_packet c.in-Sends.packet c.args.outs.items left whole is c.in_ok-send-in-Sends.ensures.again here.invariant.back;
     }

@@ -5,10 +5,11 @@ use Rattle.dm_rule.specs.declared.line.Line.{Line}
 use Rattle.dm_wire.specs.Wire.{packets_on}
 use Rattle.dm_node.specs.Wired.{spoken}
 use Rattle.dm_world.specs.Meets.{IsSendable}
+use Rattle.dm_world.specs.Readable.{AreReadBack}
 use Rattle.dm_world.proofs.Speaking.{Leads}
 use Rattle.dm_world.proofs.speak.speak.Given as goal
 
--- what is left to say leads where all does
+-- what is left to say leads where all does, and where it is read back, all is
 abbrev pub invariant-loop-out : goal.invariant-loop-out
 invariant-loop-out l =
     record {
@@ -16,4 +17,5 @@ invariant-loop-out l =
       finite : (goal.iterator-loop-out).is_finite l.out-iterator;
       sendable : All IsSendable (into_iter_items l.out-iterator);
       leads : Leads l.fn.lines.items (spoken (packets_on l.fn.wires) l.fn.outs.items) l.lines.items (spoken (packets_on l.wires) (into_iter_items l.out-iterator));
+      back : AreReadBack (into_iter_items l.out-iterator) → AreReadBack l.fn.outs.items;
     }
