@@ -1,5 +1,5 @@
 -- A kernel stays on its machine, whatever a turn gives.
-use Rattle.std.proofs.Common.{◌≡◌, ℕ, ◌==◌, Bool, true, false, List, [], ◌∷◌, refl}
+use Rattle.std.proofs.Common.{◌≡◌, ℕ, ◌==◌, Bool, true, false, List, [], ◌∷◌, refl, ◌∙◌}
 use Rattle.std.specs.Prelude.{⊤, if◌then◌else◌, slice_get}
 use Rattle.std.specs.declared.option.Option.{Option}
 use Rattle.std.specs.declared.option.Option.TheVariants.{None, Some}
@@ -20,6 +20,7 @@ use Rattle.dm_datamove.specs.Landing.{Landing, landing}
 use Rattle.dm_datamove.specs.Serving.{after_serving, serving_answer}
 use Rattle.dm_onekernel.specs.declared.boot.Boot.{Boot}
 use Rattle.dm_onekernel.specs.declared.boot.BootImage.{BootImage}
+use Rattle.dm_onekernel.specs.declared.boot.BootProcess.{BootProcess}
 use Rattle.dm_onekernel.specs.Boot.{manager, switchboard}
 use Rattle.dm_procman.specs.Taking as manage
 use Rattle.dm_rule.specs.Sets.{moved_back}
@@ -31,12 +32,14 @@ use Rattle.dm_syscall.specs.declared.Completed.TheVariants as completed
 use Rattle.dm_syscall.specs.Calls.{calls}
 use Rattle.dm_syscall.specs.Completing.{Completion, completion}
 use Rattle.dm_kernel.specs.declared.kernel.Servers.{Servers}
+use Rattle.dm_kernel.specs.Begun.{begins, child_of, empty, with_all, with_child}
 use Rattle.dm_kernel.specs.declared.run.Halt.{Halt}
 use Rattle.dm_kernel.specs.declared.run.Halt.TheVariants as halt
 use Rattle.dm_kernel.specs.Handle.{answers_with, board_handles, board_took, ended_handles, handles, has_room, here_handles, kernel_handles, lands, lands_as, makes, makes_of, manager_handles, manager_took, process_handles}
 use Rattle.dm_kernel.specs.Serve.{called_with, halts, processor_of, ran, received, received_by, receives, serves, serves_status, with_machine}
 use Rattle.dm_kernel.specs.State.{KernelState, Known, Turned, with_here}
 use Rattle.dm_kernel.specs.Turn.{first_runnable, goes_round, turn, turns}
+use Rattle.dm_node.specs.State.{here, opened}
 
 abbrev pub StaysAt : ℕ → Option Turned → Type 0
 StaysAt m None = ⊤
@@ -177,3 +180,19 @@ turns_stays b s (m ∷ rest) = handles_stays b (record s { inbox = rest }) m
 
 pub turn_stays : (b : Boot) (s : KernelState) → StaysAt s.here (turn b s)
 turn_stays b s = turns_stays b s s.inbox
+
+-- a machine of the boot file has its number
+begin_here : (test : Bool) (s t : KernelState) → t.here ≡ s.here → (if test then t else s).here ≡ s.here
+begin_here true s t h = h
+begin_here false s t h = refl
+
+begins_here : (b : Boot) (s : KernelState) (p : BootProcess) (o : Option BootImage) → (begins b s p o).here ≡ s.here
+begins_here b s p None = refl
+begins_here b s p (Some i) = begin_here (p.pid.home == s.here) s (with_child s p.pid (child_of b p.pid i p.links) i.blocks) refl
+
+all_begin_here : (b : Boot) (s : KernelState) (ps : List BootProcess) → (with_all b s ps).here ≡ s.here
+all_begin_here b s [] = refl
+all_begin_here b s (p ∷ ps) = all_begin_here b (begins b s p (slice_get b.images p.image)) ps ∙ begins_here b s p (slice_get b.images p.image)
+
+pub opened_here : (b : Boot) (m : ℕ) → here (opened b m) ≡ m
+opened_here b m = all_begin_here b (empty b m) b.processes

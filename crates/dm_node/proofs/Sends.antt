@@ -1,8 +1,7 @@
 -- What a machine sends can be encoded, and goes from it to another machine.
-use Rattle.std.proofs.Common.{◌≡◌, ◌≢◌, ℕ, zero, suc, ◌+◌, ◌-◌, ◌<◌, ◌≤◌, Bool, true, false, ◌==◌, List, [], ◌∷◌, ◌++◌, length, refl, sym, subst, ◌∙◌, inl, inr, arith}
+use Rattle.std.proofs.Common.{◌≡◌, ◌≢◌, ℕ, zero, suc, ◌+◌, ◌-◌, ◌<◌, ◌≤◌, Bool, true, false, ◌==◌, List, [], ◌∷◌, refl, sym, subst, inl, inr, arith}
 use Rattle.std.specs.Prelude.{⊤, if◌then◌else◌, nat_lt, slice_get}
 use Rattle.std.specs.List.{All}
-use Rattle.std.specs.Option.{IfSome}
 use Rattle.std.specs.declared.option.Option.{Option}
 use Rattle.std.specs.declared.option.Option.TheVariants.{None, Some}
 use Rattle.std.proofs.lemmas.Bool.Decides.{eqb_tells}
@@ -111,7 +110,7 @@ home_lawfully : (n : NodeState) (m : Message) (worn : Bool) → Lawfully (here n
 home_lawfully n m true = tt
 home_lawfully n m false = record { here = refl; outs = line_out (here n) (put_line n m) }
 
-routes_lawfully : (n : NodeState) (m : Message) → IsLawfulMessage m → MayAct n → Lawfully (here n) (routes n m)
+pub routes_lawfully : (n : NodeState) (m : Message) → IsLawfulMessage m → MayAct n → Lawfully (here n) (routes n m)
 routes_lawfully n m l h =
     let at = l.to.at in
     let k : m.to.at < 16 = omega (arith, at) in

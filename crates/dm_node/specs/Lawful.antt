@@ -1,5 +1,5 @@
 -- What an event sends can be put on the machine's own wires: each packet is lawful, and goes from this machine to another.
-use Rattle.std.specs.Prelude.{◌≡◌, ⊤, ℕ, List}
+use Rattle.std.specs.Prelude.{◌≡◌, ⊤, ℕ}
 use Rattle.std.specs.List.{All}
 use Rattle.dm_packet.specs.declared.Packet.{Packet}
 use Rattle.dm_packet.specs.declared.Packet.TheVariants as packet

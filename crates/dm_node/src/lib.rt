@@ -18,3 +18,6 @@ pub use law::events_send_lawfully;
 pub use node::Node;
 pub use out::Out;
 pub use stop::Stop;
+
+#[cfg(test)]
+mod tests;

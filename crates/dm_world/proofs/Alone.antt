@@ -1,5 +1,5 @@
 -- A directive touches one machine, and puts packets on that machine's wires alone.
-use Rattle.std.proofs.Common.{◌≡◌, ◌≢◌, ℕ, zero, suc, ◌<◌, Bool, true, false, ◌==◌, List, [], ◌∷◌, ◌++◌, length, refl, sym, ap, subst, ◌∙◌, inl, inr}
+use Rattle.std.proofs.Common.{◌≡◌, ◌≢◌, ℕ, zero, suc, ◌<◌, Bool, true, false, ◌==◌, List, [], ◌∷◌, length, refl, sym, ap, subst, ◌∙◌, inl, inr}
 use Rattle.std.specs.Prelude.{Result, ⊤, if◌then◌else◌, ◌&&◌, map}
 use Rattle.std.specs.List.{All}
 use Rattle.std.specs.declared.option.Option.{Option}
@@ -11,10 +11,10 @@ use Rattle.dm_message.specs.declared.Message.{Message}
 use Rattle.dm_packet.specs.declared.Packet.{Packet}
 use Rattle.dm_packet.specs.declared.Packet.TheVariants as packet
 use Rattle.dm_packet.specs.declared.Bad.{Bad}
-use Rattle.dm_packet.specs.Packets.{packet_of, spelling}
+use Rattle.dm_packet.specs.Packets.{packet_of}
 use Rattle.dm_stream.specs.Packets.{Load, Data, Ack}
-use Rattle.dm_wire.specs.Sent.{Sent, bytes_at, just_put, marked, with_mark}
-use Rattle.dm_wire.specs.Wire.{after_mark, after_put, is_pair}
+use Rattle.dm_wire.specs.Sent.{Sent, bytes_at, marked}
+use Rattle.dm_wire.specs.Wire.{after_mark, is_pair}
 use Rattle.dm_onekernel.specs.declared.boot.Boot.{Boot}
 use Rattle.dm_onekernel.specs.Boot.{images_are_valid}
 use Rattle.dm_rule.specs.declared.line.Line.{Line}
@@ -28,12 +28,12 @@ use Rattle.dm_node.specs.Lawful.{ActsLawfully, IsFrom, IsLawfulOut}
 use Rattle.dm_node.specs.May.{MayArrive}
 use Rattle.dm_node.specs.Out.{Acted, Acts, Goes, Worn}
 use Rattle.dm_node.specs.State.{NodeState, here}
-use Rattle.dm_node.specs.Wired.{Spoken, spoken, with_packet}
+use Rattle.dm_node.specs.Wired.{spoken, with_packet}
 use Rattle.dm_node.proofs.Sends.{arrives_lawfully, ticks_lawfully, turns_lawfully}
 use Rattle.dm_world.specs.Local.{ActsAlone, acts_on, bytes_of}
 use Rattle.dm_world.specs.May.{MayDeliver, MayRead, MayStep}
-use Rattle.dm_world.specs.Meets.{Meets, MeetsSome}
-use Rattle.dm_world.specs.World.{Happened, Said, Says, WorldState, WornOut, acted, arrives, delivers, reads, turned, world_step}
+use Rattle.dm_world.specs.Meets.{MeetsSome}
+use Rattle.dm_world.specs.World.{Happened, Says, WorldState, WornOut, acted, arrives, delivers, reads, turned, world_step}
 
 -- packets of machine m go on its wires
 elsewhere : {X : Type 0} (from to a c : ℕ) (x y : X) → from ≢ a → (if is_pair from to a c then x else y) ≡ y

@@ -1,11 +1,10 @@
 -- A packet is delivered.
-use Rattle.std.proofs.Common.{◌≡◌, ℕ, ◌+◌, ◌<◌, List, [], ◌∷◌, ◌++◌, length, refl, sym, ap, subst, ◌∙◌}
+use Rattle.std.proofs.Common.{◌≡◌, ℕ, ◌<◌, List, length, refl, sym, ap, subst, ◌∙◌}
 use Rattle.std.specs.Prelude.{Result, option_map, slice_get}
 use Rattle.std.specs.declared.option.Option.{Option}
 use Rattle.std.specs.declared.option.Option.TheVariants.{None, Some}
-use Rattle.std.specs.declared.result.Result.TheVariants.{Ok, Err}
+use Rattle.std.specs.declared.result.Result.TheVariants.{Ok}
 use Rattle.std.proofs.lemmas.Option.{slice_get_within}
-use Rattle.dm_message.specs.declared.Message.{Message}
 use Rattle.dm_packet.specs.declared.Packet.{Packet}
 use Rattle.dm_packet.specs.declared.Packet.TheVariants as packet
 use Rattle.dm_packet.specs.declared.Bad.{Bad}
@@ -17,7 +16,7 @@ use Rattle.dm_schedule.specs.declared.Step.{Step}
 use Rattle.dm_node.specs.Acts as node
 use Rattle.dm_node.specs.May.{MayArrivePacket}
 use Rattle.dm_world.specs.May.{MayDeliver, MayRead, sent_by}
-use Rattle.dm_world.specs.World.{Says, WorldState, acted, arrives, delivers, reads}
+use Rattle.dm_world.specs.World.{Says, WorldState, acted, delivers, reads}
 
 -- the packet that may arrive comes from the pair's sender, and what it carries comes to its receiver
 pub record Arriving (w : WorldState) (e : Step) (a c k : ℕ) (p : Packet) : Type 0 where

@@ -1,18 +1,17 @@
 -- Each step of a directive leaves fewer steps.
-use Rattle.std.proofs.Common.{◌≡◌, ◌≢◌, ℕ, zero, suc, ◌+◌, ◌-◌, ◌*◌, ◌^◌, ◌<◌, ◌≤◌, Bool, true, false, ◌==◌, List, [], ◌∷◌, ◌++◌, length, refl, sym, ap, subst, ◌∙◌, inl, inr, arith}
-use Rattle.std.specs.Prelude.{Result, ⊤, ◌&&◌, if◌then◌else◌, option_map, slice_get}
+use Rattle.std.proofs.Common.{◌≡◌, ℕ, zero, suc, ◌+◌, ◌-◌, ◌^◌, ◌<◌, ◌≤◌, Bool, true, false, ◌==◌, List, [], ◌∷◌, ◌++◌, length, refl, sym, ap, subst, ◌∙◌, inl, inr, arith}
+use Rattle.std.specs.Prelude.{Result, ⊤, ◌&&◌, if◌then◌else◌, option_map}
 use Rattle.std.specs.declared.option.Option.{Option}
 use Rattle.std.specs.declared.option.Option.TheVariants.{None, Some}
 use Rattle.std.specs.declared.result.Result.TheVariants.{Ok, Err}
 use Rattle.std.proofs.lemmas.Bool.Decides.{eqb_tells, leb_tells}
 use Rattle.std.proofs.lemmas.Option.{slice_get_cases}
-use Rattle.dm_message.specs.declared.Message.{Message}
 use Rattle.dm_packet.specs.declared.Packet.{Packet}
 use Rattle.dm_packet.specs.declared.Packet.TheVariants as packet
 use Rattle.dm_packet.specs.declared.Bad.{Bad}
 use Rattle.dm_packet.specs.Packets.{packet_of}
-use Rattle.dm_stream.specs.Packets.{Load, Data, Ack}
-use Rattle.dm_wire.specs.Sent.{Sent, bytes_at, just_put, marked, with_mark}
+use Rattle.dm_stream.specs.Packets.{Data, Ack}
+use Rattle.dm_wire.specs.Sent.{Sent, bytes_at, just_put, marked}
 use Rattle.dm_wire.specs.Wire.{after_mark, is_pair}
 use Rattle.dm_onekernel.specs.declared.boot.Boot.{Boot}
 use Rattle.dm_schedule.specs.declared.Step.{Step}
@@ -21,11 +20,11 @@ use Rattle.dm_node.specs.declared.out.Out.{Out}
 use Rattle.dm_node.specs.declared.out.Out.TheVariants as out
 use Rattle.dm_node.specs.Acts as node
 use Rattle.dm_node.specs.Out.{Acted, Acts, Goes, Worn}
-use Rattle.dm_node.specs.Wired.{Spoken, spoken, with_packet}
+use Rattle.dm_node.specs.Wired.{spoken, with_packet}
 use Rattle.dm_world.specs.declared.cursor.Cursor.{Cursor}
-use Rattle.dm_world.specs.Cursor.{Falls, IsFresh, left, room, room_of, seen_count, sum_below, turns_at}
-use Rattle.dm_world.specs.Next.{first_unseen, undelivered}
-use Rattle.dm_world.specs.World.{Happened, Said, Says, WorldState, WornOut, acted, arrives, delivers, reads, turned, world_step}
+use Rattle.dm_world.specs.Cursor.{Falls, IsFresh, room, room_of, seen_count, sum_below, turns_at}
+use Rattle.dm_world.specs.Next.{first_unseen}
+use Rattle.dm_world.specs.World.{Happened, Said, Says, WorldState, WornOut, acted, delivers, reads, turned, world_step}
 
 abbrev one_if : Bool → ℕ
 one_if t = if t then 1 else 0

@@ -4,8 +4,8 @@ pub mod Stepping
 pub mod Rereading
 pub mod Alone
 pub mod Delivering
+pub mod Ending
 pub mod Passing
 pub mod Falling
 pub mod Rounds
 pub mod Runs
-pub mod Ending

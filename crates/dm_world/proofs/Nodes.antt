@@ -1,23 +1,18 @@
 -- The machines of the code: one of them acts, and the others stay.
-use Rattle.std.proofs.Common.{◌≡◌, ◌≢◌, ℕ, suc, ◌+◌, ◌<◌, ◌≤◌, Bool, true, false, ◌==◌, List, [], ◌∷◌, ◌++◌, length, refl, sym, ap, subst, ◌∙◌, inl, inr, arith, length-set, get_or, get_or-set_same, get_or-set_other, length-append}
+use Rattle.std.proofs.Common.{◌≡◌, ◌≢◌, ℕ, suc, ◌+◌, ◌<◌, ◌≤◌, Bool, List, [], ◌∷◌, ◌++◌, length, refl, sym, ap, subst, ◌∙◌, inl, inr, arith, length-set, get_or, get_or-set_same, get_or-set_other, length-append}
 use Rattle.std.proofs.Math.Seq.{get_or-append_seam}
 use Rattle.std.proofs.lemmas.List.{get_or_append_left}
 use Rattle.std.proofs.Math.ListN.{set}
-use Rattle.std.specs.Prelude.{◌⊎◌, Result, Vec, ⊤, if◌then◌else◌, slice_get, slice_index_or}
+use Rattle.std.specs.Prelude.{◌⊎◌, if◌then◌else◌, slice_get, slice_index_or}
 use Rattle.std.specs.List.{All}
-use Rattle.std.specs.declared.alloc.Global.{Global}
 use Rattle.std.specs.declared.option.Option.{Option}
 use Rattle.std.specs.declared.option.Option.TheVariants.{None, Some}
-use Rattle.std.specs.declared.result.Result.TheVariants.{Ok, Err}
+use Rattle.std.specs.declared.result.Result.TheVariants.{Err}
 use Rattle.std.proofs.lemmas.Bool.Decides.{eqb_tells, leb_tells}
 use Rattle.std.proofs.lemmas.Bool.{leb-true}
 use Rattle.std.proofs.lemmas.List.Elements.{All-weaker}
 use Rattle.std.proofs.lemmas.Option.{get_or_from_slice_get, slice_get-get_or, slice_get_cases, slice_get_past, slice_get_within}
 use Rattle.dm_onekernel.specs.declared.boot.Boot.{Boot}
-use Rattle.dm_onekernel.specs.declared.boot.BootImage.{BootImage}
-use Rattle.dm_onekernel.specs.declared.boot.BootProcess.{BootProcess}
-use Rattle.dm_kernel.specs.Begun.{begins, child_of, empty, with_all, with_child}
-use Rattle.dm_kernel.specs.State.{KernelState}
 use Rattle.dm_packet.specs.declared.Packet.{Packet}
 use Rattle.dm_packet.specs.declared.Packet.TheVariants as packet
 use Rattle.dm_stream.specs.Packets.{Data, Ack}
@@ -33,7 +28,7 @@ use Rattle.dm_node.specs.Acts.{arrives_packet}
 use Rattle.dm_node.specs.May.{MayArrivePacket}
 use Rattle.dm_node.proofs.Sends.{arrives_lawfully}
 use Rattle.dm_node.specs.Lawful.{ActsLawfully, IsLawfulOut}
-use Rattle.dm_node.specs.Meets.{AnswersSome, Gave, GaveSome, HasStreams, state_of}
+use Rattle.dm_node.specs.Meets.{AnswersSome, Gave, GaveSome, state_of}
 use Rattle.dm_world.specs.declared.world.World.{World}
 use Rattle.dm_world.specs.Meets.{ActedAt, ActedSome, AreNodes, IsNode, IsSendable, IsWorld, TurnAnswers, node_in, node_or}
 
@@ -204,21 +199,6 @@ opened_pushed b nodes x m size all is c n there =
     ]
 
 -- the machines of the boot file
-begin_here : (test : Bool) (s t : KernelState) → t.here ≡ s.here → (if test then t else s).here ≡ s.here
-begin_here true s t h = h
-begin_here false s t h = refl
-
-begins_here : (b : Boot) (s : KernelState) (p : BootProcess) (o : Option BootImage) → (begins b s p o).here ≡ s.here
-begins_here b s p None = refl
-begins_here b s p (Some i) = begin_here (p.pid.home == s.here) s (with_child s p.pid (child_of b p.pid i p.links) i.blocks) refl
-
-all_begin_here : (b : Boot) (s : KernelState) (ps : List BootProcess) → (with_all b s ps).here ≡ s.here
-all_begin_here b s [] = refl
-all_begin_here b s (p ∷ ps) = all_begin_here b (begins b s p (slice_get b.images p.image)) ps ∙ begins_here b s p (slice_get b.images p.image)
-
-pub opened_here : (b : Boot) (m : ℕ) → here (opened b m) ≡ m
-opened_here b m = all_begin_here b (empty b m) b.processes
-
 pub all_opened : (b : Boot) (nodes : List Node) → ((c : ℕ) (n : Node) → slice_get nodes c ≡ Some n → state_of n ≡ opened b c) → (m : ℕ) → node_in b nodes m ≡ opened b m
 all_opened b nodes h m =
     elim ((slice_get_cases nodes m).1) [

@@ -1,15 +1,15 @@
 -- What comes next of a round, and where it is over.
-use Rattle.std.proofs.Common.{◌≡◌, ℕ, zero, suc, ◌+◌, ◌-◌, ◌*◌, ◌<◌, ◌≤◌, List, [], ◌∷◌, drop, refl, sym, ap, subst, ◌∙◌, arith}
+use Rattle.std.proofs.Common.{◌≡◌, ℕ, suc, ◌+◌, ◌-◌, ◌<◌, ◌≤◌, List, [], ◌∷◌, refl, sym, ap, subst, ◌∙◌, arith}
 use Rattle.std.specs.declared.option.Option.{Option}
 use Rattle.std.specs.declared.option.Option.TheVariants.{None, Some}
 use Rattle.dm_schedule.specs.declared.Step.{Step}
 use Rattle.dm_schedule.specs.declared.Step.TheVariants as step
 use Rattle.dm_schedule.specs.declared.Directive.{Directive}
-use Rattle.dm_rule.specs.Good.{Next, Todo, Two, begin_round, below, following, in_round, next_delivery, next_round, next_turn, or, pairs_of, round_begun}
+use Rattle.dm_rule.specs.Good.{Next, Todo, Two, begin_round, below, following, in_round, next_delivery, next_round, next_turn, or, pairs_of}
 use Rattle.dm_world.specs.declared.cursor.Cursor.{Cursor}
 use Rattle.dm_world.specs.declared.cursor.Stage.TheVariants.{Packets, Turns, Between}
 use Rattle.dm_world.specs.Cursor.{NextIs, pairs_at, todo_at, todo_of}
-use Rattle.dm_world.specs.Next.{next_step, undelivered}
+use Rattle.dm_world.specs.Next.{next_step}
 use Rattle.dm_world.specs.World.{WorldState}
 use Rattle.dm_world.proofs.Passing.{drop-below, past_below, rows_are_pairs}
 

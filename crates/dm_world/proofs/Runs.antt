@@ -1,5 +1,5 @@
 -- A directive's steps may be taken one after the other.
-use Rattle.std.proofs.Common.{◌≡◌, ℕ, zero, suc, ◌+◌, ◌<◌, List, refl, sym, ap, subst, ◌∙◌}
+use Rattle.std.proofs.Common.{◌≡◌, ℕ, zero, suc, ◌<◌, List, sym, ap, ◌∙◌}
 use Rattle.std.specs.declared.option.Option.{Option}
 use Rattle.std.specs.declared.option.Option.TheVariants.{None, Some}
 use Rattle.dm_onekernel.specs.declared.boot.Boot.{Boot}
@@ -8,10 +8,10 @@ use Rattle.dm_rule.specs.Good.{Next, Todo, following}
 use Rattle.dm_schedule.specs.declared.Step.{Step}
 use Rattle.dm_world.specs.declared.cursor.Cursor.{Cursor}
 use Rattle.dm_world.specs.Cursor.{Falls, left}
-use Rattle.dm_world.specs.Meets.{Meets, MeetsSome}
+use Rattle.dm_world.specs.Meets.{MeetsSome}
 use Rattle.dm_world.specs.Next.{next_step, undelivered}
 use Rattle.dm_world.specs.Running.{MayGo, MayRun}
-use Rattle.dm_world.specs.World.{Happened, Said, Says, WorldState, world_step}
+use Rattle.dm_world.specs.World.{Happened, Says, WorldState, world_step}
 
 -- two todos with one and the same next step
 may_same : (k n : ℕ) (b : Boot) (w : WorldState) (t u : Todo) → next_step n w u ≡ next_step n w t → MayGo (suc k) n b w t → MayGo (suc k) n b w u

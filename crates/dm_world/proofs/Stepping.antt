@@ -1,12 +1,12 @@
 -- A machine has acted, and what it gave is said: that is the world's step.
-use Rattle.std.proofs.Common.{◌≡◌, ℕ, ◌+◌, ◌<◌, List, [], ◌∷◌, length, refl, sym, ap, subst, ◌∙◌}
-use Rattle.std.specs.Prelude.{Result, Vec, ⊤}
+use Rattle.std.proofs.Common.{◌≡◌, ℕ, ◌+◌, List, [], ◌∷◌, length, sym, ap, subst, ◌∙◌}
+use Rattle.std.specs.Prelude.{Vec}
 use Rattle.std.specs.Vec.{with_items}
 use Rattle.std.proofs.lemmas.List.{with_items_is}
 use Rattle.std.specs.declared.alloc.Global.{Global}
 use Rattle.std.specs.declared.option.Option.{Option}
 use Rattle.std.specs.declared.option.Option.TheVariants.{None, Some}
-use Rattle.std.specs.declared.result.Result.TheVariants.{Ok, Err}
+use Rattle.std.specs.declared.result.Result.TheVariants.{Err}
 use Rattle.dm_packet.specs.declared.Packet.{Packet}
 use Rattle.dm_wire.specs.Sent.{Sent, bytes_at}
 use Rattle.dm_wire.specs.Wire.{after_mark, packets_on}
@@ -26,7 +26,7 @@ use Rattle.dm_node.specs.Meets.{IsWornSome}
 use Rattle.dm_node.specs.Wired.{spoken}
 use Rattle.dm_world.specs.declared.world.World.{World}
 use Rattle.dm_world.specs.Meets.{ActedAt, ActedSome, Answers, AreNodes, IsWorld, IsWornOut, Meets, MeetsSome, TurnAnswers, node_in, state_of}
-use Rattle.dm_world.specs.World.{Happened, Says, WorldState, WornOut, acted, delivers, turned}
+use Rattle.dm_world.specs.World.{Says, WorldState, WornOut, acted, delivers, turned}
 use Rattle.dm_world.proofs.Delivering.{Arriving}
 
 -- what one directive makes of the world, but for its machines

@@ -5,7 +5,7 @@ ghost use Rattle.dm_node.specs.Meets as node;
 ghost use Rattle.dm_node.specs.Meets.{HasStreams};
 ghost use Rattle.dm_rule.specs.Ends.{each_machine, home_with, list_line};
 ghost use Rattle.dm_rule.specs.declared.line.EndLine.TheVariants as end;
-ghost use Rattle.dm_world.specs.Ends.{MayEnd, SaysSome, end_lines, homes_with, names_of, process_lines, queue_of, record_lines, record_queue, server_lines, stream_line};
+ghost use Rattle.dm_world.specs.Ends.{MayEnd, SaysSome, end_lines, homes_with, names_of, process_lines, queue_of, record_lines, record_queue, stream_line};
 ghost use Rattle.dm_world.specs.Meets.{IsWorld, state_of};
 
 use crate::end_messages::{ids_of, untaken_ids};

@@ -1,7 +1,5 @@
-use Rattle.std.proofs.Common.{◌≡◌, List}
 use Rattle.std.specs.List.{All}
 use Rattle.std.specs.Vec.Iter.{into_iter_items}
-use Rattle.dm_rule.specs.declared.line.Line.{Line}
 use Rattle.dm_wire.specs.Wire.{packets_on}
 use Rattle.dm_node.specs.Wired.{spoken}
 use Rattle.dm_world.specs.Meets.{IsSendable}

@@ -1,4 +1,4 @@
-use Rattle.std.proofs.Common.{◌≡◌, [], ◌++◌, ◌∙◌, ap, refl, sym, subst}
+use Rattle.std.proofs.Common.{◌++◌, ◌∙◌, ap, refl, sym, subst}
 use Rattle.dm_node.specs.Acts.{tick}
 use Rattle.dm_node.specs.Lawful.{ActsLawfully}
 use Rattle.dm_node.specs.May.{MayAct}

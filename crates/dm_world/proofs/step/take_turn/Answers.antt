@@ -4,7 +4,7 @@ use Rattle.dm_kernel.specs.Lawful.{IsLawfulState}
 use Rattle.dm_node.specs.Acts.{turn}
 use Rattle.dm_node.specs.Lawful.{ActsLawfully}
 use Rattle.dm_node.specs.May.{MayTurn}
-use Rattle.dm_node.specs.Meets.{AnswersSome, GaveSome, state_of}
+use Rattle.dm_node.specs.Meets.{AnswersSome, GaveSome}
 use Rattle.dm_node.proofs.Sends.{turns_lawfully}
 use Rattle.dm_world.specs.Meets.{node_in}
 use Rattle.dm_world.proofs.Nodes.{acted_some, here_at, is_node_at, node_at, stopped, turn_sendable}

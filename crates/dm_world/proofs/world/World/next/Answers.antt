@@ -1,7 +1,6 @@
-use Rattle.std.proofs.Common.{◌≡◌, ◌<◌, ◌*◌, length, sym, subst, arith}
-use Rattle.dm_schedule.specs.declared.Step.{Step}
+use Rattle.std.proofs.Common.{length, sym, subst, arith}
 use Rattle.dm_world.specs.declared.cursor.Stage.{Stage}
-use Rattle.dm_world.specs.declared.cursor.Stage.TheVariants.{Between, One, Turns}
+use Rattle.dm_world.specs.declared.cursor.Stage.TheVariants.{Between, One}
 use Rattle.dm_world.specs.Cursor.{Falls, NextIs}
 use Rattle.dm_world.specs.Meets.{state_of}
 use Rattle.dm_world.proofs.Falling.{falls_counted}

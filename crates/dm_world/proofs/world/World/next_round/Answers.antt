@@ -1,4 +1,4 @@
-use Rattle.std.proofs.Common.{◌≡◌, ◌-◌, ◌<◌, length, ◌∙◌, arith}
+use Rattle.std.proofs.Common.{length, ◌∙◌, arith}
 use Rattle.dm_world.specs.Meets.{state_of}
 use Rattle.dm_world.specs.Next.{undelivered}
 use Rattle.dm_world.proofs.Nodes.{some_machine}

@@ -1,4 +1,4 @@
-use Rattle.std.proofs.Common.{◌≡◌, ◌+◌, ◌-◌, ◌<◌, ◌≤◌, length, ◌∙◌, arith}
+use Rattle.std.proofs.Common.{◌+◌, length, arith}
 use Rattle.dm_schedule.specs.declared.Step.TheVariants as step
 use Rattle.dm_world.specs.declared.cursor.Stage.TheVariants.{Between, Turns}
 use Rattle.dm_world.specs.Meets.{state_of}

@@ -1,6 +1,6 @@
-use Rattle.std.proofs.Common.{◌≡◌, ◌<◌, [], length, sym, subst}
+use Rattle.std.proofs.Common.{◌<◌, [], length, sym, subst}
 use Rattle.dm_onekernel.specs.declared.boot.Boot.{Boot}
-use Rattle.dm_rule.specs.Good.{Next, all_of}
+use Rattle.dm_rule.specs.Good.{Next}
 use Rattle.dm_world.specs.Cursor.{left, todo_of}
 use Rattle.dm_world.specs.Meets.{state_of}
 use Rattle.dm_world.specs.Running.{MayRun}
