@@ -17,6 +17,9 @@ use Rattle.dm_world.specs.World.{WorldState, first_world}
 use Rattle.dm_world.specs.May.{MayStep}
 use Rattle.dm_world.specs.Next as world
 use Rattle.dm_world.specs.Ends as world_ends
+use Rattle.dm_world.specs.Ends.{MayEnd}
+use Rattle.dm_world.specs.Readable.{IsReadable, AreReadBack, gave}
+use Rattle.dm_mirror.specs.Able.{AllMayAct}
 use Rattle.dm_mirror.specs.Stands.{Stands}
 use Rattle.dm_mirror.specs.Todo.{IsDirective, IsTodo}
 use Rattle.dm_mirror.specs.Run.{GoesOn, RunStands, Steps}
@@ -25,10 +28,11 @@ use Rattle.dm_mirror.specs.Run.{GoesOn, RunStands, Steps}
 abbrev pub StartStands : Type 0
 StartStands = (b : Boot) → IsValid b → Stands b (first_world b) (first_point b)
 
--- where the world stands for a point, it may do each directive, and it does what the rule says, or stops worn
+-- where the world stands for a point, each machine may act, and packets are read again, it may do each directive, and it does
+-- what the rule says, or stops worn
 abbrev pub StepsStand : Type 0
 StepsStand =
-    (b : Boot) (es : List Step) (w : WorldState) (pt : Point) (e : Step) → IsValid b → Leads b (first_point b) es pt → Stands b w pt → IsStep (length b.machines) e → MovesNothing e
+    (b : Boot) (es : List Step) (w : WorldState) (pt : Point) (e : Step) → IsValid b → Leads b (first_point b) es pt → Stands b w pt → AllMayAct b w → IsReadable w → IsStep (length b.machines) e → MovesNothing e
     → MayStep b w e × Steps b w pt e
 
 -- which directive comes next is what the printed lines say
@@ -43,6 +47,10 @@ EndIsSaid =
     (b : Boot) (es : List Step) (w : WorldState) (pt : Point) → IsValid b → Leads b (first_point b) es pt → Stands b w pt
     → world_ends.end_lines (length b.machines) w ≡ rule_ends.end_lines pt
 
+-- and that can be said
+abbrev pub EndMay : Type 0
+EndMay = (b : Boot) (es : List Step) (w : WorldState) (pt : Point) → IsValid b → Leads b (first_point b) es pt → Stands b w pt → MayEnd (length b.machines) w
+
 -- a run begins, and goes on
 abbrev pub RunBegins : Type 0
 RunBegins = (b : Boot) (ds : List Directive) → IsValid b → All (IsDirective (length b.machines)) ds → RunStands b ds [] (first_point b) (all_of ds) (first_world b)
@@ -50,7 +58,8 @@ RunBegins = (b : Boot) (ds : List Directive) → IsValid b → All (IsDirective 
 pub record RunGoes (b : Boot) (ds : List Directive) (gs : List (List Line)) (pt : Point) (w : WorldState) (n : Next) : Type 0 where
   pub may : MayStep b w n.step
   pub steps : Steps b w pt n.step
-  pub on : (g : GoesOn b w pt n.step) → RunStands b ds (gs ++ g.said.lines ∷ []) g.group.point n.left g.said.state
+  -- where what the machine gives is read again
+  pub on : (g : GoesOn b w pt n.step) → AreReadBack (gave b w n.step) → RunStands b ds (gs ++ g.said.lines ∷ []) g.group.point n.left g.said.state
 
 abbrev pub RunGoesOn : Type 0
 RunGoesOn =

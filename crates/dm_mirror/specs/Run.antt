@@ -2,10 +2,9 @@
 use Rattle.std.specs.Prelude.{◌≡◌, ℕ, ◌+◌, ◌≤◌, ◌⊎◌, List, [], ◌∷◌, ◌++◌, length}
 use Rattle.std.specs.declared.option.Option.TheVariants.{Some}
 use Rattle.dm_onekernel.specs.declared.boot.Boot.{Boot}
-use Rattle.dm_onekernel.specs.declared.label.Label.{Label}
 use Rattle.dm_onekernel.specs.Start.{start}
 use Rattle.dm_onekernel.specs.Step.{replay}
-use Rattle.dm_laws.specs.Laws.{reception}
+use Rattle.dm_laws.specs.Laws.{receptions}
 use Rattle.dm_message.specs.declared.MsgId.{MsgId}
 use Rattle.dm_schedule.specs.declared.Step.{Step}
 use Rattle.dm_schedule.specs.declared.Directive.{Directive}
@@ -17,6 +16,8 @@ use Rattle.dm_rule.specs.Point.{Point, first_point, labels}
 use Rattle.dm_rule.specs.Rule.{group_of}
 use Rattle.dm_rule.specs.Worn.{IsWorn}
 use Rattle.dm_world.specs.World.{WorldState, Said, Says, WornOut, world_step}
+use Rattle.dm_world.specs.Readable.{IsReadable}
+use Rattle.dm_mirror.specs.Able.{AllMayAct}
 use Rattle.dm_mirror.specs.Stands.{Stands}
 use Rattle.dm_mirror.specs.Todo.{IsTodo}
 
@@ -24,11 +25,6 @@ use Rattle.dm_mirror.specs.Todo.{IsTodo}
 abbrev pub joined : List (List Line) → List Line
 joined [] = []
 joined (g ∷ gs) = g ++ joined gs
-
--- how often these labels receive a message
-abbrev pub receptions : MsgId → List Label → ℕ
-receptions i [] = 0
-receptions i (l ∷ ls) = reception i l + receptions i ls
 
 -- groups of lines are good: one for each of the first directives, by the rule, from where the boot file begins; they replay
 -- as a run of the kernel without machines; and no message is received twice
@@ -45,6 +41,9 @@ pub record RunStands (b : Boot) (ds : List Directive) (gs : List (List Line)) (p
   pub leads : Leads b (first_point b) steps pt
   pub todo : IsTodo (length b.machines) left
   pub stands : Stands b w pt
+  -- each machine may act, and packets are read again
+  pub able : AllMayAct b w
+  pub readable : IsReadable w
 
 -- the machines do what the rule says
 pub record GoesOn (b : Boot) (w : WorldState) (pt : Point) (e : Step) : Type 0 where

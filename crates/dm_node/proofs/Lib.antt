@@ -3,3 +3,5 @@ pub mod Parts
 pub mod Arrivals
 pub mod Beginnings
 pub mod Staying
+pub mod Here
+pub mod Sends

@@ -30,7 +30,7 @@ abbrev pub MayAfter : Acts → Type 0
 MayAfter (Goes a) = MayAct a.state
 MayAfter (Worn from to) = ⊤
 
-with_sender_may : (n : NodeState) (b : ℕ) (s : Sending Message) → MayAct n → All IsLawfulMessage s.unacked → MayAct (with_sender n b s)
+pub with_sender_may : (n : NodeState) (b : ℕ) (s : Sending Message) → MayAct n → All IsLawfulMessage s.unacked → MayAct (with_sender n b s)
 with_sender_may n b s h lawful =
     record {
       here = h.here;

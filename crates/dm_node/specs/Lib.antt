@@ -4,3 +4,4 @@ pub mod Acts
 pub mod Wired
 pub mod Meets
 pub mod May
+pub mod Lawful

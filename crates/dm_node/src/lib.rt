@@ -5,6 +5,7 @@
 mod arrive;
 mod begin;
 mod ends;
+mod law;
 pub mod node;
 pub mod out;
 mod route;
@@ -13,6 +14,10 @@ mod streams;
 mod turn;
 
 pub use dm_memory::NoMemory;
+pub use law::events_send_lawfully;
 pub use node::Node;
 pub use out::Out;
 pub use stop::Stop;
+
+#[cfg(test)]
+mod tests;

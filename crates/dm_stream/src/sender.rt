@@ -1,5 +1,6 @@
 //! The sending side of a stream.
-ghost use Rattle.std.specs.Prelude.{IfErr, IsSome, OnErr, OnOk, drop, option_map, ◌≡◌, ◌↔◌, ◌≤◌, ◌-◌};
+ghost use Rattle.std.specs.Prelude.{IfErr, IsSome, OnErr, OnOk, drop, option_map, slice_get, ◌≡◌, ◌↔◌, ◌≤◌, ◌-◌};
+ghost use Rattle.std.specs.Option.{option_copied};
 ghost use Rattle.dm_stream.specs.Returned.{message_in};
 
 use dm_memory::NoMemory;
@@ -85,6 +86,13 @@ impl<M> Sender<M> {
         ensures few { result ≤ 8 }
     {
         self.gone - self.acked
+    }
+
+    /// The message at this place, from 0 on, among those that aren't acknowledged.
+    pub fn unacked(&self, place: usize) -> Option<&M>
+        ensures { option_copied result ≡ slice_get self.now.unacked place }
+    {
+        self.unacked.get(place)
     }
 
     /// Gives one more message, which gets the next number.

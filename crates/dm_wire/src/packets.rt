@@ -1,5 +1,5 @@
 //! The packets from one machine to another, in the order in which they were put.
-ghost use Rattle.std.specs.Prelude.{IfOk, List, OnErr, OnOk, [], false, length, option_map, position, true, ◌++◌, ◌<◌, ◌∷◌, ◌≡◌, ◌≤◌, ℕ};
+ghost use Rattle.std.specs.Prelude.{IfOk, List, OnErr, OnOk, [], false, length, option_map, position, true, ◌++◌, ◌<◌, ◌^◌, ◌∷◌, ◌≡◌, ◌≤◌, ℕ};
 ghost use Rattle.dm_wire.specs.Sent.{bytes_at, is_unseen, just_put, marked, seen_at, with_mark};
 ghost use Rattle.dm_wire.specs.declared.packets.Packet.{Packet};
 
@@ -121,7 +121,8 @@ impl Packets {
 
     /// The least number that isn't marked.
     pub fn unseen(&self) -> Option<u64>
-        ensures { result ≡ position is_unseen self.now }
+        ensures first { result ≡ position is_unseen self.now }
+        ensures short { length self.now < 2 ^ 64 }
     {
         if self.first_unseen < self.items.len() {
             Some(self.first_unseen as u64)

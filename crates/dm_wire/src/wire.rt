@@ -1,5 +1,5 @@
 //! The wires of all pairs of machines.
-ghost use Rattle.std.specs.Prelude.{IfOk, OnErr, OnOk, [], length, option_map, position, slice_index_or, vec_len, ◌*◌, ◌+◌, ◌<◌, ◌≡◌, ◌≤◌, ℕ};
+ghost use Rattle.std.specs.Prelude.{IfOk, OnErr, OnOk, [], length, option_map, position, slice_index_or, vec_len, ◌*◌, ◌+◌, ◌<◌, ◌^◌, ◌≡◌, ◌≤◌, ℕ};
 
 use crate::packets::Packets;
 use dm_memory::NoMemory;
@@ -105,7 +105,8 @@ impl Wire {
     /// The least number on the wire from `a` to `b` that isn't marked. It looks at no packet that was delivered.
     pub fn unseen(&self, a: u8, b: u8) -> Option<u64>
         requires { (a < 16) × (b < 16) }
-        ensures { result ≡ position is_unseen (packets_on self.now a b) }
+        ensures first { result ≡ position is_unseen (packets_on self.now a b) }
+        ensures short { length (packets_on self.now a b) < 2 ^ 64 }
     {
         match self.pairs.get(place(a, b)) {
             Some(packets) => packets.unseen(),

@@ -1,11 +1,11 @@
 -- The lines at the end of a run, by what the machines have.
-use Rattle.std.specs.Prelude.{ℕ, zero, suc, ◌+◌, ◌-◌, ◌/◌, ◌==◌, if◌then◌else◌, drop, List, [], ◌∷◌, ◌++◌, length, map}
+use Rattle.std.specs.Prelude.{ℕ, zero, suc, ◌≡◌, ◌<◌, ◌≤◌, ◌+◌, ◌-◌, ◌/◌, ◌^◌, ◌==◌, Bool, true, false, if◌then◌else◌, drop, List, [], ◌∷◌, ◌++◌, length, map}
 use Rattle.std.specs.declared.option.Option.{Option}
 use Rattle.std.specs.declared.option.Option.TheVariants.{None, Some}
+use Rattle.std.specs.Option.{IfSome}
 use Rattle.dm_link.specs.declared.Link.{Link}
 use Rattle.dm_link.specs.declared.Pid.{Pid}
 use Rattle.dm_link.specs.declared.Addr.{Addr}
-use Rattle.dm_link.specs.Names.{pid_of}
 use Rattle.dm_message.specs.declared.Message.{Message}
 use Rattle.dm_message.specs.declared.MsgId.{MsgId}
 use Rattle.dm_message.specs.Ids.{id_of}
@@ -13,10 +13,9 @@ use Rattle.dm_process.specs.declared.process.Process.{Process}
 use Rattle.dm_process.specs.declared.process.Status.{Status}
 use Rattle.dm_process.specs.declared.process.Status.TheVariants as status
 use Rattle.dm_forward.specs.declared.record.Record.TheVariants.{Here, Frozen, Incoming, Forward, Ended}
-use Rattle.dm_stream.specs.Sending.{Sending}
-use Rattle.dm_switchboard.specs.Board.{Board, Named}
+use Rattle.dm_switchboard.specs.Board.{Named}
+use Rattle.dm_switchboard.specs.Lawful.{IsLawfulBoard}
 use Rattle.dm_procman.specs.declared.pending.Pending.{Pending}
-use Rattle.dm_procman.specs.Managing.{Managing}
 use Rattle.dm_onekernel.specs.Boot.{first_number, switchboard, manager}
 use Rattle.dm_rule.specs.declared.line.Line.{Line}
 use Rattle.dm_rule.specs.declared.line.EndLine.TheVariants as end
@@ -128,3 +127,19 @@ end_lines machines w =
     ++ each_machine (λ a. each_machine (λ c. stream_line w a c) machines) machines
     ++ says (end.Groups w.groups)
     ∷ []
+
+-- the lines that are said behind those that there were, if any are
+abbrev pub SaysSome : Bool → List Line → List Line → Option (List Line) → Type 0
+SaysSome said old new None = (said ≡ false) × (new ≡ old)
+SaysSome said old new (Some ls) = (said ≡ true) × (new ≡ old ++ ls)
+
+-- what the lines of the servers count on: each name is one, and each child has a number
+pub record HasPlainEnd (v : Servers) : Type 0 where
+  pub board : IsLawfulBoard v.board
+  pub children : length v.manager.children < 2 ^ 32
+
+-- what the lines at the end of so many machines count on, as the world of every good run has it: each process that was made
+-- has a number
+pub record MayEnd (machines : ℕ) (w : WorldState) : Type 0 where
+  pub made : (m : ℕ) → m < machines → first_number + (w.nodes m).kernel.made ≤ 2 ^ 32
+  pub servers : IfSome (w.nodes 0).kernel.servers HasPlainEnd

@@ -2,3 +2,8 @@ pub mod World
 pub mod May
 pub mod Next
 pub mod Ends
+pub mod Meets
+pub mod Local
+pub mod Cursor
+pub mod Running
+pub mod Readable

@@ -1,0 +1,66 @@
+-- A directive acts on one machine: it reads that machine alone, and at a delivery the packet that comes; it changes that machine
+-- alone; and what it puts on wires goes from that machine.
+use Rattle.std.specs.Prelude.{◌≡◌, ◌≢◌, ℕ, ◌+◌, false, List, [], ◌∷◌, ◌++◌}
+use Rattle.std.specs.List.{All}
+use Rattle.std.specs.declared.option.Option.TheVariants.{None, Some}
+use Rattle.dm_wire.specs.Sent.{Sent, bytes_at}
+use Rattle.dm_wire.specs.Wire.{after_mark}
+use Rattle.dm_onekernel.specs.declared.boot.Boot.{Boot}
+use Rattle.dm_schedule.specs.declared.Step.{Step}
+use Rattle.dm_schedule.specs.declared.Step.TheVariants as step
+use Rattle.dm_rule.specs.declared.line.Line.TheVariants as line
+use Rattle.dm_rule.specs.View.{actor}
+use Rattle.dm_node.specs.State.{here}
+use Rattle.dm_world.specs.World.{WorldState, Said, Says, world_step}
+
+-- a packet that was never delivered
+abbrev pub IsFresh : Sent → Type 0
+IsFresh p = p.seen ≡ false
+
+-- machine m may have changed, and has put these packets on its wires, behind those that were there
+pub record PutsFrom (m : ℕ) (more : ℕ → List Sent) (old new : WorldState) : Type 0 where
+  pub nodes : (n : ℕ) → n ≢ m → new.nodes n ≡ old.nodes n
+  pub others : (a c : ℕ) → a ≢ m → new.wires a c ≡ old.wires a c
+  pub own : (c : ℕ) → new.wires m c ≡ old.wires m c ++ more c
+  pub fresh : (c : ℕ) → All IsFresh (more c)
+  pub groups : new.groups ≡ old.groups + 1
+
+-- a delivery marks its packet, if there is such a packet
+abbrev pub marked_by : Step → WorldState → WorldState
+marked_by (step.Turn m) w = w
+marked_by (step.Tick m) w = w
+marked_by (step.Deliver a c k) w = record w { wires = after_mark w.wires a c k }
+marked_by (step.Migrate p m) w = w
+
+-- a directive changes the machine that acts and no other; only that machine puts packets on wires, and none is taken off;
+-- and but for the mark of a delivery nothing changes on wires
+abbrev pub ActsLocally : Type 0
+ActsLocally =
+    (b : Boot) (w : WorldState) (e : Step) (s : Said) → here (w.nodes (actor e)) ≡ actor e → world_step b w e ≡ Some (Says s) → (more : ℕ → List Sent) × PutsFrom (actor e) more (marked_by e w) s.state
+
+-- the packet that comes, where one comes, is the same
+abbrev pub SamePacket : Step → WorldState → WorldState → Type 0
+SamePacket (step.Turn m) w u = Unit {0}
+SamePacket (step.Tick m) w u = Unit {0}
+SamePacket (step.Deliver a c k) w u = bytes_at (u.wires a c) k ≡ bytes_at (w.wires a c) k
+SamePacket (step.Migrate p m) w u = Unit {0}
+
+-- the same machine does the same: it is the same behind it, and has put the same packets on its wires
+pub record DoesSame (b : Boot) (w u : WorldState) (e : Step) (s : Said) : Type 0 where
+  pub said : Said
+  pub happens : world_step b u e ≡ Some (Says said)
+  pub node : said.state.nodes (actor e) ≡ s.state.nodes (actor e)
+  pub more : ℕ → List Sent
+  pub puts : PutsFrom (actor e) more (marked_by e w) s.state
+  pub puts_there : PutsFrom (actor e) more (marked_by e u) said.state
+
+-- whatever the other machines are, and whatever else lies on wires
+abbrev pub ReadsLocally : Type 0
+ReadsLocally =
+    (b : Boot) (w u : WorldState) (e : Step) (s : Said) → here (w.nodes (actor e)) ≡ actor e → u.nodes (actor e) ≡ w.nodes (actor e) → SamePacket e w u → world_step b w e ≡ Some (Says s) → DoesSame b w u e s
+
+-- where no such packet is to be delivered, nothing changes
+abbrev pub NothingComes : Type 0
+NothingComes =
+    (b : Boot) (w : WorldState) (a c k : ℕ) → bytes_at (w.wires a c) k ≡ None
+    → world_step b w (step.Deliver a c k) ≡ Some (Says (record { state = record w { groups = w.groups + 1 }; lines = line.Head (step.Deliver a c k) ∷ line.Nothing ∷ [] }))

@@ -1,0 +1,274 @@
+-- A kernel stays on its machine, whatever a turn gives.
+use Rattle.std.proofs.Common.{◌≡◌, ℕ, ◌==◌, Bool, true, false, List, [], ◌∷◌, refl, ◌∙◌}
+use Rattle.std.specs.Prelude.{⊤, if◌then◌else◌, slice_get}
+use Rattle.std.specs.declared.option.Option.{Option}
+use Rattle.std.specs.declared.option.Option.TheVariants.{None, Some}
+use Rattle.std.specs.declared.result.Result.{Result}
+use Rattle.std.specs.declared.result.Result.TheVariants.{Ok, Err}
+use Rattle.dm_link.specs.declared.Link.{Link}
+use Rattle.dm_link.specs.declared.Pid.{Pid}
+use Rattle.dm_link.specs.Names.{pid_eq}
+use Rattle.dm_message.specs.declared.Message.{Message}
+use Rattle.dm_message.specs.declared.What.{What}
+use Rattle.dm_message.specs.declared.What.TheVariants as what
+use Rattle.dm_process.specs.declared.process.Process.{Process}
+use Rattle.dm_process.specs.declared.process.Status.{Status}
+use Rattle.dm_process.specs.declared.process.Status.TheVariants as status
+use Rattle.dm_process.specs.Mail.{first_on}
+use Rattle.dm_forward.specs.declared.record.Record.TheVariants.{Here, Frozen, Incoming, Forward, Ended}
+use Rattle.dm_forward.specs.Records.{frozen_of, incoming_of}
+use Rattle.dm_linkupdate.specs.Notice.{has_update}
+use Rattle.dm_message.specs.declared.Asker.{Asker}
+use Rattle.dm_message.specs.Kinds.{kind_of}
+use Rattle.dm_migrate.specs.Arrival.{Arrival, restarted, with_piece}
+use Rattle.dm_migrate.specs.Departure.{Departure}
+use Rattle.dm_migrate.specs.Pieces.{block_of, chunk_of, state_of}
+use Rattle.dm_onekernel.specs.Options.{bind}
+use Rattle.dm_room.specs.Room.{has_room as has_room_for}
+use Rattle.dm_datamove.specs.declared.Landed.{Landed}
+use Rattle.dm_datamove.specs.declared.Landed.TheVariants as landed
+use Rattle.dm_datamove.specs.Landing.{Landing, landing}
+use Rattle.dm_datamove.specs.Serving.{after_serving, serving_answer}
+use Rattle.dm_onekernel.specs.declared.boot.Boot.{Boot}
+use Rattle.dm_onekernel.specs.declared.boot.BootImage.{BootImage}
+use Rattle.dm_onekernel.specs.declared.boot.BootProcess.{BootProcess}
+use Rattle.dm_onekernel.specs.Boot.{manager, switchboard}
+use Rattle.dm_procman.specs.declared.moving.MoveNo.{MoveNo}
+use Rattle.dm_procman.specs.declared.moving.MoveNo.TheVariants as no
+use Rattle.dm_procman.specs.Moving.{moves_child}
+use Rattle.dm_procman.specs.Taking as manage
+use Rattle.dm_rule.specs.Sets.{moved_back}
+use Rattle.dm_switchboard.specs.Taking as board
+use Rattle.dm_syscall.specs.declared.Called.{Called}
+use Rattle.dm_syscall.specs.declared.Called.TheVariants as called
+use Rattle.dm_syscall.specs.declared.Completed.{Completed}
+use Rattle.dm_syscall.specs.declared.Completed.TheVariants as completed
+use Rattle.dm_syscall.specs.Calls.{calls}
+use Rattle.dm_syscall.specs.Completing.{Completion, completion}
+use Rattle.dm_kernel.specs.declared.kernel.Servers.{Servers}
+use Rattle.dm_kernel.specs.Asking.{asks_manager, asks_move, told_to_move}
+use Rattle.dm_kernel.specs.Begun.{begins, child_of, empty, with_all, with_child}
+use Rattle.dm_kernel.specs.Coming.{accepts, restarts, restarts_as, takes_piece, took_piece}
+use Rattle.dm_kernel.specs.Departing.{gives_piece, leaves, stays}
+use Rattle.dm_kernel.specs.Following.{forwards_and}
+use Rattle.dm_kernel.specs.declared.run.Halt.{Halt}
+use Rattle.dm_kernel.specs.declared.run.Halt.TheVariants as halt
+use Rattle.dm_kernel.specs.Handle.{answers_with, board_handles, board_took, ended_handles, handles, has_room, here_handles, kernel_handles, lands, lands_as, makes, makes_of, manager_handles, manager_took, process_handles, told_board, told_manager}
+use Rattle.dm_kernel.specs.Serve.{called_with, halts, processor_of, ran, received, received_by, receives, serves, serves_status, with_machine}
+use Rattle.dm_kernel.specs.State.{KernelState, Known, Turned, own_id, with_here}
+use Rattle.dm_kernel.specs.Turn.{first_runnable, goes_round, turn, turns}
+use Rattle.dm_node.specs.State.{here, opened}
+
+abbrev pub StaysAt : ℕ → Option Turned → Type 0
+StaysAt m None = ⊤
+StaysAt m (Some t) = t.state.here ≡ m
+
+-- one or the other
+either : (m : ℕ) (test : Bool) (s t : Option Turned) → StaysAt m s → StaysAt m t → StaysAt m (if test then s else t)
+either m true s t h k = h
+either m false s t h k = k
+
+-- a process is served
+called_stays : (s : KernelState) (p : Pid) (k n : ℕ) (x : Process) (c : Called) → StaysAt s.here (called_with s p k n x c)
+called_stays s p k n x (called.Replied c) = refl
+called_stays s p k n x (called.Sent m) = refl
+called_stays s p k n x (called.Moving m) = refl
+called_stays s p k n x called.Waits = refl
+called_stays s p k n x (called.Out w) = refl
+called_stays s p k n x (called.Ended y) = refl
+
+halts_stays : (s : KernelState) (p : Pid) (k : ℕ) (x : Process) (o : Option Halt) → StaysAt s.here (halts s p k x o)
+halts_stays s p k x None = refl
+halts_stays s p k x (Some (halt.Call n)) = called_stays (with_here s p (calls s.here x n).process) p k n (calls s.here x n).process (calls s.here x n).called
+halts_stays s p k x (Some (halt.Fault f)) = refl
+
+received_stays : (s : KernelState) (p : Pid) (x : Process) (mask : ℕ) (m : Message) (y : Process) (c : Completed) → StaysAt s.here (received s p x mask m y c)
+received_stays s p x mask m y (completed.Received id) = refl
+received_stays s p x mask m y (completed.Refused c) = refl
+
+received_by_stays : (s : KernelState) (p : Pid) (x : Process) (mask : ℕ) (m : Message) (o : Option Completion) → StaysAt s.here (received_by s p x mask m o)
+received_by_stays s p x mask m None = tt
+received_by_stays s p x mask m (Some d) = received_stays s p x mask m d.process d.completed
+
+receives_stays : (s : KernelState) (p : Pid) (x : Process) (mask : ℕ) (o : Option Message) → StaysAt s.here (receives s p x mask o)
+receives_stays s p x mask None = tt
+receives_stays s p x mask (Some m) = received_by_stays s p x mask m (completion x 0 x.status (Some m))
+
+status_stays : (quantum : ℕ) (s : KernelState) (p : Pid) (x : Process) (t : Status) → StaysAt s.here (serves_status quantum s p x t)
+status_stays quantum s p x status.Ready =
+    halts_stays s p (ran quantum (processor_of x)).count (with_machine x (ran quantum (processor_of x)).machine) (ran quantum (processor_of x)).halt
+status_stays quantum s p x (status.Waiting mask base size) = receives_stays s p x mask (first_on mask x.queue)
+status_stays quantum s p x (status.Moving dir owner base own left pending) = tt
+
+serves_stays : (quantum : ℕ) (s : KernelState) (p : Pid) (o : Option Known) → StaysAt s.here (serves quantum s p o)
+serves_stays quantum s p None = tt
+serves_stays quantum s p (Some (Here x)) = status_stays quantum s p x x.status
+serves_stays quantum s p (Some (Frozen leaving)) = tt
+serves_stays quantum s p (Some (Incoming arriving)) = tt
+serves_stays quantum s p (Some (Forward place moves)) = tt
+serves_stays quantum s p (Some (Ended y)) = tt
+
+-- a message is handled
+answers_stays : (s : KernelState) (m : Message) (x : Process) (o : Option Message) → StaysAt s.here (answers_with s m x o)
+answers_stays s m x None = tt
+answers_stays s m x (Some a) = refl
+
+lands_as_stays : (s : KernelState) (m : Message) (x : Process) (l : Landed) → StaysAt s.here (lands_as s m x l)
+lands_as_stays s m x (landed.Next request) = refl
+lands_as_stays s m x (landed.Done reply) = refl
+
+lands_stays : (s : KernelState) (m : Message) (o : Option Landing) → StaysAt s.here (lands s m o)
+lands_stays s m None = tt
+lands_stays s m (Some d) = lands_as_stays s m d.process d.landed
+
+here_stays : (s : KernelState) (m : Message) (x : Process) (w : What) → StaysAt s.here (here_handles s m x w)
+here_stays s m x (what.User code channel body links) = refl
+here_stays s m x what.Stop = refl
+here_stays s m x what.Resume = refl
+here_stays s m x what.Kill = refl
+here_stays s m x (what.Read base len) = answers_stays s m (after_serving x m.what) (serving_answer s.here x m)
+here_stays s m x (what.Write base bytes) = answers_stays s m (after_serving x m.what) (serving_answer s.here x m)
+here_stays s m x (what.Block bytes) = lands_stays s m (landing s.here x m.what x.status)
+here_stays s m x what.Written = lands_stays s m (landing s.here x m.what x.status)
+here_stays s m x what.Gone = lands_stays s m (landing s.here x m.what x.status)
+here_stays s m x (what.Migrate to) = either s.here (to == s.here) _ _ refl refl
+here_stays s m x (what.Update about) = refl
+here_stays s m x w = tt
+
+ended_stays : (s : KernelState) (m : Message) (w : What) → StaysAt s.here (ended_handles s m w)
+ended_stays s m (what.Read base len) = refl
+ended_stays s m (what.Write base bytes) = refl
+ended_stays s m (what.User code channel body links) = refl
+ended_stays s m what.Stop = refl
+ended_stays s m what.Resume = refl
+ended_stays s m what.Kill = refl
+ended_stays s m (what.Block bytes) = refl
+ended_stays s m what.Written = refl
+ended_stays s m what.Gone = refl
+ended_stays s m (what.Migrate to) = refl
+ended_stays s m (what.Update about) = refl
+ended_stays s m w = tt
+
+forwards_stays : (s : KernelState) (m : Message) (place moves : ℕ) (told : Bool) → StaysAt s.here (forwards_and s m place moves told)
+forwards_stays s m place moves true = refl
+forwards_stays s m place moves false = refl
+
+known_stays : (s : KernelState) (m : Message) (o : Option Known) → StaysAt s.here (process_handles s m o)
+known_stays s m None = tt
+known_stays s m (Some (Here x)) = here_stays s m x m.what
+known_stays s m (Some (Frozen leaving)) = refl
+known_stays s m (Some (Incoming arriving)) = refl
+known_stays s m (Some (Forward place moves)) = forwards_stays s m place moves (has_update (kind_of m.what))
+known_stays s m (Some (Ended y)) = ended_stays s m m.what
+
+makes_stays : (b : Boot) (s : KernelState) (m : Message) (links : List Link) (i : BootImage) (room : Bool) → StaysAt s.here (makes b s m links i room)
+makes_stays b s m links i true = refl
+makes_stays b s m links i false = refl
+
+makes_of_stays : (b : Boot) (s : KernelState) (m : Message) (links : List Link) (o : Option BootImage) → StaysAt s.here (makes_of b s m links o)
+makes_of_stays b s m links None = tt
+makes_of_stays b s m links (Some i) = makes_stays b s m links i (has_room s.room i.blocks)
+
+-- a process leaves, or comes
+leaving_stays : (s : KernelState) (o : Option Departure) (go : Departure → Option Turned) → ((d : Departure) → StaysAt s.here (go d)) → StaysAt s.here (bind o go)
+leaving_stays s None go h = tt
+leaving_stays s (Some d) go h = h d
+
+arriving_stays : (s : KernelState) (o : Option Arrival) (go : Arrival → Option Turned) → ((a : Arrival) → StaysAt s.here (go a)) → StaysAt s.here (bind o go)
+arriving_stays s None go h = tt
+arriving_stays s (Some a) go h = h a
+
+asks_stays : (b : Boot) (s : KernelState) (m : Message) (p : Pid) (blocks moves size : ℕ) (asker : Option Asker) (room : Bool) → StaysAt s.here (accepts b s m p blocks moves size asker room)
+asks_stays b s m p blocks moves size asker true = refl
+asks_stays b s m p blocks moves size asker false = refl
+
+piece_stays : (s : KernelState) (m : Message) (p : Pid) (o : Option Arrival) → StaysAt s.here (took_piece s m p o)
+piece_stays s m p None = tt
+piece_stays s m p (Some a) = refl
+
+restart_stays : (s : KernelState) (p : Pid) (a : Arrival) (o : Option Process) → StaysAt s.here (restarts_as s p a o)
+restart_stays s p a None = tt
+restart_stays s p a (Some x) = refl
+
+kernel_stays : (b : Boot) (s : KernelState) (m : Message) (w : What) → StaysAt s.here (kernel_handles b s m w)
+kernel_stays b s m (what.Create image links) = makes_of_stays b s m links.items (slice_get b.images image)
+kernel_stays b s m (what.Ask p blocks moves size asker) = asks_stays b s m p blocks moves size asker (has_room_for s.room blocks)
+kernel_stays b s m (what.Refuse p slots blocks) = leaving_stays s (frozen_of (s.records p)) (stays s p) (λ d. refl)
+kernel_stays b s m (what.PullState p chunk) = leaving_stays s (frozen_of (s.records p)) (λ d. gives_piece s m (chunk_of d.process.pid (state_of d.process) chunk)) (λ d. refl)
+kernel_stays b s m (what.State p chunk last bytes) = arriving_stays s (incoming_of (s.records p)) (takes_piece s m p) (λ a. piece_stays s m p (with_piece a m.what))
+kernel_stays b s m (what.PullBlock p block) = leaving_stays s (frozen_of (s.records p)) (λ d. gives_piece s m (block_of d.process.pid d.process.memory block)) (λ d. refl)
+kernel_stays b s m (what.Memory p block bytes) = arriving_stays s (incoming_of (s.records p)) (takes_piece s m p) (λ a. piece_stays s m p (with_piece a m.what))
+kernel_stays b s m (what.AllTaken p) = leaving_stays s (frozen_of (s.records p)) (leaves s p) (λ d. refl)
+kernel_stays b s m (what.Restart p) = arriving_stays s (incoming_of (s.records p)) (restarts s p) (λ a. restart_stays s p a (restarted a))
+kernel_stays b s m w = tt
+
+told_board_stays : (s : KernelState) (m : Message) (v : Servers) (w : What) → StaysAt s.here (told_board s m v w)
+told_board_stays s m v (what.Update about) = refl
+told_board_stays s m v w = tt
+
+board_took_stays : (s : KernelState) (m : Message) (v : Servers) (o : Option board.Taken) → StaysAt s.here (board_took s m v o)
+board_took_stays s m v None = told_board_stays s m v m.what
+board_took_stays s m v (Some t) = refl
+
+board_stays : (s : KernelState) (m : Message) (o : Option Servers) → StaysAt s.here (board_handles s m o)
+board_stays s m None = tt
+board_stays s m (Some v) = board_took_stays s m v (board.takes v.board m.what)
+
+told_manager_stays : (s : KernelState) (m : Message) (v : Servers) (w : What) → StaysAt s.here (told_manager s m v w)
+told_manager_stays s m v (what.Update about) = refl
+told_manager_stays s m v w = tt
+
+manager_took_stays : (s : KernelState) (m : Message) (v : Servers) (o : Option manage.Taken) → StaysAt s.here (manager_took s m v o)
+manager_took_stays s m v None = told_manager_stays s m v m.what
+manager_took_stays s m v (Some t) = refl
+
+manager_stays : (s : KernelState) (m : Message) (o : Option Servers) → StaysAt s.here (manager_handles s m o)
+manager_stays s m None = tt
+manager_stays s m (Some v) = manager_took_stays s m v (manage.takes v.manager m.id.n m.what)
+
+handles_stays : (b : Boot) (s : KernelState) (m : Message) → StaysAt s.here (handles b s m)
+handles_stays b s m =
+    either s.here (m.to.pid.num == 0) (kernel_handles b s m m.what) _ (kernel_stays b s m m.what)
+    (either s.here (pid_eq m.to.pid switchboard) (board_handles s m s.servers) _ (board_stays s m s.servers)
+    (either s.here (pid_eq m.to.pid manager) (manager_handles s m s.servers) (process_handles s m (s.records m.to.pid)) (manager_stays s m s.servers) (known_stays s m (s.records m.to.pid))))
+
+-- a turn
+round_stays : (b : Boot) (s : KernelState) (o : Option Pid) → StaysAt s.here (goes_round b s o)
+round_stays b s None = refl
+round_stays b s (Some p) = serves_stays b.quantum (record s { ring = moved_back p s.ring }) p (s.records p)
+
+turns_stays : (b : Boot) (s : KernelState) (inbox : List Message) → StaysAt s.here (turns b s inbox)
+turns_stays b s [] = round_stays b s (first_runnable s.records s.ring)
+turns_stays b s (m ∷ rest) = handles_stays b (record s { inbox = rest }) m
+
+pub turn_stays : (b : Boot) (s : KernelState) → StaysAt s.here (turn b s)
+turn_stays b s = turns_stays b s s.inbox
+
+-- asking for a move
+told_stays : (s : KernelState) (p : Pid) (r : Result Message MoveNo) → StaysAt s.here (told_to_move s p r)
+told_stays s p (Ok m) = refl
+told_stays s p (Err no.Unknown) = refl
+told_stays s p (Err no.Pinned) = refl
+
+asks_manager_stays : (s : KernelState) (p : Pid) (machine : ℕ) (o : Option Servers) → StaysAt s.here (asks_manager s p machine o)
+asks_manager_stays s p machine None = tt
+asks_manager_stays s p machine (Some v) = told_stays s p (moves_child v.manager.children p machine (own_id s))
+
+pub asks_move_stays : (s : KernelState) (p : Pid) (machine : ℕ) → StaysAt s.here (asks_move s p machine)
+asks_move_stays s p machine = asks_manager_stays s p machine s.servers
+
+-- a machine of the boot file has its number
+begin_here : (test : Bool) (s t : KernelState) → t.here ≡ s.here → (if test then t else s).here ≡ s.here
+begin_here true s t h = h
+begin_here false s t h = refl
+
+begins_here : (b : Boot) (s : KernelState) (p : BootProcess) (o : Option BootImage) → (begins b s p o).here ≡ s.here
+begins_here b s p None = refl
+begins_here b s p (Some i) = begin_here (p.pid.home == s.here) s (with_child s p.pid (child_of b p.pid i p.links) i.blocks) refl
+
+all_begin_here : (b : Boot) (s : KernelState) (ps : List BootProcess) → (with_all b s ps).here ≡ s.here
+all_begin_here b s [] = refl
+all_begin_here b s (p ∷ ps) = all_begin_here b (begins b s p (slice_get b.images p.image)) ps ∙ begins_here b s p (slice_get b.images p.image)
+
+pub opened_here : (b : Boot) (m : ℕ) → here (opened b m) ≡ m
+opened_here b m = all_begin_here b (empty b m) b.processes

@@ -1,0 +1,139 @@
+-- A directive touches one machine, and puts packets on that machine's wires alone.
+use Rattle.std.proofs.Common.{◌≡◌, ◌≢◌, ℕ, zero, suc, ◌<◌, Bool, true, false, ◌==◌, List, [], ◌∷◌, length, refl, sym, ap, subst, ◌∙◌, inl, inr}
+use Rattle.std.specs.Prelude.{Result, ⊤, if◌then◌else◌, ◌&&◌, map}
+use Rattle.std.specs.List.{All}
+use Rattle.std.specs.declared.option.Option.{Option}
+use Rattle.std.specs.declared.option.Option.TheVariants.{None, Some}
+use Rattle.std.specs.declared.result.Result.TheVariants.{Ok, Err}
+use Rattle.std.proofs.lemmas.Bool.Decides.{eqb_tells}
+use Rattle.std.proofs.lemmas.List.Elements.{All-head, All-tail}
+use Rattle.dm_message.specs.declared.Message.{Message}
+use Rattle.dm_packet.specs.declared.Packet.{Packet}
+use Rattle.dm_packet.specs.declared.Packet.TheVariants as packet
+use Rattle.dm_packet.specs.declared.Bad.{Bad}
+use Rattle.dm_packet.specs.Packets.{packet_of}
+use Rattle.dm_stream.specs.Packets.{Load, Data, Ack}
+use Rattle.dm_wire.specs.Sent.{Sent, bytes_at, marked}
+use Rattle.dm_wire.specs.Wire.{after_mark, is_pair}
+use Rattle.dm_onekernel.specs.declared.boot.Boot.{Boot}
+use Rattle.dm_onekernel.specs.Boot.{images_are_valid}
+use Rattle.dm_rule.specs.declared.line.Line.{Line}
+use Rattle.dm_rule.specs.Sets.{at_machine}
+use Rattle.dm_schedule.specs.declared.Step.{Step}
+use Rattle.dm_schedule.specs.declared.Step.TheVariants as step
+use Rattle.dm_node.specs.declared.out.Out.{Out}
+use Rattle.dm_node.specs.declared.out.Out.TheVariants as out
+use Rattle.dm_node.specs.Acts as node
+use Rattle.dm_node.specs.Lawful.{ActsLawfully, IsFrom, IsLawfulOut}
+use Rattle.dm_node.specs.May.{MayArrive}
+use Rattle.dm_node.specs.Out.{Acted, Acts, Goes, Worn}
+use Rattle.dm_node.specs.State.{NodeState, here}
+use Rattle.dm_node.specs.Wired.{spoken, with_packet}
+use Rattle.dm_node.proofs.Sends.{arrives_lawfully, ticks_lawfully, turns_lawfully}
+use Rattle.dm_world.specs.Local.{ActsAlone, acts_on, bytes_of}
+use Rattle.dm_world.specs.May.{MayDeliver, MayRead, MayStep}
+use Rattle.dm_world.specs.Meets.{MeetsSome}
+use Rattle.dm_world.specs.World.{Happened, Says, WorldState, WornOut, acted, arrives, delivers, reads, turned, world_step}
+
+-- packets of machine m go on its wires
+elsewhere : {X : Type 0} (from to a c : ℕ) (x y : X) → from ≢ a → (if is_pair from to a c then x else y) ≡ y
+elsewhere from to a c x y apart =
+    elim (eqb_tells from a) [
+      | inl e ↦ absurd (apart e.1)
+      | inr e ↦ ap (λ (t : Bool). if t && (to == c) then x else y) e.0
+    ]
+
+packet_elsewhere : (wires : ℕ → ℕ → List Sent) (p : Packet) (m a c : ℕ) → IsFrom m p → a ≢ m → with_packet wires p a c ≡ wires a c
+packet_elsewhere wires (packet.Data from to k w) m a c e apart = elsewhere from to a c _ (wires a c) (λ same. apart (sym same ∙ e))
+packet_elsewhere wires (packet.Ack from to k) m a c e apart = elsewhere from to a c _ (wires a c) (λ same. apart (sym same ∙ e))
+
+pub spoken_elsewhere : (outs : List Out) (wires : ℕ → ℕ → List Sent) (m a c : ℕ) → All (IsLawfulOut m) outs → a ≢ m → (spoken wires outs).wires a c ≡ wires a c
+spoken_elsewhere [] wires m a c h apart = refl
+spoken_elsewhere (out.Says l ∷ outs) wires m a c h apart = spoken_elsewhere outs wires m a c (All-tail (IsLawfulOut m) (out.Says l) outs h) apart
+spoken_elsewhere (out.Sends p ∷ outs) wires m a c h apart =
+    let lawful = All-head (IsLawfulOut m) (out.Sends p) outs h in
+    spoken_elsewhere outs (with_packet wires p) m a c (All-tail (IsLawfulOut m) (out.Sends p) outs h) apart ∙ packet_elsewhere wires p m a c lawful.1 apart
+
+-- another machine is as it was
+other_machine : {X : Type 0} (f : ℕ → X) (m c : ℕ) (x : X) → c ≢ m → at_machine f m x c ≡ f c
+other_machine f m c x apart =
+    elim (eqb_tells m c) [
+      | inl e ↦ absurd (apart (sym e.1))
+      | inr e ↦ ap (λ (t : Bool). if t then x else f c) e.0
+    ]
+
+abbrev pub AloneIn : ℕ → WorldState → Option Happened → Type 0
+AloneIn m w None = ⊤
+AloneIn m w (Some (Says s)) = ActsAlone m w s.state
+AloneIn m w (Some (WornOut from to)) = ⊤
+
+acted_alone : (w : WorldState) (e : Step) (m : ℕ) (d : Acted) → ActsLawfully m d → ActsAlone m w (acted w e m d).state
+acted_alone w e m d h =
+    record {
+      nodes = λ c apart. other_machine w.nodes m c d.state apart;
+      wires = λ a c apart. ap (map bytes_of) (spoken_elsewhere d.outs w.wires m a c h.outs apart);
+    }
+
+turned_alone : (w : WorldState) (e : Step) (m : ℕ) (o : Option Acts) → ((a : Acted) → o ≡ Some (Goes a) → ActsLawfully m a) → AloneIn m w (turned w e m o)
+turned_alone w e m None h = tt
+turned_alone w e m (Some (Goes d)) h = acted_alone w e m d (h d refl)
+turned_alone w e m (Some (Worn from to)) h = tt
+
+-- a mark changes no bytes
+marked_bytes : (ps : List Sent) (k : ℕ) → map bytes_of (marked ps k) ≡ map bytes_of ps
+marked_bytes [] k = refl
+marked_bytes (p ∷ ps) zero = refl
+marked_bytes (p ∷ ps) (suc k) = ap (λ xs. p.bytes ∷ xs) (marked_bytes ps k)
+
+either_bytes : (t : Bool) (ps : List Sent) (k : ℕ) → map bytes_of (if t then marked ps k else ps) ≡ map bytes_of ps
+either_bytes true ps k = marked_bytes ps k
+either_bytes false ps k = refl
+
+marked_alone : (w : WorldState) (a b k m : ℕ) (o : Option Happened) → AloneIn m (record w { wires = after_mark w.wires a b k }) o → AloneIn m w o
+marked_alone w a b k m None h = tt
+marked_alone w a b k m (Some (Says s)) h = record { nodes = h.nodes; wires = λ x y apart. h.wires x y apart ∙ either_bytes (is_pair a b x y) (w.wires x y) k }
+marked_alone w a b k m (Some (WornOut from to)) h = tt
+
+-- a packet arrives
+came_alone : (w : WorldState) (e : Step) (a c : ℕ) (l : Load Message) → here (w.nodes c) ≡ c → MayArrive (w.nodes c) a l → AloneIn c w (arrives w e a c l)
+came_alone w e a c l h may =
+    acted_alone w e c (node.arrives (w.nodes c) a l) (subst (λ m. ActsLawfully m (node.arrives (w.nodes c) a l)) h (arrives_lawfully (w.nodes c) a l may))
+
+from_sender : (n : NodeState) (from a : ℕ) (l : Load Message) → from ≡ a → MayArrive n from l → MayArrive n a l
+from_sender n from a l e h = subst (λ k. MayArrive n k l) e h
+
+reads_alone : (w : WorldState) (e : Step) (a c : ℕ) (r : Result Packet Bad) → here (w.nodes c) ≡ c → MayRead w a c r → AloneIn c w (reads w e a c r)
+reads_alone w e a c (Ok (packet.Data from to k m)) h may = came_alone w e a c (Data k m) h (from_sender (w.nodes c) from a (Data k m) may.0 may.1)
+reads_alone w e a c (Ok (packet.Ack from to k)) h may = came_alone w e a c (Ack k) h (from_sender (w.nodes c) from a (Ack k) may.0 may.1)
+reads_alone w e a c (Err bad) h may = tt
+
+marked_read : (w : WorldState) (a c k : ℕ) (r : Result Packet Bad) → MayRead w a c r → MayRead (record w { wires = after_mark w.wires a c k }) a c r
+marked_read w a c k (Ok p) h = h
+marked_read w a c k (Err bad) h = h
+
+delivers_alone : (w : WorldState) (e : Step) (a c k : ℕ) (o : Option (List ℕ)) → here (w.nodes c) ≡ c → MayDeliver w a c o → AloneIn c w (delivers w e a c k o)
+delivers_alone w e a c k None h may = record { nodes = λ m apart. refl; wires = λ x y apart. refl }
+delivers_alone w e a c k (Some bytes) h may =
+    marked_alone w a c k c (reads (record w { wires = after_mark w.wires a c k }) e a c (packet_of bytes))
+    (reads_alone (record w { wires = after_mark w.wires a c k }) e a c (packet_of bytes) h (marked_read w a c k (packet_of bytes) may))
+
+step_alone : (b : Boot) (w : WorldState) (e : Step) → images_are_valid b.images ≡ true → ((m : ℕ) → m < length b.machines → here (w.nodes m) ≡ m) → MayStep b w e
+    → AloneIn (acts_on e) w (world_step b w e)
+step_alone b w (step.Turn m) images h may =
+    turned_alone w (step.Turn m) m (node.turn b (w.nodes m))
+    (λ a e. subst (λ k. ActsLawfully k a) (h m may.0) (turns_lawfully b (w.nodes m) a images may.1 may.2 e))
+step_alone b w (step.Tick m) images h may =
+    acted_alone w (step.Tick m) m (node.tick (w.nodes m)) (subst (λ k. ActsLawfully k (node.tick (w.nodes m))) (h m may.0) (ticks_lawfully (w.nodes m) may.1))
+step_alone b w (step.Deliver a c k) images h may = delivers_alone w (step.Deliver a c k) a c k (bytes_at (w.wires a c) k) (h c may.1) may.3
+step_alone b w (step.Migrate p m) images h may = tt
+
+-- so is the world that the code comes to
+alone_met : (m : ℕ) (w s : WorldState) (lines : List Line) (o : Option Happened) → MeetsSome s lines o → AloneIn m w o → ActsAlone m w s
+alone_met m w s lines None met h = absurd met
+alone_met m w s lines (Some g) met h =
+    let P : Happened → Type 0 = λ x. AloneIn m w (Some x) in
+    subst P (sym met.happened) h
+
+pub alone : (b : Boot) (w s : WorldState) (e : Step) (lines : List Line) → images_are_valid b.images ≡ true → ((m : ℕ) → m < length b.machines → here (w.nodes m) ≡ m) → MayStep b w e
+    → MeetsSome s lines (world_step b w e) → ActsAlone (acts_on e) w s
+alone b w s e lines images h may met = alone_met (acts_on e) w s lines (world_step b w e) met (step_alone b w e images h may)

@@ -1,0 +1,97 @@
+-- What is left of a list from a place on, bytes up to the last that isn't 0, and the first machine that says something.
+use Rattle.std.proofs.Common.{◌≡◌, ℕ, zero, suc, ◌+◌, ◌<◌, ◌≤◌, Bool, true, false, ◌==◌, if◌then◌else◌, List, [], ◌∷◌, ◌++◌, length, take, drop, get_or, refl, sym, ap, subst, ◌∙◌, inl, inr, arith, append_assoc, drop-cons}
+use Rattle.std.proofs.Math.Seq.{take-suc}
+use Rattle.std.specs.Prelude.{slice_get}
+use Rattle.std.specs.List.{All}
+use Rattle.std.specs.declared.option.Option.{Option}
+use Rattle.std.specs.declared.option.Option.TheVariants.{None, Some}
+use Rattle.std.proofs.lemmas.Bool.Decides.{eqb_tells, nat_tests}
+use Rattle.std.proofs.lemmas.Option.{get_or_from_slice_get, slice_get-get_or, slice_get_within}
+use Rattle.dm_message.specs.declared.Message.{Message}
+use Rattle.dm_message.specs.declared.MsgId.{MsgId}
+use Rattle.dm_switchboard.specs.Board.{Named}
+use Rattle.dm_switchboard.specs.Lawful.{IsLawfulNamed}
+use Rattle.dm_rule.specs.declared.line.Line.{Line}
+use Rattle.dm_rule.specs.declared.line.EndLine.TheVariants as end
+use Rattle.dm_rule.specs.Ends.{says, or, before_zeros, trimmed}
+use Rattle.dm_world.specs.Ends.{SaysSome, first_says, lines_in, name_lines, names_of}
+
+drop_at : {X : Type 0} (xs : List X) (i : ℕ) (x : X) → slice_get xs i ≡ Some x → drop i xs ≡ x ∷ drop (i + 1) xs
+drop_at xs i x e =
+    let next : suc i ≡ i + 1 = omega arith in
+    drop-cons xs i x (slice_get_within xs i x e) ∙ ap (λ y. y ∷ drop (suc i) xs) (get_or_from_slice_get xs i x x e) ∙ ap (λ k. x ∷ drop k xs) next
+
+-- there is something at each place within
+pub within_some : {X : Type 0} (xs : List X) (i : ℕ) → i < length xs → slice_get xs i ≡ None → ⊥
+within_some [] i h none = absurd (omega arith)
+within_some (x ∷ xs) i h none = let there : slice_get (x ∷ xs) i ≡ Some (get_or (x ∷ xs) i x) = slice_get-get_or (x ∷ xs) i x h in cc
+
+-- one more message is named
+pub names_more : (ms : List Message) (i : ℕ) (m : Message) (is whole : List MsgId) → slice_get ms i ≡ Some m → is ++ names_of (drop i ms) ≡ whole → (is ++ m.id ∷ []) ++ names_of (drop (i + 1) ms) ≡ whole
+names_more ms i m is whole e h = append_assoc is (m.id ∷ []) (names_of (drop (i + 1) ms)) ∙ ap (λ l. is ++ names_of l) (sym (drop_at ms i m e)) ∙ h
+
+-- one more name is said
+pub name_more : (ks : List Named) (i : ℕ) (k : Named) (ls whole : List Line) → slice_get ks i ≡ Some k → ls ++ name_lines (drop i ks) ≡ whole
+    → (ls ++ says (end.Name (record { items = k.name }) k.link) ∷ []) ++ name_lines (drop (i + 1) ks) ≡ whole
+name_more ks i k ls whole e h =
+    append_assoc ls (says (end.Name (record { items = k.name }) k.link) ∷ []) (name_lines (drop (i + 1) ks)) ∙ ap (λ l. ls ++ name_lines l) (sym (drop_at ks i k e)) ∙ h
+
+-- a name of a lawful board is short
+pub short_name : (ks : List Named) (i : ℕ) (k : Named) → All IsLawfulNamed ks → slice_get ks i ≡ Some k → length k.name ≤ 16
+short_name ks i k all e =
+    let same : get_or ks i k ≡ k = get_or_from_slice_get ks i k k e in
+    let lawful : IsLawfulNamed (get_or ks i k) = all i k (slice_get_within ks i k e) in
+    subst (λ (y : Named). length y.name ≤ 16) same (grind (arith, nat_tests, lawful.name))
+
+trimmed_zero : (xs : List ℕ) → trimmed (xs ++ 0 ∷ []) ≡ trimmed xs
+trimmed_zero [] = refl
+trimmed_zero (x ∷ xs) = ap (before_zeros x) (trimmed_zero xs)
+
+before_some : (y : ℕ) (xs : List ℕ) (x : ℕ) → before_zeros y (xs ++ x ∷ []) ≡ y ∷ xs ++ x ∷ []
+before_some y [] x = refl
+before_some y (z ∷ xs) x = refl
+
+trimmed_other : (xs : List ℕ) (x : ℕ) → (x == 0) ≡ false → trimmed (xs ++ x ∷ []) ≡ xs ++ x ∷ []
+trimmed_other [] x e = ap (λ (b : Bool). if b then [] else x ∷ []) e
+trimmed_other (y ∷ xs) x e = ap (before_zeros y) (trimmed_other xs x e) ∙ before_some y xs x
+
+take_more : (bs : List ℕ) (i : ℕ) → i < length bs → take (i + 1) bs ≡ take i bs ++ get_or bs i 0 ∷ []
+take_more bs i h = let next : i + 1 ≡ suc i = omega arith in ap (λ k. take k bs) next ∙ take-suc bs i 0 h
+
+-- a zero isn't shown
+pub shows_same : (bs : List ℕ) (i e : ℕ) → i < length bs → get_or bs i 0 ≡ 0 → take e bs ≡ trimmed (take i bs) → take e bs ≡ trimmed (take (i + 1) bs)
+shows_same bs i e h zero_ is =
+    is ∙ sym (trimmed_zero (take i bs)) ∙ ap (λ x. trimmed (take i bs ++ x ∷ [])) (sym zero_) ∙ ap trimmed (sym (take_more bs i h))
+
+-- another byte is, and all before it
+pub shows_more : (bs : List ℕ) (i : ℕ) → i < length bs → (get_or bs i 0 == 0) ≡ false → take (i + 1) bs ≡ trimmed (take (i + 1) bs)
+shows_more bs i h other =
+    take_more bs i h ∙ sym (trimmed_other (take i bs) (get_or bs i 0) other) ∙ ap trimmed (sym (take_more bs i h))
+
+first_stays : (f : ℕ → Option (List Line)) (m n : ℕ) (ls : List Line) → m < n → first_says f m ≡ None → Some ls ≡ f m → first_says f n ≡ Some ls
+first_stays f m zero ls h none some = absurd (omega arith)
+first_stays f m (suc n) ls h none some =
+    elim (eqb_tells m n) [
+      | inl e ↦
+          let before : first_says f n ≡ None = ap (first_says f) (sym e.1) ∙ none in
+          let here : f n ≡ Some ls = ap f (sym e.1) ∙ sym some in
+          ap (λ o. or o (f n)) before ∙ here
+      | inr e ↦
+          let less : m < n = omega (arith, h, e.1) in
+          ap (λ o. or o (f n)) (first_stays f m n ls less none some)
+    ]
+
+-- machine m is the first that says something
+pub found : (f : ℕ → Option (List Line)) (m n : ℕ) (said : Bool) (o : Option (List Line)) (old mid new : List Line) → first_says f m ≡ None → m < n → o ≡ f m → said ≡ true → mid ≡ old
+    → SaysSome said mid new o → new ≡ old ++ lines_in (first_says f n)
+found f m n said None old mid new none h is yes_ same says_ = cc
+found f m n said (Some ls) old mid new none h is yes_ same says_ =
+    says_.1 ∙ ap (λ l. l ++ ls) same ∙ ap (λ o. old ++ lines_in o) (sym (first_stays f m n ls h none is))
+
+-- it isn't, so the search goes on
+pub not_found : (f : ℕ → Option (List Line)) (m : ℕ) (said : Bool) (o : Option (List Line)) (mid new : List Line) → first_says f m ≡ None → o ≡ f m → said ≡ false → SaysSome said mid new o
+    → (first_says f (m + 1) ≡ None) × (new ≡ mid)
+not_found f m said None mid new none is no_ says_ =
+    let next : m + 1 ≡ suc m = omega arith in
+    (ap (first_says f) next ∙ ap (λ o. or o (f m)) none ∙ sym is, says_.1)
+not_found f m said (Some ls) mid new none is no_ says_ = cc

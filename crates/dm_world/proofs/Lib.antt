@@ -1,0 +1,11 @@
+pub mod Nodes
+pub mod Speaking
+pub mod Stepping
+pub mod Rereading
+pub mod Alone
+pub mod Delivering
+pub mod Ending
+pub mod Passing
+pub mod Falling
+pub mod Rounds
+pub mod Runs

@@ -1,0 +1,211 @@
+-- The machines of the code: one of them acts, and the others stay.
+use Rattle.std.proofs.Common.{◌≡◌, ◌≢◌, ℕ, suc, ◌+◌, ◌<◌, ◌≤◌, Bool, List, [], ◌∷◌, ◌++◌, length, refl, sym, ap, subst, ◌∙◌, inl, inr, arith, length-set, get_or, get_or-set_same, get_or-set_other, length-append}
+use Rattle.std.proofs.Math.Seq.{get_or-append_seam}
+use Rattle.std.proofs.lemmas.List.{get_or_append_left}
+use Rattle.std.proofs.Math.ListN.{set}
+use Rattle.std.specs.Prelude.{◌⊎◌, if◌then◌else◌, slice_get, slice_index_or}
+use Rattle.std.specs.List.{All}
+use Rattle.std.specs.declared.option.Option.{Option}
+use Rattle.std.specs.declared.option.Option.TheVariants.{None, Some}
+use Rattle.std.specs.declared.result.Result.TheVariants.{Err}
+use Rattle.std.proofs.lemmas.Bool.Decides.{eqb_tells, leb_tells}
+use Rattle.std.proofs.lemmas.Bool.{leb-true}
+use Rattle.std.proofs.lemmas.List.Elements.{All-weaker}
+use Rattle.std.proofs.lemmas.Option.{get_or_from_slice_get, slice_get-get_or, slice_get_cases, slice_get_past, slice_get_within}
+use Rattle.dm_onekernel.specs.declared.boot.Boot.{Boot}
+use Rattle.dm_packet.specs.declared.Packet.{Packet}
+use Rattle.dm_packet.specs.declared.Packet.TheVariants as packet
+use Rattle.dm_stream.specs.Packets.{Data, Ack}
+use Rattle.dm_rule.specs.Sets.{at_machine}
+use Rattle.dm_node.specs.declared.node.Node.{Node}
+use Rattle.dm_node.specs.declared.stop.Stop.{Stop}
+use Rattle.dm_node.specs.declared.stop.Stop.TheVariants as stop
+use Rattle.dm_node.specs.declared.out.Out.{Out}
+use Rattle.dm_node.specs.declared.out.Out.TheVariants as out
+use Rattle.dm_node.specs.State.{NodeState, here, opened}
+use Rattle.dm_node.specs.Out.{Acted, Acts, Goes, Worn}
+use Rattle.dm_node.specs.Acts.{arrives_packet}
+use Rattle.dm_node.specs.May.{MayArrivePacket}
+use Rattle.dm_node.proofs.Sends.{arrives_lawfully}
+use Rattle.dm_node.specs.Lawful.{ActsLawfully, IsLawfulOut}
+use Rattle.dm_node.specs.Meets.{AnswersSome, Gave, GaveSome, state_of}
+use Rattle.dm_world.specs.declared.world.World.{World}
+use Rattle.dm_world.specs.Meets.{ActedAt, ActedSome, AreNodes, IsNode, IsSendable, IsWorld, TurnAnswers, node_in, node_or}
+
+-- a list with one place written
+pub set_get_same : {X : Type 0} (xs : List X) (i : ℕ) (v : X) → i < length xs → slice_get (set xs i v) i ≡ Some v
+set_get_same xs i v h = slice_get-get_or (set xs i v) i v (rw (length-set xs i v) h) ∙ ap Some (get_or-set_same xs i v v h)
+
+pub set_get_other : {X : Type 0} (xs : List X) (i j : ℕ) (v : X) → j ≢ i → slice_get (set xs i v) j ≡ slice_get xs j
+set_get_other xs i j v apart =
+    elim (leb_tells (suc j) (length xs)) [
+      | inl e ↦
+          let within : j < length xs = e.1 in
+          slice_get-get_or (set xs i v) j v (rw (length-set xs i v) within) ∙ ap Some (get_or-set_other xs i j v v apart) ∙ sym (slice_get-get_or xs j v within)
+      | inr e ↦
+          let past : length xs ≤ j = omega (arith, e.1) in
+          slice_get_past (set xs i v) j (rw (length-set xs i v) past) ∙ sym (slice_get_past xs j past)
+    ]
+
+-- the machine at a place
+pub node_there : (b : Boot) (nodes : List Node) (m : ℕ) (n : Node) → slice_get nodes m ≡ Some n → node_in b nodes m ≡ state_of n
+unfolding node_in
+node_there b nodes m n e = ap (node_or b m) e
+
+pub node_past : (b : Boot) (nodes : List Node) (m : ℕ) → slice_get nodes m ≡ None → node_in b nodes m ≡ opened b m
+unfolding node_in
+node_past b nodes m e = ap (node_or b m) e
+
+pub node_at : (b : Boot) (nodes : List Node) (i m : ℕ) (d : Node) → i ≡ m → m < length nodes → state_of (slice_index_or nodes i d) ≡ node_in b nodes m
+node_at b nodes i m d e h =
+    subst (λ (k : ℕ). state_of (slice_index_or nodes k d) ≡ node_in b nodes m) (sym e) (sym (node_there b nodes m (slice_index_or nodes m d) (slice_get-get_or nodes m d h)))
+
+pub is_node_at : (nodes : List Node) (i m : ℕ) (d : Node) → i ≡ m → m < length nodes → AreNodes nodes → IsNode m (slice_index_or nodes i d)
+is_node_at nodes i m d e h are = subst (λ (k : ℕ). IsNode m (slice_index_or nodes k d)) (sym e) (are.each m (slice_index_or nodes m d) (slice_get-get_or nodes m d h))
+
+-- one machine is written
+pub node_set : (b : Boot) (nodes : List Node) (m : ℕ) (x : Node) → m < length nodes → (c : ℕ) → node_in b (set nodes m x) c ≡ at_machine (node_in b nodes) m (state_of x) c
+unfolding node_in
+node_set b nodes m x h c =
+    elim (eqb_tells m c) [
+      | inl e ↦
+          ap (λ (k : ℕ). node_or b c (slice_get (set nodes m x) k)) (sym e.1)
+          ∙ ap (node_or b c) (set_get_same nodes m x h)
+          ∙ sym (ap (λ (t : Bool). if t then state_of x else node_or b c (slice_get nodes c)) e.0)
+      | inr e ↦
+          ap (node_or b c) (set_get_other nodes m c x (λ same. e.1 (sym same)))
+          ∙ sym (ap (λ (t : Bool). if t then state_of x else node_or b c (slice_get nodes c)) e.0)
+    ]
+
+some_same : {X : Type 0} (x y : X) → Some x ≡ Some y → x ≡ y
+some_same x y e = cc
+
+are_set : (nodes : List Node) (m : ℕ) (x : Node) → m < length nodes → AreNodes nodes → IsNode m x → AreNodes (set nodes m x)
+are_set nodes m x h are is =
+    record {
+      each = λ c n there.
+          elim (eqb_tells m c) [
+            | inl e ↦
+                let same : x ≡ n = some_same x n (sym (set_get_same nodes m x h) ∙ ap (slice_get (set nodes m x)) e.1 ∙ there) in
+                subst (λ k. IsNode k n) e.1 (subst (IsNode m) same is)
+            | inr e ↦ are.each c n (sym (set_get_other nodes m c x (λ same. e.1 (sym same))) ∙ there)
+          ];
+    }
+
+-- a machine that acts lawfully keeps its number
+pub kept_here : (n : Node) (m : ℕ) (a : Acted) → state_of n ≡ a.state → ActsLawfully m a → n.kernel.here ≡ m
+kept_here n m a e h = ap here e ∙ h.here
+
+pub acted : (b : Boot) (nodes : List Node) (i m : ℕ) (x : Node) (outs : List Out) (a : Acted) → i ≡ m → m < length nodes → AreNodes nodes → Gave x [] outs a → ActsLawfully m a
+    → ActedAt b nodes (set nodes i x) m outs a
+acted b nodes i m x outs a same h are gave lawful =
+    subst (λ (k : ℕ). ActedAt b nodes (set nodes k x) m outs a) (sym same)
+    (record {
+      nodes = λ c. node_set b nodes m x h c ∙ ap (λ (s : NodeState). at_machine (node_in b nodes) m s c) gave.state;
+      size = length-set nodes m x;
+      are = are_set nodes m x h are (record { streams = gave.streams; here = kept_here x m a gave.state lawful });
+      outs = gave.outs;
+    })
+
+-- what a machine sends can be encoded
+sendable : (m : ℕ) (o : Out) → IsLawfulOut m o → IsSendable o
+sendable m (out.Says l) h = tt
+sendable m (out.Sends p) h = h.0
+
+pub all_sendable : (m : ℕ) (a : Acted) (outs : List Out) → outs ≡ a.outs → ActsLawfully m a → All IsSendable outs
+all_sendable m a outs e h = subst (All IsSendable) (sym e) (All-weaker (IsLawfulOut m) IsSendable (sendable m) a.outs h.outs)
+
+-- the machine at a place has its number
+pub here_at : (b : Boot) (nodes : List Node) (m : ℕ) (d : Node) → m < length nodes → AreNodes nodes → here (node_in b nodes m) ≡ m
+here_at b nodes m d h are = sym (ap here (node_at b nodes m m d refl h)) ∙ (is_node_at nodes m m d refl h are).here
+
+-- a turn, which may not have taken place
+pub acted_some : (b : Boot) (nodes : List Node) (i m : ℕ) (x : Node) (old outs : List Out) (o : Option Acts) → i ≡ m → m < length nodes → AreNodes nodes → old ≡ [] → GaveSome x old outs o
+    → ((a : Acted) → o ≡ Some (Goes a) → ActsLawfully m a) → ActedSome b nodes (set nodes i x) m outs o
+acted_some b nodes i m x old outs None same h are none gave lawful = gave
+acted_some b nodes i m x old outs (Some (Goes a)) same h are none gave lawful =
+    acted b nodes i m x outs a same h are (subst (λ ys. Gave x ys outs a) none gave) (lawful a refl)
+acted_some b nodes i m x old outs (Some (Worn from to)) same h are none gave lawful = gave
+
+pub stopped : (e : Stop) (b : Boot) (old new : List Node) (m : ℕ) (n : Node) (before after : List Out) (o : Option Acts) → AnswersSome (Err e) n before after o → TurnAnswers (Err e) b old new m o
+stopped (stop.Worn from to) b old new m n before after o h = h
+stopped (stop.NoMemory e) b old new m n before after o h = tt
+
+gave_sendable : (m : ℕ) (x : Node) (outs : List Out) (o : Option Acts) → GaveSome x [] outs o → ((a : Acted) → o ≡ Some (Goes a) → ActsLawfully m a) → All IsSendable outs
+gave_sendable m x outs None gave lawful = absurd gave
+gave_sendable m x outs (Some (Goes a)) gave lawful = all_sendable m a outs gave.outs (lawful a refl)
+gave_sendable m x outs (Some (Worn from to)) gave lawful = absurd gave
+
+pub turn_sendable : (m : ℕ) (x : Node) (old outs : List Out) (o : Option Acts) → old ≡ [] → GaveSome x old outs o → ((a : Acted) → o ≡ Some (Goes a) → ActsLawfully m a) → All IsSendable outs
+turn_sendable m x old outs o none gave lawful = gave_sendable m x outs o (subst (λ ys. GaveSome x ys outs o) none gave) lawful
+
+-- a machine that acts and stays as it is
+at_same : {X : Type 0} (f : ℕ → X) (m c : ℕ) → f c ≡ at_machine f m (f m) c
+at_same f m c =
+    elim (eqb_tells m c) [
+      | inl e ↦ ap f (sym e.1) ∙ sym (ap (λ (t : Bool). if t then f m else f c) e.0)
+      | inr e ↦ sym (ap (λ (t : Bool). if t then f m else f c) e.0)
+    ]
+
+pub acted_still : (b : Boot) (nodes : List Node) (m : ℕ) (outs : List Out) (a : Acted) → AreNodes nodes → a.state ≡ node_in b nodes m → outs ≡ a.outs → ActedAt b nodes nodes m outs a
+acted_still b nodes m outs a are same e =
+    record { nodes = λ c. at_same (node_in b nodes) m c ∙ ap (λ (s : NodeState). at_machine (node_in b nodes) m s c) (sym same); size = refl; are = are; outs = e }
+
+-- a packet comes
+pub packet_lawfully : (n : NodeState) (p : Packet) → MayArrivePacket n p → ActsLawfully (here n) (arrives_packet n p)
+packet_lawfully n (packet.Data from to seq m) h = arrives_lawfully n from (Data seq m) h
+packet_lawfully n (packet.Ack from to count) h = arrives_lawfully n from (Ack count) h
+
+-- each machine of a world has its number
+pub all_here : (w : World) → IsWorld w → (m : ℕ) → m < length w.boot.machines → here (node_in w.boot w.nodes.items m) ≡ m
+all_here w h m within =
+    elim ((slice_get_cases w.nodes.items m).1) [
+      | inl r ↦ ap here (node_there w.boot w.nodes.items m r.0 r.2) ∙ (h.nodes.each m r.0 r.2).here
+      | inr r ↦ absurd (let e = h.machines in let p = r.0 in omega (arith, e, p))
+    ]
+
+-- one more machine at the end
+pub last_or : {X : Type 0} (xs : List X) (x n : X) (m : ℕ) → slice_get (xs ++ x ∷ []) m ≡ Some n → ((m < length xs) × (slice_get xs m ≡ Some n)) ⊎ ((m ≡ length xs) × (x ≡ n))
+last_or xs x n m e =
+    let within : m < length (xs ++ x ∷ []) = slice_get_within (xs ++ x ∷ []) m n e in
+    let size : length (xs ++ x ∷ []) ≡ length xs + 1 = length-append xs (x ∷ []) in
+    let at : get_or (xs ++ x ∷ []) m n ≡ n = get_or_from_slice_get (xs ++ x ∷ []) m n n e in
+    elim (leb_tells (suc m) (length xs)) [
+      | inl h ↦
+          let small : m < length xs = h.1 in
+          inl (small, slice_get-get_or xs m n small ∙ ap Some (sym (get_or_append_left xs (x ∷ []) n m small) ∙ at))
+      | inr h ↦
+          let large = h.1 in
+          let last : m ≡ length xs = omega (arith, within, size, large) in
+          inr (last, sym (get_or-append_seam xs x [] n) ∙ ap (λ k. get_or (xs ++ x ∷ []) k n) (sym last) ∙ at)
+    ]
+
+pub are_pushed : (nodes : List Node) (x : Node) (m : ℕ) → length nodes ≡ m → AreNodes nodes → IsNode m x → AreNodes (nodes ++ x ∷ [])
+are_pushed nodes x m size are is =
+    record {
+      each = λ c n there.
+          elim (last_or nodes x n c there) [
+            | inl r ↦ are.each c n r.1
+            | inr r ↦ subst (λ y. IsNode c y) r.1 (subst (λ k. IsNode k x) (sym (r.0 ∙ size)) is)
+          ];
+    }
+
+pub opened_pushed : (b : Boot) (nodes : List Node) (x : Node) (m : ℕ) → length nodes ≡ m → ((c : ℕ) (n : Node) → slice_get nodes c ≡ Some n → state_of n ≡ opened b c) → state_of x ≡ opened b m
+    → (c : ℕ) (n : Node) → slice_get (nodes ++ x ∷ []) c ≡ Some n → state_of n ≡ opened b c
+opened_pushed b nodes x m size all is c n there =
+    elim (last_or nodes x n c there) [
+      | inl r ↦ all c n r.1
+      | inr r ↦ ap state_of (sym r.1) ∙ is ∙ ap (opened b) (sym (r.0 ∙ size))
+    ]
+
+-- the machines of the boot file
+pub all_opened : (b : Boot) (nodes : List Node) → ((c : ℕ) (n : Node) → slice_get nodes c ≡ Some n → state_of n ≡ opened b c) → (m : ℕ) → node_in b nodes m ≡ opened b m
+all_opened b nodes h m =
+    elim ((slice_get_cases nodes m).1) [
+      | inl r ↦ node_there b nodes m r.0 r.2 ∙ h m r.0 r.2
+      | inr r ↦ node_past b nodes m r.1
+    ]
+
+-- there is a machine
+pub some_machine : (w : World) → IsWorld w → 0 < length w.boot.machines
+some_machine w h = leb-true 1 (length w.boot.machines) h.valid.some_machines

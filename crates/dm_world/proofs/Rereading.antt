@@ -1,0 +1,52 @@
+-- What a machine gave is read again as it was put.
+use Rattle.std.proofs.Common.{◌≡◌, ℕ, List, ◌∷◌, sym, ap, subst, ◌∙◌}
+use Rattle.std.specs.Prelude.{option_map}
+use Rattle.std.specs.declared.option.Option.{Option}
+use Rattle.std.specs.declared.option.Option.TheVariants.{None, Some}
+use Rattle.std.specs.declared.result.Result.TheVariants.{Ok}
+use Rattle.dm_packet.specs.declared.Packet.{Packet}
+use Rattle.dm_packet.specs.declared.Packet.TheVariants as packet
+use Rattle.dm_packet.specs.Packets.{packet_of, spelling}
+use Rattle.dm_stream.specs.Packets.{Data, Ack}
+use Rattle.dm_wire.specs.Sent.{bytes_at}
+use Rattle.dm_onekernel.specs.declared.boot.Boot.{Boot}
+use Rattle.dm_rule.specs.declared.line.Line.{Line}
+use Rattle.dm_node.specs.declared.node.Node.{Node}
+use Rattle.dm_node.specs.declared.out.Out.{Out}
+use Rattle.dm_node.specs.declared.out.Out.TheVariants.{Says, Sends}
+use Rattle.dm_node.specs.Acts as node
+use Rattle.dm_node.specs.Out.{Acts, Goes, Worn}
+use Rattle.dm_world.specs.May.{MayDeliver, MayRead, sent_by}
+use Rattle.dm_world.specs.Meets.{ActedSome}
+use Rattle.dm_world.specs.Readable.{AreReadBack, gave_bytes, gave_read, gave_some}
+use Rattle.dm_world.specs.World.{WorldState}
+use Rattle.dm_world.proofs.Delivering.{may_read, read_bytes}
+
+-- where what is left is read back, all is
+pub back_line : (l : Line) (all outs items : List Out) → items ≡ Says l ∷ outs → (AreReadBack items → AreReadBack all) → AreReadBack outs → AreReadBack all
+back_line l all outs items is h rest = h (subst AreReadBack (sym is) rest)
+
+pub back_packet : (p : Packet) (all outs items : List Out) → items ≡ Sends p ∷ outs → packet_of (spelling p) ≡ Ok p → (AreReadBack items → AreReadBack all) → AreReadBack outs → AreReadBack all
+back_packet p all outs items is again h rest = h (subst AreReadBack (sym is) (again, rest))
+
+-- a turn, which may not have taken place
+pub turn_back : (b : Boot) (xs ys : List Node) (m : ℕ) (outs : List Out) (o : Option Acts) → ActedSome b xs ys m outs o → AreReadBack outs → AreReadBack (gave_some o)
+turn_back b xs ys m outs None h back = absurd h
+turn_back b xs ys m outs (Some (Goes a)) h back = subst AreReadBack h.outs back
+turn_back b xs ys m outs (Some (Worn from to)) h back = absurd h
+
+-- a packet that came
+gave_packet : (w : WorldState) (a c : ℕ) (p : Packet) → sent_by p ≡ a → gave_read w a c (Ok p) ≡ (node.arrives_packet (w.nodes c) p).outs
+gave_packet w a c (packet.Data from to k m) h = ap (λ x. (node.arrives (w.nodes c) x (Data k m)).outs) (sym h)
+gave_packet w a c (packet.Ack from to k) h = ap (λ x. (node.arrives (w.nodes c) x (Ack k)).outs) (sym h)
+
+gave_at : (w : WorldState) (a c : ℕ) (p : Packet) (o : Option (List ℕ)) → option_map packet_of o ≡ Some (Ok p) → MayDeliver w a c o → gave_bytes w a c o ≡ (node.arrives_packet (w.nodes c) p).outs
+gave_at w a c p None read may = absurd (cc)
+gave_at w a c p (Some bytes) read may =
+    let is : packet_of bytes ≡ Ok p = read_bytes bytes p read in
+    let h : MayRead w a c (Ok p) = may_read w a c (packet_of bytes) p is may in
+    ap (gave_read w a c) is ∙ gave_packet w a c p h.0
+
+pub packet_back : (w : WorldState) (a c k : ℕ) (p : Packet) (outs : List Out) → option_map packet_of (bytes_at (w.wires a c) k) ≡ Some (Ok p) → MayDeliver w a c (bytes_at (w.wires a c) k)
+    → outs ≡ (node.arrives_packet (w.nodes c) p).outs → AreReadBack outs → AreReadBack (gave_bytes w a c (bytes_at (w.wires a c) k))
+packet_back w a c k p outs read may is back = subst AreReadBack (is ∙ sym (gave_at w a c p (bytes_at (w.wires a c) k) read may)) back

@@ -1,0 +1,13 @@
+use Rattle.std.proofs.Common.{◌+◌, ◌++◌, drop, arith, ap, ◌∙◌}
+use Rattle.dm_world.specs.Ends.{names_of}
+use Rattle.dm_world.proofs.Ending.{names_more}
+use Rattle.dm_world.proofs.end_messages.ids_of.Goals as goal
+
+pub loop-place-preserved : goal.loop-place-preserved
+loop-place-preserved c =
+    let queue = c.args.queue.now in
+    let i = c.loop-place.place in
+    record {
+      so_far = ap (λ is. is ++ names_of (drop (i + 1) queue)) c.in_ok-push.ensures.ok ∙ names_more queue i c.at.result.now c.loop-place.ids (names_of queue) c.at.ensures c.loop-place.invariant.so_far;
+      within = grind (arith, c.loop-place-test.true, c.len-place-end.ensures);
+    }

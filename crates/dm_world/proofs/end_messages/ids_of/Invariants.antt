@@ -1,0 +1,7 @@
+use Rattle.std.proofs.Common.{◌≡◌, ◌≤◌, ◌++◌, drop, length}
+use Rattle.dm_world.specs.Ends.{names_of}
+use Rattle.dm_world.proofs.end_messages.ids_of.Given as goal
+
+abbrev pub invariant-loop-place : goal.invariant-loop-place
+invariant-loop-place l =
+    record { so_far : l.ids ++ names_of (drop l.place l.queue) ≡ names_of l.queue; within : l.place ≤ length l.queue }

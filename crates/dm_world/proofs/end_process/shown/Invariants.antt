@@ -1,0 +1,7 @@
+use Rattle.std.proofs.Common.{◌≡◌, ◌≤◌, take}
+use Rattle.dm_rule.specs.Ends.{trimmed}
+use Rattle.dm_world.proofs.end_process.shown.Given as goal
+
+abbrev pub invariant-loop-place : goal.invariant-loop-place
+invariant-loop-place l =
+    record { within : l.end ≤ l.place; bytes : take l.end l.bytes ≡ trimmed (take l.place l.bytes) }

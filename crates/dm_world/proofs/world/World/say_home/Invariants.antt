@@ -1,0 +1,9 @@
+use Rattle.std.proofs.Common.{◌≡◌, ◌++◌, length}
+use Rattle.dm_rule.specs.Ends.{home_with}
+use Rattle.dm_world.specs.Ends.{process_lines}
+use Rattle.dm_world.specs.Meets.{state_of}
+use Rattle.dm_world.proofs.world.World.say_home.Given as goal
+
+abbrev pub invariant-loop-place : goal.invariant-loop-place
+invariant-loop-place l =
+    l.lines.items ≡ l.fn.lines.items ++ home_with (process_lines (length l.self.boot.machines) (state_of l.self)) l.home l.place

@@ -1,0 +1,9 @@
+use Rattle.std.proofs.Common.{◌≡◌, ◌++◌, length}
+use Rattle.dm_rule.specs.Ends.{home_with}
+use Rattle.dm_world.specs.Ends.{queue_of}
+use Rattle.dm_world.specs.Meets.{state_of}
+use Rattle.dm_world.proofs.world.World.say_home_queues.Given as goal
+
+abbrev pub invariant-loop-place : goal.invariant-loop-place
+invariant-loop-place l =
+    l.lines.items ≡ l.fn.lines.items ++ home_with (queue_of (length l.self.boot.machines) (state_of l.self)) l.home l.place

@@ -1,0 +1,10 @@
+use Rattle.std.proofs.Common.{◌≡◌, ◌++◌}
+use Rattle.dm_rule.specs.Ends.{each_machine, list_line}
+use Rattle.dm_rule.specs.declared.line.EndLine.TheVariants as end
+use Rattle.dm_world.specs.Ends.{names_of}
+use Rattle.dm_world.specs.Meets.{state_of}
+use Rattle.dm_world.proofs.world.World.say_inboxes.Given as goal
+
+abbrev pub invariant-loop-m : goal.invariant-loop-m
+invariant-loop-m l =
+    l.lines.items ≡ l.fn.lines.items ++ each_machine (λ m. list_line (end.Inbox m) (names_of ((state_of l.self).nodes m).kernel.inbox)) l.m

@@ -1,0 +1,8 @@
+use Rattle.std.proofs.Common.{◌≡◌, ◌++◌, length}
+use Rattle.dm_world.specs.Ends.{homes_with, process_lines}
+use Rattle.dm_world.specs.Meets.{state_of}
+use Rattle.dm_world.proofs.world.World.say_processes.Given as goal
+
+abbrev pub invariant-loop-home : goal.invariant-loop-home
+invariant-loop-home l =
+    l.lines.items ≡ l.fn.lines.items ++ homes_with (state_of l.self) (process_lines (length l.self.boot.machines) (state_of l.self)) l.home

@@ -1,0 +1,9 @@
+use Rattle.std.proofs.Common.{◌≡◌, ◌++◌}
+use Rattle.dm_rule.specs.Ends.{each_machine}
+use Rattle.dm_world.specs.Ends.{stream_line}
+use Rattle.dm_world.specs.Meets.{state_of}
+use Rattle.dm_world.proofs.world.World.say_streams_from.Given as goal
+
+abbrev pub invariant-loop-to : goal.invariant-loop-to
+invariant-loop-to l =
+    l.lines.items ≡ l.fn.lines.items ++ each_machine (λ c. stream_line (state_of l.self) l.from c) l.to

@@ -1,0 +1,16 @@
+use Rattle.std.proofs.Common.{◌≡◌, ℕ, length}
+use Rattle.std.specs.Prelude.{slice_get}
+use Rattle.std.specs.declared.option.Option.TheVariants.{Some}
+use Rattle.dm_node.specs.declared.node.Node.{Node}
+use Rattle.dm_node.specs.Meets.{state_of}
+use Rattle.dm_node.specs.State.{opened}
+use Rattle.dm_world.specs.Meets.{AreNodes}
+use Rattle.dm_world.proofs.world.open_all.Given as goal
+
+abbrev pub invariant-loop-here : goal.invariant-loop-here
+invariant-loop-here l =
+    record {
+      size : length l.nodes.items ≡ l.here;
+      nodes : AreNodes l.nodes.items;
+      opened : (m : ℕ) (n : Node) → slice_get l.nodes.items m ≡ Some n → state_of n ≡ opened l.boot m;
+    }

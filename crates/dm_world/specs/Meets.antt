@@ -1,0 +1,96 @@
+-- The world of the code, over the plain one.
+use Rattle.std.specs.Prelude.{◌≡◌, ⊤, ℕ, List, ◌++◌, Vec, length, slice_get}
+use Rattle.std.specs.declared.alloc.Global.{Global}
+use Rattle.std.specs.declared.option.Option.{Option}
+use Rattle.std.specs.declared.option.Option.TheVariants.{None, Some}
+use Rattle.std.specs.declared.result.Result.{Result}
+use Rattle.std.specs.declared.result.Result.TheVariants.{Ok, Err}
+use Rattle.dm_packet.specs.Lawful.{IsLawfulPacket}
+use Rattle.dm_wire.specs.Sent.{Sent}
+use Rattle.dm_wire.specs.Wire.{packets_on}
+use Rattle.dm_onekernel.specs.declared.boot.Boot.{Boot}
+use Rattle.dm_onekernel.specs.Boot.{IsValid}
+use Rattle.dm_rule.specs.declared.line.Line.{Line}
+use Rattle.dm_rule.specs.Sets.{at_machine}
+use Rattle.dm_node.specs.declared.node.Node.{Node}
+use Rattle.dm_node.specs.declared.stop.Stop.{Stop}
+use Rattle.dm_node.specs.declared.stop.Stop.TheVariants as stop
+use Rattle.dm_node.specs.declared.out.Out.{Out}
+use Rattle.dm_node.specs.declared.out.Out.TheVariants as out
+use Rattle.dm_node.specs.State.{NodeState, opened}
+use Rattle.dm_node.specs.Out.{Acted, Acts, Goes, Worn}
+use Rattle.dm_node.specs.Meets as node
+use Rattle.dm_node.specs.Meets.{HasStreams, IsWornSome}
+use Rattle.dm_node.specs.Wired.{Spoken}
+use Rattle.dm_world.specs.declared.world.World.{World}
+use Rattle.dm_world.specs.World.{WorldState, Happened, Says, WornOut}
+
+-- machine m of these; those past the end are as the boot file has them
+abbrev pub node_or : Boot → ℕ → Option Node → NodeState
+node_or b m None = opened b m
+node_or b m (Some n) = node.state_of n
+
+unfoldable pub node_in : Boot → List Node → ℕ → NodeState
+node_in b nodes m = node_or b m (slice_get nodes m)
+
+abbrev pub state_of : World → WorldState
+state_of w = record { nodes = node_in w.boot w.nodes.items; wires = packets_on w.wires; groups = w.groups }
+
+-- machine m has its streams and its number
+pub record IsNode (m : ℕ) (n : Node) : Type 0 where
+  pub streams : HasStreams n
+  pub here : n.kernel.here ≡ m
+
+pub record AreNodes (nodes : List Node) : Type 0 where
+  pub each : (m : ℕ) (n : Node) → slice_get nodes m ≡ Some n → IsNode m n
+
+-- the boot file is valid, and there are its machines
+pub record IsWorld (w : World) : Type 0 where
+  pub valid : IsValid w.boot
+  pub machines : length w.nodes.items ≡ length w.boot.machines
+  pub nodes : AreNodes w.nodes.items
+
+-- machine m of some machines has acted, and gave this; the others are as they were
+pub record ActedAt (b : Boot) (old new : List Node) (m : ℕ) (gave : List Out) (a : Acted) : Type 0 where
+  pub nodes : (c : ℕ) → node_in b new c ≡ at_machine (node_in b old) m a.state c
+  pub size : length new ≡ length old
+  pub are : AreNodes new
+  pub outs : gave ≡ a.outs
+
+abbrev pub ActedSome : Boot → List Node → List Node → ℕ → List Out → Option Acts → Type 0
+ActedSome b old new m outs None = ⊥
+ActedSome b old new m outs (Some (Goes a)) = ActedAt b old new m outs a
+ActedSome b old new m outs (Some (Worn from to)) = ⊥
+
+abbrev pub TurnAnswers : Result (Vec Out Global) Stop → Boot → List Node → List Node → ℕ → Option Acts → Type 0
+TurnAnswers (Ok outs) b old new m o = ActedSome b old new m outs.items o
+TurnAnswers (Err (stop.Worn from to)) b old new m o = IsWornSome from to o
+TurnAnswers (Err (stop.NoMemory e)) b old new m o = ⊤
+
+-- each packet can be encoded
+abbrev pub IsSendable : Out → Type 0
+IsSendable (out.Says l) = ⊤
+IsSendable (out.Sends p) = IsLawfulPacket p
+
+-- these lines are said behind those that there were, and these packets put on the wires
+pub record Spoke (old new : List Line) (now : ℕ → ℕ → List Sent) (s : Spoken) : Type 0 where
+  pub lines : new ≡ old ++ s.lines
+  pub wires : (a c : ℕ) → now a c ≡ s.wires a c
+
+-- the world is in this state, and the lines are these
+pub record Meets (w : WorldState) (lines : List Line) (h : Happened) : Type 0 where
+  pub happened : Says (record { state = w; lines = lines }) ≡ h
+
+abbrev pub MeetsSome : WorldState → List Line → Option Happened → Type 0
+MeetsSome w lines None = ⊥
+MeetsSome w lines (Some h) = Meets w lines h
+
+abbrev pub IsWornOut : ℕ → ℕ → Option Happened → Type 0
+IsWornOut from to None = ⊥
+IsWornOut from to (Some h) = WornOut from to ≡ h
+
+-- the code does this, or has no memory
+abbrev pub Answers : Result (Vec Line Global) Stop → WorldState → Option Happened → Type 0
+Answers (Ok lines) w o = MeetsSome w lines.items o
+Answers (Err (stop.Worn from to)) w o = IsWornOut from to o
+Answers (Err (stop.NoMemory e)) w o = ⊤

@@ -1,0 +1,241 @@
+//! The lines at the end of a run.
+ghost use Rattle.std.specs.Prelude.{◌≡◌, ◌<◌, ◌≤◌, ◌+◌, ◌^◌, ◌++◌, IfOk, OnOk, length};
+ghost use Rattle.dm_forward.specs.Records.{at};
+ghost use Rattle.dm_node.specs.Meets as node;
+ghost use Rattle.dm_node.specs.Meets.{HasStreams};
+ghost use Rattle.dm_rule.specs.Ends.{each_machine, home_with, list_line};
+ghost use Rattle.dm_rule.specs.declared.line.EndLine.TheVariants as end;
+ghost use Rattle.dm_world.specs.Ends.{MayEnd, SaysSome, end_lines, homes_with, names_of, process_lines, queue_of, record_lines, record_queue, stream_line};
+ghost use Rattle.dm_world.specs.Meets.{IsWorld, state_of};
+
+use crate::end_messages::{ids_of, untaken_ids};
+use crate::end_process::say_here;
+use crate::end_servers::say_servers;
+use crate::world::World;
+use dm_forward::Record;
+use dm_link::Pid;
+use dm_memory::NoMemory;
+use dm_node::Node;
+use dm_rule::line::{EndLine, Line};
+
+/// The number of the first process that a machine makes.
+const FIRST_NUMBER: u32 = 3;
+
+impl World {
+    /// The lines at the end of a run: where everything stands then.
+    pub fn end_lines(&self) -> Result<Vec<Line>, NoMemory>
+        requires world { IsWorld self.now }
+        requires may { MayEnd (length self.now.boot.machines) (state_of self.now) }
+        ensures { IfOk result (λ lines. lines.items ≡ end_lines (length self.now.boot.machines) (state_of self.now)) }
+    {
+        let mut lines = Vec::new(self.alloc);
+        lines.push(Line::End(EndLine::Final))?;
+        self.say_processes(&mut lines)?;
+        say_servers(&self.machine(0).kernel, &mut lines)?;
+        self.say_queues(&mut lines)?;
+        self.say_inboxes(&mut lines)?;
+        self.say_streams(&mut lines)?;
+        lines.push(Line::End(EndLine::Groups(self.groups)))?;
+        Ok(lines)
+    }
+
+    /// A machine.
+    fn machine(&self, m: u8) -> &Node
+        requires world { IsWorld self.now }
+        requires within { m < length self.now.boot.machines }
+        ensures state { node.state_of result.now ≡ (state_of self.now).nodes m }
+        ensures streams { HasStreams result.now }
+    {
+        &self.nodes[usize::from(m)]
+    }
+
+    /// How many processes a machine made.
+    fn made(&self, home: u8) -> u32
+        requires world { IsWorld self.now }
+        requires may { MayEnd (length self.now.boot.machines) (state_of self.now) }
+        requires within { home < length self.now.boot.machines }
+        ensures all { result ≡ ((state_of self.now).nodes home).kernel.made }
+        ensures numbered { 3 + result ≤ 2 ^ 32 }
+    {
+        self.machine(home).kernel.made
+    }
+
+    /// The lines of each process that was ever made, by home and by number.
+    fn say_processes(&self, lines: &mut Vec<Line>) -> Result<(), NoMemory>
+        requires world { IsWorld self.now }
+        requires may { MayEnd (length self.now.boot.machines) (state_of self.now) }
+        ensures { OnOk result (lines.new.items ≡ lines.old.items ++ homes_with (state_of self.now) (process_lines (length self.now.boot.machines) (state_of self.now)) (length self.now.boot.machines)) }
+    {
+        for home in 0..self.machines() {
+            self.say_home(home, lines)?;
+        }
+        Ok(())
+    }
+
+    /// The lines of each process that a machine made.
+    fn say_home(&self, home: u8, lines: &mut Vec<Line>) -> Result<(), NoMemory>
+        requires world { IsWorld self.now }
+        requires may { MayEnd (length self.now.boot.machines) (state_of self.now) }
+        requires within { home < length self.now.boot.machines }
+        ensures { OnOk result (lines.new.items ≡ lines.old.items ++ home_with (process_lines (length self.now.boot.machines) (state_of self.now)) home ((state_of self.now).nodes home).kernel.made) }
+    {
+        for place in 0..self.made(home) {
+            let pid = Pid {
+                home,
+                num: FIRST_NUMBER + place,
+            };
+            self.say_process(pid, lines)?;
+        }
+        Ok(())
+    }
+
+    /// The lines of a process, by the first machine that says something of it.
+    fn say_process(&self, pid: Pid, lines: &mut Vec<Line>) -> Result<(), NoMemory>
+        requires { IsWorld self.now }
+        ensures { OnOk result (lines.new.items ≡ lines.old.items ++ process_lines (length self.now.boot.machines) (state_of self.now) pid) }
+    {
+        for m in 0..self.machines() {
+            if say_known(self.machine(m), m, pid, lines)? {
+                return Ok(());
+            }
+        }
+        Ok(())
+    }
+
+    /// The queue of each process that was ever made, by home and by number.
+    fn say_queues(&self, lines: &mut Vec<Line>) -> Result<(), NoMemory>
+        requires world { IsWorld self.now }
+        requires may { MayEnd (length self.now.boot.machines) (state_of self.now) }
+        ensures { OnOk result (lines.new.items ≡ lines.old.items ++ homes_with (state_of self.now) (queue_of (length self.now.boot.machines) (state_of self.now)) (length self.now.boot.machines)) }
+    {
+        for home in 0..self.machines() {
+            self.say_home_queues(home, lines)?;
+        }
+        Ok(())
+    }
+
+    /// The queue of each process that a machine made.
+    fn say_home_queues(&self, home: u8, lines: &mut Vec<Line>) -> Result<(), NoMemory>
+        requires world { IsWorld self.now }
+        requires may { MayEnd (length self.now.boot.machines) (state_of self.now) }
+        requires within { home < length self.now.boot.machines }
+        ensures { OnOk result (lines.new.items ≡ lines.old.items ++ home_with (queue_of (length self.now.boot.machines) (state_of self.now)) home ((state_of self.now).nodes home).kernel.made) }
+    {
+        for place in 0..self.made(home) {
+            let pid = Pid {
+                home,
+                num: FIRST_NUMBER + place,
+            };
+            self.say_queue(pid, lines)?;
+        }
+        Ok(())
+    }
+
+    /// The queue of a process, on the machine where it is.
+    fn say_queue(&self, pid: Pid, lines: &mut Vec<Line>) -> Result<(), NoMemory>
+        requires { IsWorld self.now }
+        ensures { OnOk result (lines.new.items ≡ lines.old.items ++ queue_of (length self.now.boot.machines) (state_of self.now) pid) }
+    {
+        for m in 0..self.machines() {
+            if say_known_queue(self.machine(m), pid, lines)? {
+                return Ok(());
+            }
+        }
+        Ok(())
+    }
+
+    /// The inbox of each machine.
+    fn say_inboxes(&self, lines: &mut Vec<Line>) -> Result<(), NoMemory>
+        requires { IsWorld self.now }
+        ensures { OnOk result (lines.new.items ≡ lines.old.items ++ each_machine (λ m. list_line (end.Inbox m) (names_of ((state_of self.now).nodes m).kernel.inbox)) (length self.now.boot.machines)) }
+    {
+        for m in 0..self.machines() {
+            say_inbox(self.machine(m), m, lines)?;
+        }
+        Ok(())
+    }
+
+    /// What was given to each stream and not taken yet.
+    fn say_streams(&self, lines: &mut Vec<Line>) -> Result<(), NoMemory>
+        requires { IsWorld self.now }
+        ensures { OnOk result (lines.new.items ≡ lines.old.items ++ each_machine (λ a. each_machine (λ c. stream_line (state_of self.now) a c) (length self.now.boot.machines)) (length self.now.boot.machines)) }
+    {
+        for from in 0..self.machines() {
+            self.say_streams_from(from, lines)?;
+        }
+        Ok(())
+    }
+
+    /// What a machine gave to its streams and was not taken yet.
+    fn say_streams_from(&self, from: u8, lines: &mut Vec<Line>) -> Result<(), NoMemory>
+        requires world { IsWorld self.now }
+        requires within { from < length self.now.boot.machines }
+        ensures { OnOk result (lines.new.items ≡ lines.old.items ++ each_machine (λ c. stream_line (state_of self.now) from c) (length self.now.boot.machines)) }
+    {
+        for to in 0..self.machines() {
+            self.say_stream(from, to, lines)?;
+        }
+        Ok(())
+    }
+
+    /// What was given to a stream and not taken yet.
+    fn say_stream(&self, from: u8, to: u8, lines: &mut Vec<Line>) -> Result<(), NoMemory>
+        requires world { IsWorld self.now }
+        requires from { from < length self.now.boot.machines }
+        requires to { to < length self.now.boot.machines }
+        ensures { OnOk result (lines.new.items ≡ lines.old.items ++ stream_line (state_of self.now) from to) }
+    {
+        if from == to {
+            return Ok(());
+        }
+        let ids = untaken_ids(self.machine(from), self.machine(to), from, to)?;
+        if ids.len() > 0 {
+            lines.push(Line::End(EndLine::Stream { from, to, ids }))?;
+        }
+        Ok(())
+    }
+}
+
+/// The lines of a process on machine `m`, if it says something of it; whether it does.
+fn say_known(node: &Node, m: u8, pid: Pid, lines: &mut Vec<Line>) -> Result<bool, NoMemory>
+    ensures { IfOk result (λ said. SaysSome said lines.old.items lines.new.items (record_lines m pid (at node.now.kernel.records pid))) }
+{
+    match node.kernel.records.get(pid) {
+        Some(Record::Here(process)) => {
+            say_here(m, pid, process, lines)?;
+            Ok(true)
+        }
+        Some(Record::Ended(why)) => {
+            lines.push(Line::End(EndLine::Ended { pid, why: *why }))?;
+            Ok(true)
+        }
+        _ => Ok(false),
+    }
+}
+
+/// The queue of a process, if it is on this machine; whether it is.
+fn say_known_queue(node: &Node, pid: Pid, lines: &mut Vec<Line>) -> Result<bool, NoMemory>
+    ensures { IfOk result (λ said. SaysSome said lines.old.items lines.new.items (record_queue pid (at node.now.kernel.records pid))) }
+{
+    match node.kernel.records.get(pid) {
+        Some(Record::Here(process)) => {
+            let ids = ids_of(node.alloc, &process.queue)?;
+            if ids.len() > 0 {
+                lines.push(Line::End(EndLine::Queue { pid, ids }))?;
+            }
+            Ok(true)
+        }
+        _ => Ok(false),
+    }
+}
+
+/// The inbox of a machine.
+fn say_inbox(node: &Node, machine: u8, lines: &mut Vec<Line>) -> Result<(), NoMemory>
+    ensures { OnOk result (lines.new.items ≡ lines.old.items ++ list_line (end.Inbox machine) (names_of node.now.kernel.inbox)) }
+{
+    let ids = ids_of(node.alloc, &node.kernel.inbox)?;
+    if ids.len() > 0 {
+        lines.push(Line::End(EndLine::Inbox { machine, ids }))?;
+    }
+    Ok(())
+}

@@ -1,0 +1,248 @@
+//! What a directive does.
+ghost use Rattle.std.specs.Prelude.{◌≡◌, ◌<◌, ◌+◌, ◌^◌, ◌∷◌, ℕ, IfOk, IfSome, IsOk, OnErr, OnOk, None, Ok, Some, [], false, length, option_map, true};
+ghost use Rattle.std.specs.List.{All};
+ghost use Rattle.dm_onekernel.specs.Boot.{images_are_valid};
+ghost use Rattle.dm_packet.specs.Packets.{packet_of};
+ghost use Rattle.dm_schedule.specs.declared.Step.TheVariants as directive;
+ghost use Rattle.dm_wire.specs.Sent.{bytes_at};
+ghost use Rattle.dm_wire.specs.Wire.{packets_on};
+ghost use Rattle.dm_kernel.specs.Lawful.{IsLawfulState};
+ghost use Rattle.dm_node.specs.Acts as node;
+ghost use Rattle.dm_node.specs.declared.out.Out.TheVariants as out;
+ghost use Rattle.dm_node.specs.May.{MayAct, MayArrivePacket, MayTurn};
+ghost use Rattle.dm_node.specs.Wired.{spoken};
+ghost use Rattle.dm_rule.specs.declared.line.Line.TheVariants as line;
+ghost use Rattle.dm_world.specs.Local.{ActsAlone, acts_on};
+ghost use Rattle.dm_world.specs.May.{MayDeliver, MayStep};
+ghost use Rattle.dm_world.specs.Meets.{ActedAt, Answers, AreNodes, IsSendable, IsWorld, TurnAnswers, node_in, state_of};
+ghost use Rattle.dm_world.specs.Readable.{AreReadBack, gave};
+ghost use Rattle.dm_world.specs.World.{world_step};
+
+use crate::speak::speak;
+use crate::world::World;
+use dm_memory::NoMemory;
+use dm_node::{Node, Out, Stop};
+use dm_onekernel::Boot;
+use dm_packet::{Packet, decode};
+use dm_rule::line::Line;
+use dm_schedule::Step;
+use dm_wire::Wire;
+use std::alloc::Global;
+
+impl World {
+    /// Does what a directive says: the lines of its group, its head first. It stops as worn exactly where a machine has
+    /// a message to route to a machine to which it has routed as many as it may. A world that stops takes no further
+    /// directive.
+    pub fn step(&mut self, step: &Step) -> Result<Vec<Line>, Stop>
+        requires world { IsWorld self.old }
+        requires running { self.old.stopped ≡ false }
+        requires may { MayStep self.old.boot (state_of self.old) step.now }
+        requires groups { self.old.groups < 2 ^ 127 }
+        ensures answers { Answers result (state_of self.new) (world_step self.old.boot (state_of self.old) step.now) }
+        ensures world { OnOk result (IsWorld self.new) }
+        ensures alone { OnOk result (ActsAlone (acts_on step.now) (state_of self.old) (state_of self.new)) }
+        ensures again { OnOk result (AreReadBack (gave self.old.boot (state_of self.old) step.now)) }
+        ensures boot { self.new.boot ≡ self.old.boot }
+        ensures running { OnOk result (self.new.stopped ≡ false) }
+        ensures stopped { OnErr result (self.new.stopped ≡ true) }
+    {
+        match self.act(step) {
+            Ok(lines) => Ok(lines),
+            Err(stop) => {
+                self.stopped = true;
+                Err(stop)
+            }
+        }
+    }
+
+    /// Lets the machine of a directive act.
+    fn act(&mut self, step: &Step) -> Result<Vec<Line>, Stop>
+        requires world { IsWorld self.old }
+        requires may { MayStep self.old.boot (state_of self.old) step.now }
+        requires groups { self.old.groups < 2 ^ 127 }
+        ensures answers { Answers result (state_of self.new) (world_step self.old.boot (state_of self.old) step.now) }
+        ensures world { OnOk result (IsWorld self.new) }
+        ensures again { OnOk result (AreReadBack (gave self.old.boot (state_of self.old) step.now)) }
+        ensures boot { self.new.boot ≡ self.old.boot }
+        ensures stopped { self.new.stopped ≡ self.old.stopped }
+    {
+        match *step {
+            Step::Turn(m) => self.turn(m),
+            Step::Tick(m) => self.tick(m),
+            Step::Deliver { a, b, k } => self.deliver(a, b, k),
+            Step::Migrate { .. } => unreachable!(),
+        }
+    }
+
+    /// A machine takes a turn.
+    fn turn(&mut self, m: u8) -> Result<Vec<Line>, Stop>
+        requires world { IsWorld self.old }
+        requires may { MayStep self.old.boot (state_of self.old) (directive.Turn m) }
+        requires groups { self.old.groups < 2 ^ 127 }
+        ensures answers { Answers result (state_of self.new) (world_step self.old.boot (state_of self.old) (directive.Turn m)) }
+        ensures world { OnOk result (IsWorld self.new) }
+        ensures again { OnOk result (AreReadBack (gave self.old.boot (state_of self.old) (directive.Turn m))) }
+        ensures boot { self.new.boot ≡ self.old.boot }
+        ensures stopped { self.new.stopped ≡ self.old.stopped }
+    {
+        let outs = take_turn(self.alloc, &mut self.nodes, &self.boot, m)?;
+        let lines = self.group(Step::Turn(m), outs)?;
+        Ok(lines)
+    }
+
+    /// A machine sends again what is out and not acknowledged.
+    fn tick(&mut self, m: u8) -> Result<Vec<Line>, Stop>
+        requires world { IsWorld self.old }
+        requires may { MayStep self.old.boot (state_of self.old) (directive.Tick m) }
+        requires groups { self.old.groups < 2 ^ 127 }
+        ensures answers { Answers result (state_of self.new) (world_step self.old.boot (state_of self.old) (directive.Tick m)) }
+        ensures world { OnOk result (IsWorld self.new) }
+        ensures again { OnOk result (AreReadBack (gave self.old.boot (state_of self.old) (directive.Tick m))) }
+        ensures boot { self.new.boot ≡ self.old.boot }
+        ensures stopped { self.new.stopped ≡ self.old.stopped }
+    {
+        let outs = send_again(self.alloc, &self.boot, &self.nodes, m)?;
+        let lines = self.group(Step::Tick(m), outs)?;
+        Ok(lines)
+    }
+
+    /// A packet arrives, if there is one with this number.
+    fn deliver(&mut self, a: u8, b: u8, k: u64) -> Result<Vec<Line>, Stop>
+        requires world { IsWorld self.old }
+        requires may { MayStep self.old.boot (state_of self.old) (directive.Deliver a b k) }
+        requires groups { self.old.groups < 2 ^ 127 }
+        ensures answers { Answers result (state_of self.new) (world_step self.old.boot (state_of self.old) (directive.Deliver a b k)) }
+        ensures world { OnOk result (IsWorld self.new) }
+        ensures again { OnOk result (AreReadBack (gave self.old.boot (state_of self.old) (directive.Deliver a b k))) }
+        ensures boot { self.new.boot ≡ self.old.boot }
+        ensures stopped { self.new.stopped ≡ self.old.stopped }
+    {
+        match read(&self.wires, a, b, k) {
+            Some(packet) => self.take(a, b, k, packet),
+            None => self.find_nothing(a, b, k),
+        }
+    }
+
+    /// The packet with this number arrives.
+    fn take(&mut self, a: u8, b: u8, k: u64, packet: Packet) -> Result<Vec<Line>, Stop>
+        requires world { IsWorld self.old }
+        requires may { MayStep self.old.boot (state_of self.old) (directive.Deliver a b k) }
+        requires groups { self.old.groups < 2 ^ 127 }
+        requires packet { option_map packet_of (bytes_at (packets_on self.old.wires a b) k) ≡ Some (Ok packet) }
+        ensures answers { Answers result (state_of self.new) (world_step self.old.boot (state_of self.old) (directive.Deliver a b k)) }
+        ensures world { OnOk result (IsWorld self.new) }
+        ensures again { OnOk result (AreReadBack (gave self.old.boot (state_of self.old) (directive.Deliver a b k))) }
+        ensures boot { self.new.boot ≡ self.old.boot }
+        ensures stopped { self.new.stopped ≡ self.old.stopped }
+    {
+        self.wires.mark(a, b, k);
+        let outs = receive(self.alloc, &mut self.nodes, &self.boot, b, packet)?;
+        let lines = self.group(Step::Deliver { a, b, k }, outs)?;
+        Ok(lines)
+    }
+
+    /// There is no packet with this number.
+    fn find_nothing(&mut self, a: u8, b: u8, k: u64) -> Result<Vec<Line>, Stop>
+        requires world { IsWorld self.old }
+        requires groups { self.old.groups < 2 ^ 127 }
+        requires none { bytes_at (packets_on self.old.wires a b) k ≡ None }
+        ensures answers { Answers result (state_of self.new) (world_step self.old.boot (state_of self.old) (directive.Deliver a b k)) }
+        ensures world { OnOk result (IsWorld self.new) }
+        ensures again { OnOk result (AreReadBack (gave self.old.boot (state_of self.old) (directive.Deliver a b k))) }
+        ensures boot { self.new.boot ≡ self.old.boot }
+        ensures stopped { self.new.stopped ≡ self.old.stopped }
+    {
+        let outs = nothing(self.alloc)?;
+        let lines = self.group(Step::Deliver { a, b, k }, outs)?;
+        Ok(lines)
+    }
+
+    /// The group of a directive that comes to this: its head first.
+    fn group(&mut self, step: Step, outs: Vec<Out>) -> Result<Vec<Line>, NoMemory>
+        requires outs { All IsSendable outs.items }
+        requires groups { self.old.groups < 2 ^ 127 }
+        ensures lines { IfOk result (λ lines. lines.items ≡ line.Head step ∷ (spoken (packets_on self.old.wires) outs.items).lines) }
+        ensures wires { OnOk result ((x y : ℕ) → packets_on self.new.wires x y ≡ (spoken (packets_on self.old.wires) outs.items).wires x y) }
+        ensures groups { OnOk result (self.new.groups ≡ self.old.groups + 1) }
+        ensures again { OnOk result (AreReadBack outs.items) }
+        ensures nodes { self.new.nodes ≡ self.old.nodes }
+        ensures boot { self.new.boot ≡ self.old.boot }
+        ensures stopped { self.new.stopped ≡ self.old.stopped }
+    {
+        let mut lines = vec![in self.alloc; Line::Head(step)]?;
+        speak(self.alloc, &mut self.wires, outs, &mut lines)?;
+        self.groups += 1;
+        Ok(lines)
+    }
+}
+
+/// Machine `m` takes a turn; what it gives.
+fn take_turn(alloc: Global, nodes: &mut [Node], boot: &Boot, m: u8) -> Result<Vec<Out>, Stop>
+    requires within { m < length nodes.old }
+    requires nodes { AreNodes nodes.old }
+    requires may { MayTurn boot.now (node_in boot.now nodes.old m) }
+    requires images { images_are_valid boot.now.images ≡ true }
+    requires lawful { IsLawfulState (node_in boot.now nodes.old m).kernel }
+    ensures answers { TurnAnswers result boot.now nodes.old nodes.new m (node.turn boot.now (node_in boot.now nodes.old m)) }
+    ensures outs { IfOk result (λ outs. All IsSendable outs.items) }
+{
+    let mut outs = Vec::new(alloc);
+    match nodes[usize::from(m)].turn(boot, &mut outs) {
+        Ok(()) => Ok(outs),
+        Err(stop) => Err(stop),
+    }
+}
+
+/// What machine `m` sends again.
+fn send_again(alloc: Global, boot: &Boot, nodes: &[Node], m: u8) -> Result<Vec<Out>, NoMemory>
+    requires within { m < length nodes.now }
+    requires nodes { AreNodes nodes.now }
+    requires may { MayAct (node_in boot.now nodes.now m) }
+    ensures answers { IfOk result (λ outs. ActedAt boot.now nodes.now nodes.now m outs.items (node.tick (node_in boot.now nodes.now m))) }
+    ensures outs { IfOk result (λ outs. All IsSendable outs.items) }
+{
+    let mut outs = Vec::new(alloc);
+    nodes[usize::from(m)].tick(&mut outs)?;
+    Ok(outs)
+}
+
+/// A packet comes to machine `m`; what it gives.
+fn receive(
+    alloc: Global,
+    nodes: &mut [Node],
+    boot: &Boot,
+    m: u8,
+    packet: Packet,
+) -> Result<Vec<Out>, NoMemory>
+    requires within { m < length nodes.old }
+    requires nodes { AreNodes nodes.old }
+    requires may { MayArrivePacket (node_in boot.now nodes.old m) packet }
+    ensures answers { IfOk result (λ outs. ActedAt boot.now nodes.old nodes.new m outs.items (node.arrives_packet (node_in boot.now nodes.old m) packet)) }
+    ensures outs { IfOk result (λ outs. All IsSendable outs.items) }
+{
+    let mut outs = Vec::new(alloc);
+    nodes[usize::from(m)].arrive(packet, &mut outs)?;
+    Ok(outs)
+}
+
+/// What is said where there is no such packet.
+fn nothing(alloc: Global) -> Result<Vec<Out>, NoMemory>
+    ensures { IfOk result (λ outs. outs.items ≡ out.Says line.Nothing ∷ []) }
+{
+    Ok(vec![in alloc; Out::Says(Line::Nothing)]?)
+}
+
+/// The packet with this number on the wire from `a` to `b`.
+fn read(wires: &Wire, a: u8, b: u8, k: u64) -> Option<Packet>
+    requires machines { (a < 16) × (b < 16) }
+    requires reads { IfSome (bytes_at (packets_on wires.now a b) k) (λ bytes. IsOk (packet_of bytes)) }
+    ensures { option_map packet_of (bytes_at (packets_on wires.now a b) k) ≡ option_map Ok result }
+{
+    match wires.packet(a, b, k) {
+        Some(bytes) => match decode(bytes) {
+            Ok(packet) => Some(packet),
+            Err(_) => unreachable!(),
+        },
+        None => None,
+    }
+}

@@ -1,0 +1,80 @@
+//! All machines and the wires between them.
+ghost use Rattle.std.specs.Prelude.{◌≡◌, ◌<◌, ◌≤◌, ℕ, IfOk, Some, false, length, slice_get};
+ghost use Rattle.dm_onekernel.specs.Boot.{IsValid};
+ghost use Rattle.dm_node.specs.declared.node.Node.{Node as TheNode};
+ghost use Rattle.dm_node.specs.Meets as node;
+ghost use Rattle.dm_node.specs.State.{opened};
+ghost use Rattle.dm_world.specs.Meets.{AreNodes, IsNode, IsWorld, state_of};
+ghost use Rattle.dm_world.specs.World.{first_world};
+
+use dm_memory::NoMemory;
+use dm_node::Node;
+use dm_onekernel::Boot;
+use dm_wire::Wire;
+use std::alloc::Global;
+
+/// A system that runs.
+#[derive(Drop)]
+pub struct World {
+    pub alloc: Global,
+    pub boot: Boot,
+    /// The machines of the boot file.
+    pub nodes: Vec<Node>,
+    pub wires: Wire,
+    /// How many directives there were.
+    pub groups: u128,
+    /// A world that stopped before the end of a directive takes no further one.
+    pub stopped: bool,
+}
+
+impl World {
+    /// The system of a boot file, before its first directive.
+    pub fn boot(alloc: Global, boot: Boot) -> Result<World, NoMemory>
+        requires { IsValid boot }
+        ensures state { IfOk result (λ w. state_of w ≡ first_world boot) }
+        ensures world { IfOk result IsWorld }
+        ensures boot { IfOk result (λ w. w.boot ≡ boot) }
+        ensures running { IfOk result (λ w. w.stopped ≡ false) }
+    {
+        let nodes = open_all(alloc, &boot)?;
+        Ok(World {
+            alloc,
+            boot,
+            nodes,
+            wires: Wire::new(alloc),
+            groups: 0,
+            stopped: false,
+        })
+    }
+
+    /// Whether it stopped before the end of a directive.
+    pub fn stopped(&self) -> bool
+        ensures { result ≡ self.now.stopped }
+    {
+        self.stopped
+    }
+
+    /// How many machines there are.
+    pub(crate) fn machines(&self) -> u8
+        requires { IsWorld self.now }
+        ensures all { result ≡ length self.now.boot.machines }
+        ensures few { result ≤ 16 }
+    {
+        self.boot.machines.len() as u8
+    }
+}
+
+/// The machines as the boot file has them.
+fn open_all(alloc: Global, boot: &Boot) -> Result<Vec<Node>, NoMemory>
+    requires { IsValid boot.now }
+    ensures size { IfOk result (λ nodes. length nodes.items ≡ length boot.now.machines) }
+    ensures nodes { IfOk result (λ nodes. AreNodes nodes.items) }
+    ensures opened { IfOk result (λ nodes. (m : ℕ) (n : TheNode) → slice_get nodes.items m ≡ Some n → node.state_of n ≡ opened boot.now m) }
+{
+    let machines = boot.machines.len() as u8;
+    let mut nodes = Vec::new(alloc);
+    for here in 0..machines {
+        nodes.push(Node::new(alloc, boot, here)?)?;
+    }
+    Ok(nodes)
+}
