@@ -11,7 +11,7 @@ use Rattle.std.proofs.lemmas.Option.{slice_get_within}
 use Rattle.dm_message.specs.declared.Message.{Message}
 use Rattle.dm_packet.specs.declared.Packet.TheVariants as packet
 use Rattle.dm_packet.specs.Packets.{packet_of, spelling}
-use Rattle.dm_stream.specs.Sending.{Sending, due, given_count, numbered, outstanding, with_acked, with_given, with_sent}
+use Rattle.dm_stream.specs.Sending.{Sending, due, numbered, outstanding, with_acked, with_given, with_sent}
 use Rattle.dm_stream.proofs.Lists.{get-drop}
 use Rattle.dm_mirror.proofs.DeliverKept.{less_test}
 use Rattle.dm_world.specs.Readable.{SenderReads}

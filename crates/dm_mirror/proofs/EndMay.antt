@@ -1,16 +1,14 @@
 -- Where the world stands, its lines at the end can be said.
-use Rattle.std.proofs.Common.{◌≡◌, ℕ, ◌+◌, ◌≤◌, ◌<◌, List, ◌∷◌, [], length, map, ap, sym, subst, refl, ◌∙◌, arith}
+use Rattle.std.proofs.Common.{◌≡◌, ℕ, ◌<◌, List, ◌∷◌, [], length, map, ap, sym, subst, refl, ◌∙◌, arith}
 use Rattle.std.specs.Option.{IfSome}
 use Rattle.std.specs.declared.option.Option.{Option}
 use Rattle.std.specs.declared.option.Option.TheVariants.{None, Some}
-use Rattle.dm_link.specs.declared.Addr.{Addr}
-use Rattle.dm_onekernel.specs.Boot.{first_number}
 use Rattle.dm_onekernel.specs.Kernel.{Manager}
 use Rattle.dm_procman.specs.Managing.{plain_child}
 use Rattle.dm_kernel.specs.Lawful.{IsLawfulPair}
 use Rattle.dm_kernel.specs.declared.kernel.Servers.{Servers}
 use Rattle.dm_placed.specs.Placed.{Placed}
-use Rattle.dm_world.specs.Ends.{HasPlainEnd, MayEnd}
+use Rattle.dm_world.specs.Ends.{HasPlainEnd}
 use Rattle.dm_mirror.specs.Laws.{EndMay}
 use Rattle.dm_mirror.specs.Stands.{servers_at}
 use Rattle.dm_mirror.proofs.Counts.{CountsFew, counts_few}

@@ -16,11 +16,11 @@ use Rattle.dm_schedule.specs.declared.Step.{Step}
 use Rattle.dm_schedule.specs.declared.Step.TheVariants as step
 use Rattle.dm_kernel.specs.State.{Turned}
 use Rattle.dm_kernel.specs.Turn as kernel
-use Rattle.dm_node.specs.Out.{Acted, Acts, Goes, Worn}
+use Rattle.dm_node.specs.Out.{Acts, Goes, Worn}
 use Rattle.dm_node.specs.Acts as node
 use Rattle.dm_node.specs.May as node_may
 use Rattle.dm_rule.specs.declared.line.Line.TheVariants as line
-use Rattle.dm_world.specs.World.{WorldState, Said, Says, WornOut, acted, delivers, reads, turned, world_step}
+use Rattle.dm_world.specs.World.{WorldState, Said, Says, acted, delivers, reads, turned, world_step}
 use Rattle.dm_world.specs.May.{MayDeliver, MayRead, MayStep}
 use Rattle.dm_world.specs.Readable.{AreReadBack, IsReadable, gave, gave_bytes, gave_read, gave_some}
 use Rattle.dm_mirror.proofs.DeliverKeeps.{arrival_readable, tick_readable, turn_readable}

@@ -1,7 +1,6 @@
 -- What is left to do is for the machines that there are, and moves no process.
-use Rattle.std.specs.Prelude.{◌≢◌, ⊤, ℕ, ◌<◌, List}
+use Rattle.std.specs.Prelude.{◌≢◌, ⊤, ℕ, ◌<◌}
 use Rattle.std.specs.List.{All}
-use Rattle.dm_schedule.specs.declared.Step.{Step}
 use Rattle.dm_schedule.specs.declared.Directive.{Directive}
 use Rattle.dm_schedule.specs.declared.Directive.TheVariants as directive
 use Rattle.dm_rule.specs.Good.{Two, Todo}

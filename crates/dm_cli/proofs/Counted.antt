@@ -1,0 +1,82 @@
+-- Each elementary directive counts as one, and not too many are left of a directive.
+use Rattle.std.proofs.Common.{◌≡◌, ◌≤◌, ◌<◌, ℕ, zero, suc, ◌+◌, ◌-◌, ◌*◌, ◌^◌, List, [], ◌∷◌, ◌++◌, refl, ap, ◌∙◌, sym, subst, arith}
+use Rattle.std.specs.declared.option.Option.{Option}
+use Rattle.std.specs.declared.option.Option.TheVariants.{None, Some}
+use Rattle.std.specs.declared.result.Result.{Result}
+use Rattle.std.specs.declared.result.Result.TheVariants.{Ok, Err}
+use Rattle.dm_packet.specs.declared.Packet.{Packet}
+use Rattle.dm_packet.specs.declared.Packet.TheVariants as packet
+use Rattle.dm_packet.specs.declared.Bad.{Bad}
+use Rattle.dm_packet.specs.Packets.{packet_of}
+use Rattle.dm_wire.specs.Sent.{bytes_at}
+use Rattle.dm_wire.specs.Wire.{after_mark}
+use Rattle.dm_onekernel.specs.declared.boot.Boot.{Boot}
+use Rattle.dm_schedule.specs.declared.Step.{Step}
+use Rattle.dm_schedule.specs.declared.Step.TheVariants as step
+use Rattle.dm_rule.specs.declared.line.Line.{Line}
+use Rattle.dm_rule.specs.declared.line.Line.TheVariants as line
+use Rattle.dm_stream.specs.Packets.{Data, Ack}
+use Rattle.dm_node.specs.Out.{Acts, Goes, Worn}
+use Rattle.dm_node.specs.Acts as node
+use Rattle.dm_world.specs.declared.cursor.Cursor.{Cursor}
+use Rattle.dm_world.specs.declared.cursor.Stage.{Stage}
+use Rattle.dm_world.specs.declared.cursor.Stage.TheVariants.{One, Packets, Turns, Between}
+use Rattle.dm_world.specs.Cursor.{sum_below, room_of, room, turns_at, left}
+use Rattle.dm_world.specs.Meets.{MeetsSome, IsWornOut}
+use Rattle.dm_world.specs.World.{WorldState, Said, Happened, Says, WornOut, acted, turned, delivers, reads, world_step}
+
+abbrev nothing : WorldState → Step → Said
+nothing w e = record { state = record w { groups = w.groups + 1 }; lines = line.Head e ∷ line.Nothing ∷ [] }
+
+turned_counts : (w : WorldState) (e : Step) (m : ℕ) (o : Option Acts) (s : Said) → turned w e m o ≡ Some (Says s) → s.state.groups ≡ w.groups + 1
+turned_counts w e m None s is = cc
+turned_counts w e m (Some (Goes d)) s is = let f : acted w e m d ≡ s = cc in sym (ap (λ (x : Said). x.state.groups) f)
+turned_counts w e m (Some (Worn from to)) s is = let bad : WornOut from to ≡ Says s = cc in cc
+
+reads_counts : (w : WorldState) (e : Step) (a c : ℕ) (r : Result Packet Bad) (s : Said) → reads w e a c r ≡ Some (Says s) → s.state.groups ≡ w.groups + 1
+reads_counts w e a c (Ok (packet.Data from to k m)) s is = let f : acted w e c (node.arrives (w.nodes c) a (Data k m)) ≡ s = cc in sym (ap (λ (x : Said). x.state.groups) f)
+reads_counts w e a c (Ok (packet.Ack from to k)) s is = let f : acted w e c (node.arrives (w.nodes c) a (Ack k)) ≡ s = cc in sym (ap (λ (x : Said). x.state.groups) f)
+reads_counts w e a c (Err bad) s is = cc
+
+delivers_counts : (w : WorldState) (e : Step) (a c k : ℕ) (o : Option (List ℕ)) (s : Said) → delivers w e a c k o ≡ Some (Says s) → s.state.groups ≡ w.groups + 1
+delivers_counts w e a c k None s is = let f : nothing w e ≡ s = cc in sym (ap (λ (x : Said). x.state.groups) f)
+delivers_counts w e a c k (Some bytes) s is = reads_counts (record w { wires = after_mark w.wires a c k }) e a c (packet_of bytes) s is
+
+pub counts : (b : Boot) (w : WorldState) (e : Step) (s : Said) → world_step b w e ≡ Some (Says s) → s.state.groups ≡ w.groups + 1
+counts b w (step.Turn m) s is = turned_counts w (step.Turn m) m (node.turn b (w.nodes m)) s is
+counts b w (step.Tick m) s is = let f : acted w (step.Tick m) m (node.tick (w.nodes m)) ≡ s = cc in sym (ap (λ (x : Said). x.state.groups) f)
+counts b w (step.Deliver a c k) s is = delivers_counts w (step.Deliver a c k) a c k (bytes_at (w.wires a c) k) s is
+counts b w (step.Migrate p m) s is = cc
+
+-- what the world did
+pub happens : (w : WorldState) (lines : List Line) (o : Option Happened) → MeetsSome w lines o → o ≡ Some (Says (record { state = w; lines = lines }))
+happens w lines None h = absurd h
+happens w lines (Some x) h = ap Some (sym h.happened)
+
+pub worn_out : (from to : ℕ) (o : Option Happened) → IsWornOut from to o → o ≡ Some (WornOut from to)
+worn_out from to None h = absurd h
+worn_out from to (Some x) h = ap Some (sym h)
+
+-- a sum of so many numbers, each at most m
+sum_most : (f : ℕ → ℕ) (n m : ℕ) → ((k : ℕ) → f k ≤ m) → sum_below f n ≤ n * m
+sum_most f zero m h = omega arith
+sum_most f (suc n) m h = let k = sum_most f n m h in let l = h n in grind arith
+
+times_most : (n r : ℕ) → n ≤ 16 → n * r ≤ 16 * r
+times_most n r h = grind arith
+
+room_most : (n : ℕ) (w : WorldState) → n ≤ 16 → room n w ≤ 2 ^ 72
+unfolding room
+room_most n w h =
+    let inner : (a : ℕ) → sum_below (λ c. room_of w a c) n ≤ 2 ^ 68 = (λ a. let k = sum_most (λ c. room_of w a c) n (2 ^ 64) (λ c. omega arith) in omega (arith, k, h)) in
+    let k = sum_most (λ a. sum_below (λ c. room_of w a c) n) n (2 ^ 68) inner in
+    omega (arith, k, h)
+
+turns_most : (n : ℕ) (s : Stage) (rounds : ℕ) → n ≤ 16 → rounds < 2 ^ 32 → turns_at n s rounds ≤ 2 ^ 40
+turns_most n (One e) rounds h k = omega arith
+turns_most n (Packets from to) rounds h k = let m = times_most n rounds h in omega (arith, m, h, k)
+turns_most n (Turns m) rounds h k = let t = times_most n rounds h in omega (arith, t, h, k)
+turns_most n Between rounds h k = let m = times_most n rounds h in omega (arith, m, h, k)
+
+pub left_most : (n : ℕ) (w : WorldState) (c : Cursor) → n ≤ 16 → c.rounds < 2 ^ 32 → left n w c ≤ 2 ^ 80
+left_most n w c h k = let r = room_most n w h in let t = turns_most n c.stage c.rounds h k in omega (arith, r, t)

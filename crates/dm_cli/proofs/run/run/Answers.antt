@@ -1,0 +1,27 @@
+use Rattle.std.proofs.Common.{◌≡◌, List, refl, sym, subst, length}
+use Rattle.std.specs.declared.option.Option.TheVariants.{Some}
+use Rattle.dm_onekernel.specs.declared.boot.Boot.{Boot}
+use Rattle.dm_schedule.specs.declared.Directive.{Directive}
+use Rattle.dm_rule.specs.Good.{all_of}
+use Rattle.dm_world.specs.World.{first_world}
+use Rattle.dm_cli.specs.declared.status.Status.{Status}
+use Rattle.dm_cli.specs.Progress.{Ended}
+use Rattle.dm_cli.specs.Program.{RunSays}
+use Rattle.dm_cli.proofs.Comes.{comes_first, lacks_there}
+use Rattle.dm_cli.proofs.Endings.{run_says}
+use Rattle.dm_cli.proofs.Schedules.{are_still}
+use Rattle.dm_cli.proofs.run.run.Goals as goal
+
+pub returns-in-Ok-clause-says : goal.returns-in-Ok-clause-says
+returns-in-Ok-clause-says g c =
+    let before = g.K.Sink.told c.args.out.now in
+    let after = g.K.Sink.told c.run_and_end-ended.new.out in
+    let one = subst (λ (b : Boot). Ended {A = Unit {0}} b c.as_slice.result.now (g.K.Sink.told c.args.out.now) (g.K.Sink.told c.run_and_end-ended.new.out) c.run_and_end-ended.new.world c.run_and_end-ended.result) c.in-Ok.ensures.boot c.run_and_end-ended.ensures.ended in
+    let two = subst (λ (ds : List Directive). Ended {A = Unit {0}} c.args.inputs.boot ds (g.K.Sink.told c.args.out.now) (g.K.Sink.told c.run_and_end-ended.new.out) c.run_and_end-ended.new.world c.run_and_end-ended.result) c.as_slice.ensures.value one in
+    subst (λ (s : Status). RunSays c.args.inputs.boot c.args.inputs.directives.items (g.K.Sink.told c.args.out.now) (g.K.Sink.told c.run_and_end-ended.new.out) (Some c.run_and_end-ended.new.world) (g.K.Sink.faults c.args.out.now) (g.K.Sink.faults c.run_and_end-ended.new.out) s) (sym c.status_of.ensures)
+    (run_says (Unit {0}) c.args.inputs.boot c.args.inputs.directives.items (g.K.Sink.told c.args.out.now) (g.K.Sink.told c.run_and_end-ended.new.out) c.run_and_end-ended.new.world (g.K.Sink.faults c.args.out.now) (g.K.Sink.faults c.run_and_end-ended.new.out) c.run_and_end-ended.result two c.run_and_end-ended.ensures.fault)
+
+pub returns-clause-says : goal.returns-clause-says
+returns-clause-says g c =
+    lacks_there c.args.inputs.boot c.args.inputs.directives.items (all_of c.args.inputs.directives.items) (g.K.Sink.told c.args.out.now) (g.K.Sink.told c.args.out.now) (g.K.Sink.told c.args.out.now) (first_world c.args.inputs.boot)
+    (comes_first c.args.inputs.boot c.args.inputs.directives.items (g.K.Sink.told c.args.out.now) (first_world c.args.inputs.boot) c.requires.valid (are_still (length c.args.inputs.boot.machines) 1 c.args.inputs.directives.items c.requires.each c.requires.still) refl) refl

@@ -1,0 +1,15 @@
+use Rattle.std.proofs.Common.{◌≡◌, ◌≤◌, ◌*◌, ◌^◌, false, drop}
+use Rattle.dm_rule.specs.Good.{all_of}
+use Rattle.dm_world.specs.Meets.{IsWorld, state_of}
+use Rattle.dm_cli.specs.Progress.{HasCome}
+use Rattle.dm_cli.proofs.run.run_and_end.Given as goal
+
+abbrev pub invariant-directives : goal.invariant-directives
+invariant-directives g l = record {
+  world : IsWorld l.world;
+  running : l.world.stopped ≡ false;
+  boot : l.world.boot ≡ l.initial.world.boot;
+  come : HasCome l.initial.world.boot l.directives (all_of (drop l.directive-index l.directives)) (g.K.Sink.told l.initial.out) (g.K.Sink.told l.out) (state_of l.world);
+  groups : l.world.groups ≤ l.directive-index * 2 ^ 80;
+  writes : g.K.Sink.faults l.initial.out ≤ g.K.Sink.faults l.out;
+}

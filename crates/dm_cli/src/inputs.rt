@@ -1,0 +1,135 @@
+//! What the program reads before a run: its words, the boot file and the schedule.
+ghost use Rattle.std.specs.Prelude.{◌≡◌, ◌≤◌, map, IfOk, IfErr, None, length};
+ghost use Rattle.std.specs.List.{All};
+ghost use Rattle.dm_onekernel.specs.Boot.{IsValid};
+ghost use Rattle.dm_cli.specs.Words.{IsTaken, names_of};
+ghost use Rattle.dm_cli.specs.Asked.{AsksFiles, AsksNamed, FailsAlone, FailsBoot, FailsSchedule, FailsSecond};
+ghost use Rattle.dm_cli.specs.Inputs.{Accepts, AcceptsFiles, NoBoot, NoDirectives, NoFiles, NoRun, SaysBoot, SaysDirectives, first_migration};
+ghost use Rattle.dm_cli.specs.Progress.{IsFor};
+
+use crate::read::{ReadNo, read_file};
+use crate::status::{Input, Status};
+use crate::today::first_migration;
+use crate::words::names;
+use dm_boot::{BootNo, read_boot};
+use dm_onekernel::Boot;
+use dm_outside::Shelf;
+use dm_schedule::{Directive, SchedNo, read_schedule};
+use std::alloc::Global;
+
+/// The most bytes of a boot file.
+const MOST_BOOT: u32 = 1_048_576;
+
+/// The most bytes of a schedule.
+const MOST_SCHEDULE: u32 = 16_777_216;
+
+/// What a run begins with.
+#[derive(Drop)]
+pub struct Inputs {
+    pub boot: Boot,
+    pub directives: Vec<Directive>,
+}
+
+/// What the words name, or why there is no run: of the words, the boot file and the schedule the first that is at
+/// fault.
+pub fn read_inputs<F: Shelf>(alloc: Global, words: &[&str], shelf: &mut F) -> Result<Inputs, Status>
+    ensures accepts { IfOk result (λ i. Accepts (map (λ w. w.now) words.now) (F.told shelf.old) i.boot i.directives.items) }
+    ensures valid { IfOk result (λ i. IsValid i.boot) }
+    ensures each { IfOk result (λ i. All (IsFor (length i.boot.machines)) i.directives.items) }
+    ensures still { IfOk result (λ i. first_migration 1 i.directives.items ≡ None) }
+    ensures few { IfOk result (λ i. length i.directives.items ≤ 16777216) }
+    ensures refused { IfErr result (λ s. s ≡ Status.Usage → IsTaken (map (λ w. w.now) words.now) → ⊥) }
+    ensures none { IfErr result (λ s. NoRun (map (λ w. w.now) words.now) (F.told shelf.old) (F.faults shelf.old) (F.faults shelf.new) s) }
+    ensures same { F.told shelf.new ≡ F.told shelf.old }
+    ensures reads { F.faults shelf.old ≤ F.faults shelf.new }
+    ensures asks { AsksNamed F.asked (F.told shelf.old) (names_of (map (λ w. w.now) words.now)) shelf.old shelf.new }
+    ensures boot_fault { IfErr result (λ s. s ≡ Status.ReadFault Input.Boot → FailsBoot F.asked F.faults (names_of (map (λ w. w.now) words.now)) shelf.old shelf.new) }
+    ensures schedule_fault { IfErr result (λ s. s ≡ Status.ReadFault Input.Schedule → FailsSchedule F.asked F.faults (F.told shelf.old) (names_of (map (λ w. w.now) words.now)) shelf.old shelf.new) }
+{
+    match names(alloc, words) {
+        Ok((boot, schedule)) => read_files(alloc, boot, schedule, shelf),
+        Err(no) => Err(no.status()),
+    }
+}
+
+/// What files of these names say, or why there is no run.
+fn read_files<F: Shelf>(
+    alloc: Global,
+    boot: &str,
+    schedule: &str,
+    shelf: &mut F,
+) -> Result<Inputs, Status>
+    ensures accepts { IfOk result (λ i. AcceptsFiles (F.told shelf.old) boot.now schedule.now i.boot i.directives.items) }
+    ensures valid { IfOk result (λ i. IsValid i.boot) }
+    ensures each { IfOk result (λ i. All (IsFor (length i.boot.machines)) i.directives.items) }
+    ensures still { IfOk result (λ i. first_migration 1 i.directives.items ≡ None) }
+    ensures few { IfOk result (λ i. length i.directives.items ≤ 16777216) }
+    ensures none { IfErr result (λ s. NoFiles (F.told shelf.old) boot.now schedule.now (F.faults shelf.old) (F.faults shelf.new) s) }
+    ensures same { F.told shelf.new ≡ F.told shelf.old }
+    ensures reads { F.faults shelf.old ≤ F.faults shelf.new }
+    ensures asks { AsksFiles F.asked (F.told shelf.old) boot.now schedule.now shelf.old shelf.new }
+    ensures boot_fault { IfErr result (λ s. s ≡ Status.ReadFault Input.Boot → FailsAlone F.asked F.faults boot.now shelf.old shelf.new) }
+    ensures schedule_fault { IfErr result (λ s. s ≡ Status.ReadFault Input.Schedule → FailsSecond F.asked F.faults (F.told shelf.old) boot.now schedule.now shelf.old shelf.new) }
+{
+    let boot = read_system(alloc, boot, shelf)?;
+    let machines = boot.machines.len() as u8;
+    let directives = read_directives(alloc, schedule, machines, shelf)?;
+    match first_migration(directives.as_slice()) {
+        Some(line) => Err(Status::ScheduleRefused { line, why: 0 }),
+        None => Ok(Inputs { boot, directives }),
+    }
+}
+
+/// The system that the boot file of this name says.
+fn read_system<F: Shelf>(alloc: Global, name: &str, shelf: &mut F) -> Result<Boot, Status>
+    ensures says { IfOk result (λ b. SaysBoot (F.told shelf.old) name.now b) }
+    ensures valid { IfOk result (λ b. IsValid b) }
+    ensures none { IfErr result (λ s. NoBoot (F.told shelf.old) name.now (F.faults shelf.old) (F.faults shelf.new) s) }
+    ensures same { F.told shelf.new ≡ F.told shelf.old }
+    ensures reads { F.faults shelf.old ≤ F.faults shelf.new }
+    ensures asks { F.asked shelf.old name.now shelf.new }
+{
+    match read_file(alloc, shelf, name, MOST_BOOT) {
+        Ok(bytes) => match read_boot(alloc, bytes.as_slice()) {
+            Ok(boot) => Ok(boot),
+            Err(BootNo::Refused { rule, place }) => Err(Status::BootRefused {
+                number: rule.number(),
+                place,
+            }),
+            Err(BootNo::NoMemory(no)) => Err(Status::NoMemory(no)),
+        },
+        Err(ReadNo::Fault) => Err(Status::ReadFault(Input::Boot)),
+        Err(ReadNo::NoMemory(no)) => Err(Status::NoMemory(no)),
+        Err(ReadNo::TooLong) => Err(Status::TooLong(Input::Boot)),
+    }
+}
+
+/// The directives that the schedule of this name says for so many machines.
+fn read_directives<F: Shelf>(
+    alloc: Global,
+    name: &str,
+    machines: u8,
+    shelf: &mut F,
+) -> Result<Vec<Directive>, Status>
+    ensures says { IfOk result (λ ds. SaysDirectives (F.told shelf.old) name.now machines ds.items) }
+    ensures each { IfOk result (λ ds. All (IsFor machines) ds.items) }
+    ensures few { IfOk result (λ ds. length ds.items ≤ 16777216) }
+    ensures none { IfErr result (λ s. NoDirectives (F.told shelf.old) name.now machines (F.faults shelf.old) (F.faults shelf.new) s) }
+    ensures same { F.told shelf.new ≡ F.told shelf.old }
+    ensures reads { F.faults shelf.old ≤ F.faults shelf.new }
+    ensures asks { F.asked shelf.old name.now shelf.new }
+{
+    match read_file(alloc, shelf, name, MOST_SCHEDULE) {
+        Ok(bytes) => match read_schedule(alloc, bytes.as_slice(), machines) {
+            Ok(directives) => Ok(directives),
+            Err(SchedNo::Refused { line, fault }) => Err(Status::ScheduleRefused {
+                line,
+                why: fault.number(),
+            }),
+            Err(SchedNo::NoMemory(no)) => Err(Status::NoMemory(no)),
+        },
+        Err(ReadNo::Fault) => Err(Status::ReadFault(Input::Schedule)),
+        Err(ReadNo::NoMemory(no)) => Err(Status::NoMemory(no)),
+        Err(ReadNo::TooLong) => Err(Status::TooLong(Input::Schedule)),
+    }
+}

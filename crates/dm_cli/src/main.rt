@@ -1,0 +1,34 @@
+//! The program `demosmp`: it runs a schedule on the system of a boot file, and prints what happens.
+#![tactic(auto)]
+
+mod ending;
+mod entry;
+mod inputs;
+mod read;
+mod run;
+mod status;
+mod today;
+mod words;
+mod write;
+
+use dm_outside::{RealShelf, RealSink};
+use ending::end;
+use entry::{given_words, run_given};
+use std::io;
+use std::process::ExitCode;
+
+fn main(rt: HostRuntime) -> ExitCode {
+    let mut shelf = RealShelf::new(rt.alloc(), &rt);
+    let mut out = RealSink::new(io::writer(&rt));
+    let status = run_given(
+        rt.alloc(),
+        given_words(&rt),
+        &mut shelf,
+        &mut out,
+        &mut None,
+    );
+    end(&status, &mut RealSink::new(rt.stderr()))
+}
+
+#[cfg(test)]
+mod tests;

@@ -1,0 +1,590 @@
+use crate::ending::end;
+use crate::run::run_program;
+use crate::status::Status;
+use dm_outside::{MemShelf, MemSink};
+use std::alloc::Global;
+use std::process::ExitCode;
+use std::test::Fail;
+
+const WORDS: [&str; 6] = ["demosmp", "run", "--boot", "boot", "--schedule", "schedule"];
+
+const HI: &[u8] = b"[[machine]]
+slots = 4
+blocks = 16
+[[image]]
+name = \"a\"
+blocks = 1
+text = \".byte 1 2 0 16 1 3 0 2 20 0 0 6 20 0 0 1 104 105\"
+[[image]]
+name = \"b\"
+blocks = 1
+text = \".byte 1 1 0 1 1 2 0 64 1 3 0 8 20 0 0 7 1 6 0 64 14 1 6 0 20 0 0 2 20 0 0 1\"
+[[process]]
+name = \"a\"
+machine = 0
+image = \"a\"
+links = [{ to = \"b\", code = 7 }]
+[[process]]
+name = \"b\"
+machine = 0
+image = \"b\"
+";
+
+const NOBODY: &[u8] = b"[[machine]]
+slots = 0
+blocks = 0
+";
+
+const TO_SERVER: &[u8] = b"[[machine]]
+slots = 1
+blocks = 1
+[[image]]
+name = \"a\"
+blocks = 1
+text = \"\"
+[[process]]
+name = \"a\"
+machine = 0
+image = \"a\"
+links = [{ to = \"switchboard\" }]
+";
+
+/// A process with a link to itself sends four messages; its machine may count three.
+const WORN: &[u8] = b"numbers = 3
+[[machine]]
+slots = 1
+blocks = 1
+[[image]]
+name = \"a\"
+blocks = 1
+text = \"sys 6\\nsys 6\\nsys 6\\nsys 6\"
+[[process]]
+name = \"a\"
+machine = 0
+image = \"a\"
+links = [{ to = \"a\" }]
+";
+
+const WORN_RUN: &[u8] = b"turn 0
+ran 0.3 0
+send 0.3 0.3#0
+put 0 0 0.3#0 user 0.3
+turn 0
+queued 0.3#0
+turn 0
+ran 0.3 0
+send 0.3 0.3#1
+put 0 0 0.3#1 user 0.3
+turn 0
+queued 0.3#1
+turn 0
+ran 0.3 0
+send 0.3 0.3#2
+put 0 0 0.3#2 user 0.3
+turn 0
+queued 0.3#2
+";
+
+const EIGHT_TURNS: &[u8] = b"turn 0\nturn 0\nturn 0\nturn 0\nturn 0\nturn 0\nturn 0\nturn 0\n";
+
+const FIRST_GROUP: &[u8] = b"turn 0
+ran 0.3 2
+send 0.3 0.3#0
+put 0 0 0.3#0 user 0.4
+";
+
+const FIRST_RUN: &[u8] = b"turn 0
+ran 0.3 2
+send 0.3 0.3#0
+put 0 0 0.3#0 user 0.4
+turn 0
+queued 0.3#0
+turn 0
+ran 0.4 3
+wait 0.4
+turn 0
+ran 0.3 0
+end 0.3 0
+turn 0
+receive 0.4 0.3#0
+turn 0
+ran 0.4 2
+out 0.4 104
+turn 0
+ran 0.4 0
+end 0.4 0
+turn 0
+idle 0
+final
+process 0.3 ended 0
+process 0.4 ended 0
+server 0.1 0
+server 0.2 0
+child 1 0.3 at 0
+child 2 0.4 at 0
+end 8
+";
+
+const NO_RUN: &[u8] = b"final
+server 0.1 0
+server 0.2 0
+end 0
+";
+
+/// A run of the program: its words, its boot file and schedule, the reads and the writes that are to fail, the most bytes
+/// of a write (0: all), and then its line, its number, what it wrote, and how many reads it made.
+type Case = (
+    &'static [&'static str],
+    &'static [u8],
+    &'static [u8],
+    (&'static [u64], &'static [u64]),
+    usize,
+    &'static str,
+    u8,
+    &'static [u8],
+    u64,
+);
+
+const NONE: (&[u64], &[u64]) = (&[], &[]);
+
+/// Runs that come to an end, with the words in each form, and those that a fault stops.
+const RUNS: [Case; 13] = [
+    (&WORDS, HI, EIGHT_TURNS, NONE, 0, "", 0, FIRST_RUN, 4),
+    (&WORDS, HI, EIGHT_TURNS, NONE, 1, "", 0, FIRST_RUN, 4),
+    (
+        &["demosmp", "run", "--schedule", "schedule", "--boot", "boot"],
+        NOBODY,
+        b"",
+        NONE,
+        0,
+        "",
+        0,
+        NO_RUN,
+        3,
+    ),
+    (
+        &["demosmp", "run", "--boot=boot", "--schedule=schedule"],
+        NOBODY,
+        b"",
+        NONE,
+        0,
+        "",
+        0,
+        NO_RUN,
+        3,
+    ),
+    (
+        &["other", "run", "--boot", "boot", "--schedule=schedule"],
+        NOBODY,
+        b"",
+        NONE,
+        0,
+        "",
+        0,
+        NO_RUN,
+        3,
+    ),
+    (
+        &WORDS,
+        WORN,
+        EIGHT_TURNS,
+        NONE,
+        0,
+        "worn: 0 to 0\n",
+        9,
+        WORN_RUN,
+        4,
+    ),
+    (
+        &WORDS,
+        HI,
+        EIGHT_TURNS,
+        (&[], &[2]),
+        0,
+        "write fault\n",
+        5,
+        FIRST_GROUP,
+        4,
+    ),
+    // a read of the boot file, and one of the schedule; a schedule that isn't read, and files that aren't there
+    (
+        &WORDS,
+        HI,
+        EIGHT_TURNS,
+        (&[1], &[]),
+        0,
+        "read fault\n",
+        3,
+        b"",
+        1,
+    ),
+    (
+        &WORDS,
+        HI,
+        EIGHT_TURNS,
+        (&[2], &[]),
+        0,
+        "read fault\n",
+        3,
+        b"",
+        2,
+    ),
+    (
+        &WORDS,
+        HI,
+        EIGHT_TURNS,
+        (&[3], &[]),
+        0,
+        "read fault\n",
+        3,
+        b"",
+        3,
+    ),
+    (
+        &WORDS,
+        b"",
+        EIGHT_TURNS,
+        (&[2], &[]),
+        0,
+        "boot refused: 4 at 0\n",
+        6,
+        b"",
+        1,
+    ),
+    (
+        &["demosmp", "run", "--boot", "", "--schedule", "schedule"],
+        HI,
+        EIGHT_TURNS,
+        NONE,
+        0,
+        "read fault\n",
+        3,
+        b"",
+        1,
+    ),
+    (
+        &["demosmp", "run", "--boot", "boot", "--schedule", "other"],
+        HI,
+        EIGHT_TURNS,
+        NONE,
+        0,
+        "read fault\n",
+        3,
+        b"",
+        3,
+    ),
+];
+
+/// Files that are refused.
+const REFUSALS: [Case; 4] = [
+    (
+        &WORDS,
+        b"",
+        EIGHT_TURNS,
+        NONE,
+        0,
+        "boot refused: 4 at 0\n",
+        6,
+        b"",
+        1,
+    ),
+    (
+        &WORDS,
+        HI,
+        b"turn 0\nturn 1",
+        NONE,
+        0,
+        "schedule refused: line 2, why 4\n",
+        7,
+        b"",
+        4,
+    ),
+    (
+        &WORDS,
+        TO_SERVER,
+        b"turn 1",
+        NONE,
+        0,
+        "schedule refused: line 1, why 4\n",
+        7,
+        b"",
+        4,
+    ),
+    (
+        &WORDS,
+        HI,
+        b"# moves\nturn 0\nmigrate 0.3 0",
+        NONE,
+        0,
+        "schedule refused: line 2, why 0\n",
+        7,
+        b"",
+        4,
+    ),
+];
+
+/// Words that are none of a run: one is missing, said twice, one too many, empty, or another.
+const OTHER_WORDS: [&[&str]; 17] = [
+    &[],
+    &["demosmp"],
+    &["demosmp", "run", "--boot", "b"],
+    &["demosmp", "run", "--schedule", "s"],
+    &["demosmp", "run", "--boot", "--schedule", "s"],
+    &["demosmp", "run", "--schedule", "s", "--boot"],
+    &[
+        "demosmp",
+        "run",
+        "--boot",
+        "b",
+        "--boot",
+        "b",
+        "--schedule",
+        "s",
+    ],
+    &["demosmp", "run", "--boot", "b", "--schedule", "s", "again"],
+    &["demosmp", "run", "--boot", "b", "--schedule", "s", ""],
+    &["demosmp", "--boot", "b", "--schedule", "s", "run"],
+    &["demosmp", "go", "--boot", "b", "--schedule", "s"],
+    &["demosmp", "drill", "--seed", "1"],
+    &["demosmp", "check", "--boot", "b", "--trace", "t"],
+    &["demosmp", "--help"],
+    &["demosmp", "--version"],
+    &["demosmp", "help"],
+    &["demosmp", "run", "--boot", "b", "--schedule", "s", "--help"],
+];
+
+/// How a run of the program ended.
+#[derive(Drop)]
+struct Ended {
+    status: Status,
+    written: Vec<u8>,
+    reads: u64,
+}
+
+/// Runs the program over two files in memory, of which these reads are to fail, and a sink of which these writes are
+/// to fail and each takes at most so many bytes.
+fn run_over(
+    alloc: Global,
+    words: &[&str],
+    files: (&[u8], &[u8]),
+    fails: (&[u64], &[u64]),
+    cut: usize,
+) -> Result<Ended, Fail> {
+    let boot = (
+        String::from_str(alloc, "boot")?,
+        Vec::from_slice(alloc, files.0)?,
+    );
+    let schedule = (
+        String::from_str(alloc, "schedule")?,
+        Vec::from_slice(alloc, files.1)?,
+    );
+    let files = vec![in alloc; boot, schedule]?;
+    let mut shelf = MemShelf::new(files, Vec::from_slice(alloc, fails.0)?);
+    let mut sink = MemSink::new(alloc, 4096, Vec::from_slice(alloc, fails.1)?)?;
+    if cut > 0 {
+        sink.cut(cut);
+    }
+    let status = run_program(alloc, words, &mut shelf, &mut sink, &mut None);
+    Ok(Ended {
+        status,
+        written: Vec::from_slice(alloc, sink.bytes())?,
+        reads: shelf.calls(),
+    })
+}
+
+/// What the program says at its end: its line, and its number where that is this one, else 255.
+fn said_at_end(alloc: Global, status: &Status, code: u8) -> Result<(Vec<u8>, u8), Fail> {
+    let mut errors = MemSink::new(alloc, 96, Vec::new(alloc))?;
+    let number = end(status, &mut errors);
+    let is_said = number == ExitCode::from(code);
+    let line = Vec::from_slice(alloc, errors.bytes())?;
+    Ok((line, if is_said { code } else { 255 }))
+}
+
+/// Whether the program runs as a case says.
+fn runs_so(alloc: Global, case: &Case) -> Result<bool, Fail> {
+    let (words, boot, schedule, fails, cut, line, code, written, reads) = *case;
+    let ended = run_over(alloc, words, (boot, schedule), fails, cut)?;
+    let (said, number) = said_at_end(alloc, &ended.status, code)?;
+    Ok(
+        said.as_slice() == line.as_bytes()
+            && number == code
+            && ended.written.as_slice() == written
+            && ended.reads == reads,
+    )
+}
+
+/// How many of these cases the program runs so, from the first on.
+fn runs_as_said(alloc: Global, cases: &[Case]) -> Result<usize, Fail> {
+    for (place, case) in cases.iter().enumerate() {
+        if !runs_so(alloc, case)? {
+            return Ok(place);
+        }
+    }
+    Ok(cases.len())
+}
+
+#[test]
+fn runs_and_stops(rt: HostRuntime) -> Result<(), Fail> {
+    assert_eq!(rt; runs_as_said(rt.alloc(), &RUNS)?, 13);
+    Ok(())
+}
+
+#[test]
+fn refuses_files(rt: HostRuntime) -> Result<(), Fail> {
+    assert_eq!(rt; runs_as_said(rt.alloc(), &REFUSALS)?, 4);
+    Ok(())
+}
+
+#[test]
+fn reads_and_writes_nothing_for_other_words(rt: HostRuntime) -> Result<(), Fail> {
+    for words in OTHER_WORDS.as_slice() {
+        let line = "usage: demosmp run --boot FILE --schedule FILE\n";
+        let case = (*words, HI, EIGHT_TURNS, NONE, 0, line, 2, b"".as_slice(), 0);
+        assert!(rt; runs_so(rt.alloc(), &case)?);
+    }
+    Ok(())
+}
+
+/// Bytes of a comment, as many as this.
+fn comment(alloc: Global, len: usize) -> Result<Vec<u8>, Fail> {
+    let mut bytes = Vec::new(alloc);
+    bytes.resize(len, b'#')?;
+    Ok(bytes)
+}
+
+/// Files as long as they may be, and a byte longer: the boot file's length (0: of a good one), the schedule's, and the line.
+const LENGTHS: [(usize, usize, &str); 4] = [
+    (1_048_576, 0, "boot refused: 4 at 0\n"),
+    (1_048_577, 0, "too long: boot\n"),
+    (0, 16_777_216, ""),
+    (0, 16_777_217, "too long: schedule\n"),
+];
+
+#[test]
+fn keeps_to_the_lengths(rt: HostRuntime) -> Result<(), Fail> {
+    for case in LENGTHS.as_slice() {
+        let (boot_len, schedule_len, line) = *case;
+        let long = comment(rt.alloc(), boot_len)?;
+        let schedule = comment(rt.alloc(), schedule_len)?;
+        let boot = if long.is_empty() {
+            NOBODY
+        } else {
+            long.as_slice()
+        };
+        let ended = run_over(rt.alloc(), &WORDS, (boot, schedule.as_slice()), NONE, 0)?;
+        let (said, _) = said_at_end(rt.alloc(), &ended.status, 8)?;
+        assert_eq!(rt; said.as_slice(), line.as_bytes());
+    }
+    Ok(())
+}
+
+/// A boot file with one process of this image text, in so many blocks, with a link to itself.
+fn alone(alloc: Global, text: &str, blocks: u8) -> Result<String, Fail> {
+    Ok(format!(in alloc;
+        "[[machine]]\nslots = 1\nblocks = 2\n[[image]]\nname = \"p\"\nblocks = {blocks}\ntext = \"\"\"\n{text}\n\"\"\"\n[[process]]\nname = \"p\"\nmachine = 0\nimage = \"p\"\nlinks = [{{ to = \"p\" }}]\n"
+    )?)
+}
+
+/// An image's text, its blocks, a schedule, and how what is written begins.
+const PROGRAMS: [(&str, u8, &str, &str); 8] = [
+    (
+        "li r1 0\nli r2 1\nsub r1 r1 r2\nsys 2",
+        1,
+        "turn 0\n",
+        "turn 0\nran 0.3 3\nout 0.3 4294967295\nfinal\n",
+    ),
+    ("l: jmp l", 1, "turn 0\n", "turn 0\nran 0.3 16\nfinal\n"),
+    (
+        "l: beq r0 r0 l",
+        1,
+        "turn 0\n",
+        "turn 0\nran 0.3 16\nfinal\n",
+    ),
+    (
+        "li r1 254\nlw r2 r1 0",
+        1,
+        "turn 0\n",
+        "turn 0\nran 0.3 1\nend 0.3 1\nfinal\n",
+    ),
+    (
+        "li r1 1\nlw r2 r1 0",
+        1,
+        "turn 0\n",
+        "turn 0\nran 0.3 1\nend 0.3 3\nfinal\n",
+    ),
+    (
+        "jmp 256",
+        1,
+        "turn 0\n",
+        "turn 0\nran 0.3 1\nend 0.3 1\nfinal\n",
+    ),
+    (
+        "sys 9",
+        1,
+        "turn 0\n",
+        "turn 0\nran 0.3 0\nend 0.3 4\nfinal\n",
+    ),
+    (
+        "li r2 224\nli r3 64\nsys 6\nli r1 1\nli r2 320\nli r3 64\nsys 7\nli r6 352\nlb r1 r6 0\nsys 2\n.zero 216\n.byte 77",
+        2,
+        "turn 0\nturn 0\nturn 0\nturn 0\nturn 0\n",
+        "turn 0\nran 0.3 2\nsend 0.3 0.3#0\nput 0 0 0.3#0 user 0.3\nturn 0\nqueued 0.3#0\nturn 0\nran 0.3 3\nwait 0.3\nturn 0\nreceive 0.3 0.3#0\nturn 0\nran 0.3 2\nout 0.3 77\nfinal\n",
+    ),
+];
+
+#[test]
+fn executes_instructions(rt: HostRuntime) -> Result<(), Fail> {
+    for case in PROGRAMS.as_slice() {
+        let (text, blocks, schedule, said) = *case;
+        let boot = alone(rt.alloc(), text, blocks)?;
+        let files = (boot.as_bytes(), schedule.as_bytes());
+        let ended = run_over(rt.alloc(), &WORDS, files, NONE, 0)?;
+        assert_eq!(rt; ended.status, Status::Done);
+        assert!(rt; ended.written.starts_with(said.as_bytes()), "{text}");
+    }
+    Ok(())
+}
+
+/// A boot file of two machines, with a process of this image text on the first that has a link to one on the second.
+fn pair(alloc: Global, text: &str) -> Result<String, Fail> {
+    Ok(format!(in alloc;
+        "[[machine]]\nslots = 1\nblocks = 1\n[[machine]]\nslots = 1\nblocks = 1\n[[image]]\nname = \"a\"\nblocks = 1\ntext = \"\"\"\n{text}\n\"\"\"\n[[image]]\nname = \"b\"\nblocks = 1\ntext = \"\"\n[[process]]\nname = \"a\"\nmachine = 0\nimage = \"a\"\nlinks = [{{ to = \"b\" }}]\n[[process]]\nname = \"b\"\nmachine = 1\nimage = \"b\"\n"
+    )?)
+}
+
+const NINE: &str = "sys 6\nsys 6\nsys 6\nsys 6\nsys 6\nsys 6\nsys 6\nsys 6\nsys 6";
+
+/// What the sender does on a pair of machines, a schedule, and what is said there, up to the lines at the end: a packet that
+/// comes three times, two that come in the other order, a full window, and a packet that isn't there.
+const NETWORKS: [(&str, &str, &str); 4] = [
+    (
+        "sys 6",
+        "turn 0\ndeliver 0 1 0\ndeliver 0 1 0\ndeliver 0 1 0\n",
+        "turn 0\nran 0.3 0\nsend 0.3 0.3#0\nput 0 1 0.3#0 user 1.3\npacket 0 1 0 data 0\ndeliver 0 1 0\ntaken 0 1 0\npacket 1 0 0 ack 1\ndeliver 0 1 0\nold 0 1 0\npacket 1 0 1 ack 1\ndeliver 0 1 0\nold 0 1 0\npacket 1 0 2 ack 1\nfinal\n",
+    ),
+    (
+        "sys 6\nsys 6",
+        "turn 0\nturn 0\ndeliver 0 1 1\ndeliver 0 1 0\n",
+        "turn 0\nran 0.3 0\nsend 0.3 0.3#0\nput 0 1 0.3#0 user 1.3\npacket 0 1 0 data 0\nturn 0\nran 0.3 0\nsend 0.3 0.3#1\nput 0 1 0.3#1 user 1.3\npacket 0 1 1 data 1\ndeliver 0 1 1\nearly 0 1 1\npacket 1 0 0 ack 0\ndeliver 0 1 0\ntaken 0 1 0\ntaken 0 1 1\npacket 1 0 1 ack 2\nfinal\n",
+    ),
+    (
+        NINE,
+        "turn 0\nturn 0\nturn 0\nturn 0\nturn 0\nturn 0\nturn 0\nturn 0\nturn 0\ntick 0\ndeliver 0 1 0\ndeliver 1 0 0\n",
+        "turn 0\nran 0.3 0\nsend 0.3 0.3#0\nput 0 1 0.3#0 user 1.3\npacket 0 1 0 data 0\nturn 0\nran 0.3 0\nsend 0.3 0.3#1\nput 0 1 0.3#1 user 1.3\npacket 0 1 1 data 1\nturn 0\nran 0.3 0\nsend 0.3 0.3#2\nput 0 1 0.3#2 user 1.3\npacket 0 1 2 data 2\nturn 0\nran 0.3 0\nsend 0.3 0.3#3\nput 0 1 0.3#3 user 1.3\npacket 0 1 3 data 3\nturn 0\nran 0.3 0\nsend 0.3 0.3#4\nput 0 1 0.3#4 user 1.3\npacket 0 1 4 data 4\nturn 0\nran 0.3 0\nsend 0.3 0.3#5\nput 0 1 0.3#5 user 1.3\npacket 0 1 5 data 5\nturn 0\nran 0.3 0\nsend 0.3 0.3#6\nput 0 1 0.3#6 user 1.3\npacket 0 1 6 data 6\nturn 0\nran 0.3 0\nsend 0.3 0.3#7\nput 0 1 0.3#7 user 1.3\npacket 0 1 7 data 7\nturn 0\nran 0.3 0\nsend 0.3 0.3#8\nput 0 1 0.3#8 user 1.3\ntick 0\nresent 0 8\npacket 0 1 8 data 0\npacket 0 1 9 data 1\npacket 0 1 10 data 2\npacket 0 1 11 data 3\npacket 0 1 12 data 4\npacket 0 1 13 data 5\npacket 0 1 14 data 6\npacket 0 1 15 data 7\ndeliver 0 1 0\ntaken 0 1 0\npacket 1 0 0 ack 1\ndeliver 1 0 0\nacked 1 0 1\npacket 0 1 16 data 8\nfinal\n",
+    ),
+    ("", "deliver 1 0 0\n", "deliver 1 0 0\nnone\nfinal\n"),
+];
+
+#[test]
+fn keeps_to_the_order_of_messages(rt: HostRuntime) -> Result<(), Fail> {
+    for case in NETWORKS.as_slice() {
+        let (text, schedule, said) = *case;
+        let boot = pair(rt.alloc(), text)?;
+        let files = (boot.as_bytes(), schedule.as_bytes());
+        let ended = run_over(rt.alloc(), &WORDS, files, NONE, 0)?;
+        assert_eq!(rt; ended.status, Status::Done);
+        assert!(rt; ended.written.starts_with(said.as_bytes()), "{schedule}");
+    }
+    Ok(())
+}
