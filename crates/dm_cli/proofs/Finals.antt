@@ -29,6 +29,7 @@ use Rattle.dm_rule.specs.Ends.{says, or, trimmed, block_line, memory_lines, each
 use Rattle.dm_text.specs.Fits.{HidesNothing}
 use Rattle.dm_world.specs.World.{WorldState}
 use Rattle.dm_world.specs.Ends as ends
+use Rattle.dm_kernel.proofs.LawfulRows.{of_known}
 
 abbrev Hide : List Line → Type 0
 Hide ls = All HidesNothing ls
@@ -141,7 +142,7 @@ pub end_hides : (machines : ℕ) (w : WorldState) → 0 < machines → ((m : ℕ
 end_hides machines w some lawful =
     let processes : Hide (ends.homes_with w (ends.process_lines machines w) machines) =
     homes_hide w (ends.process_lines machines w) machines (λ p. lines_hide (ends.first_says (λ m. ends.record_lines m p ((w.nodes m).kernel.records p)) machines)
-    (first_hides (λ m. ends.record_lines m p ((w.nodes m).kernel.records p)) machines (λ m l. record_hides m p ((w.nodes m).kernel.records p) ((lawful m l).processes p)))) in
+    (first_hides (λ m. ends.record_lines m p ((w.nodes m).kernel.records p)) machines (λ m l. record_hides m p ((w.nodes m).kernel.records p) (λ x is. of_known (w.nodes m).kernel p (Some (Here x)) (lawful m l) is)))) in
     let servers : Hide (ends.server_lines (w.nodes 0).kernel.servers) = servers_hide (w.nodes 0).kernel.servers (lawful 0 some).servers in
     let queues : Hide (ends.homes_with w (ends.queue_of machines w) machines) =
     homes_hide w (ends.queue_of machines w) machines (λ p. lines_hide (ends.first_says (λ m. ends.record_queue p ((w.nodes m).kernel.records p)) machines)
