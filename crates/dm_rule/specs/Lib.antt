@@ -4,6 +4,7 @@ pub mod Addresses
 pub mod Point
 pub mod Spots
 pub mod Parts
+pub mod Migrating
 pub mod Rule
 pub mod Pairs
 pub mod Homes
