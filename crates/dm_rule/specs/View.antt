@@ -169,9 +169,13 @@ abbrev pub first_told : Option Told → Told → Told
 first_told None t = t
 first_told (Some s) t = s
 
--- a kernel's own message is counted when it is first routed
+-- a kernel's own message, and no answer
+abbrev pub is_kernels : MsgId → Bool
+is_kernels id = (id.from.num == 0) && not id.answer
+
+-- it is counted when it is first routed
 abbrev pub is_own : MsgId → Option Told → Bool
-is_own id None = (id.from.num == 0) && not id.answer
+is_own id None = is_kernels id
 is_own id (Some t) = false
 
 abbrev pub after_put : View → ℕ → ℕ → MsgId → MessageKind → Pid → View

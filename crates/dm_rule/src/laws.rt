@@ -2,7 +2,8 @@
 ghost use Rattle.dm_rule.specs.Laws.{StandsOnceAlways, PairsStandAlways, LeadHomeAlways};
 
 /// Wherever the rule leads from a boot file, each message that the kernel without machines holds stands exactly once
-/// among the queues, held lists, inboxes and streams of the printed lines, and no other stands there.
+/// among the queues, held lists, inboxes and streams of the printed lines, a kernel's own message at most once, and no other
+/// stands there.
 pub fn stands_once_always()
     ensures { StandsOnceAlways }
 {}
@@ -13,7 +14,7 @@ pub fn pairs_stand_always()
     ensures { PairsStandAlways }
 {}
 
-/// Wherever the rule leads from a boot file, and nothing moves yet, each link, each message and each name of the servers
+/// Wherever the rule leads from a boot file without a directive to migrate, each link, each message and each name of the servers
 /// names its process's home, and each queued, routed or received message stands where its receiver is at home.
 pub fn lead_home_always()
     ensures { LeadHomeAlways }
