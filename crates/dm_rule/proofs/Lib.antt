@@ -1,4 +1,16 @@
 pub mod Worked
+pub mod Standing
+pub mod Once
+pub mod Lines
+pub mod Bags
+pub mod Letters
+pub mod Hushed
+pub mod States
+pub mod Turns
+pub mod Said
+pub mod MovesLists
+pub mod MovesStates
+pub mod MovesSent
 pub mod PairsStand
 pub mod PairsMoves
 pub mod PairsLines
