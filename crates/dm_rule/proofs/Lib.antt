@@ -11,6 +11,9 @@ pub mod Said
 pub mod MovesLists
 pub mod MovesStates
 pub mod MovesSent
+pub mod MovesRows
+pub mod Handled
+pub mod Groups
 pub mod PairsStand
 pub mod PairsMoves
 pub mod PairsLines
