@@ -42,7 +42,7 @@ use Rattle.dm_rule.specs.Migrating.{forwards_on}
 use Rattle.dm_rule.specs.Rule as rule
 use Rattle.dm_rule.specs.Rule.{says, drops, group_of}
 use Rattle.dm_rule.proofs.Bags.{served_id, landed_id, board_id, manager_id, took_id, id_in, bag_ran, bag_call, bag_sends, bag_wait, bag_out, bag_end, bag_receive, bag_refuse, bag_dropped, bag_served, bag_gone, bag_took, bag_created, bag_no_space}
-use Rattle.dm_rule.proofs.States.{State, says_next, said, State-at, by_label, by_line, PairsFit, routes_next}
+use Rattle.dm_rule.proofs.States.{State, says_next, said, State-at, by_label, by_line, PairsFit}
 use Rattle.dm_rule.proofs.Bags.{BagStep}
 use Rattle.dm_rule.proofs.Turns.{served_keeps, serving_off, created_off, quiet_label, front_label, dropped_off, dropped_told, front_unqueued, all_dropped, ended_off, gone_out}
 use Rattle.dm_rule.proofs.Letters.{letters, letter_of}

@@ -4,7 +4,6 @@ use Rattle.std.specs.Prelude.{if◌then◌else◌}
 use Rattle.std.specs.declared.option.Option.{Option}
 use Rattle.std.specs.declared.option.Option.TheVariants.{None, Some}
 use Rattle.std.proofs.lemmas.Bool.{cases_Bool, false≢true}
-use Rattle.std.proofs.lemmas.Bool.Decides.{nat_tests}
 use Rattle.dm_link.specs.declared.Pid.{Pid}
 use Rattle.dm_link.specs.Names.{pid_eq}
 use Rattle.dm_message.specs.declared.MsgId.{MsgId}
@@ -13,9 +12,9 @@ use Rattle.dm_rule.specs.Sets.{at_machine, at_record}
 use Rattle.dm_rule.specs.View.{View, handled, handled_first, without_first, receiver_of, held_for, released}
 use Rattle.dm_rule.specs.Spots.{Spot, Queue, Held, Inbox, Untaken, times, ids_at, standing, StandsOnce, StandsNowhere, StandsAsBag}
 use Rattle.dm_laws.proofs.Equal.{pid_eq-is, id_eq-is, id_eq-same, id_eq-swap}
-use Rattle.dm_rule.proofs.Standing.{times-append, spot_cases, once_at, StandsAsBag-same, StandsAsBag-once, StandsAsBag-one, StandsAsBag-elsewhere}
+use Rattle.dm_rule.proofs.Standing.{times-append, spot_cases, StandsAsBag-same, StandsAsBag-one, StandsAsBag-elsewhere}
 use Rattle.dm_rule.proofs.Once.{Kept, one_of, once_moves}
-use Rattle.dm_rule.proofs.Lines.{Bag, hidden, Stands, Stands-stays, at_machine_at, at_machine_off, at_record_off, at_record_at, eq_self, eq_is, not_true, inbox_apart, parts, front_goes, handled_off, handled_at, one_more}
+use Rattle.dm_rule.proofs.Lines.{Bag, Stands, Stands-stays, at_machine_at, at_machine_off, at_record_off, at_record_at, eq_is, not_true, inbox_apart, parts, front_goes, handled_off, handled_at, one_more}
 
 abbrev is_held : Spot → Bool
 is_held (Queue m p) = false
@@ -61,29 +60,38 @@ gathers : (f g : Spot → ℕ) (x y : Spot) → x ≢ y → g x ≡ 0 → g y �
 gathers f g x y apart gone all same (spot, one, others) = elim (spot_cases spot x) [
   | inl at_x ↦
       let fx : f x ≡ 1 = ap f (sym at_x) ∙ one in
-      let fy : f y ≡ 0 = others y (λ e. apart (sym at_x ∙ sym e)) in
-      (y, omega (arith, all, fx, fy), λ z off. elim (spot_cases z x) [
-        | inl is ↦ ap g is ∙ gone
-        | inr other ↦ same z other off ∙ others z (λ e. other (e ∙ at_x))
-      ])
+      let fy : f y ≡ 0 = others y (λ e. apart (sym at_x ∙ sym e)) in (
+        y,
+        omega (arith, all, fx, fy),
+        λ z off. elim (spot_cases z x) [
+          | inl is ↦ ap g is ∙ gone
+          | inr other ↦ same z other off ∙ others z (λ e. other (e ∙ at_x))
+        ],
+      )
   | inr off_x ↦
       let fx : f x ≡ 0 = others x (λ e. off_x (sym e)) in
       elim (spot_cases spot y) [
         | inl at_y ↦
-            let fy : f y ≡ 1 = ap f (sym at_y) ∙ one in
-            (y, omega (arith, all, fx, fy), λ z off. elim (spot_cases z x) [
-              | inl is ↦ ap g is ∙ gone
-              | inr other ↦ same z other off ∙ others z (λ e. off (e ∙ at_y))
-            ])
+            let fy : f y ≡ 1 = ap f (sym at_y) ∙ one in (
+              y,
+              omega (arith, all, fx, fy),
+              λ z off. elim (spot_cases z x) [
+                | inl is ↦ ap g is ∙ gone
+                | inr other ↦ same z other off ∙ others z (λ e. off (e ∙ at_y))
+              ],
+            )
         | inr off_y ↦
-            let fy : f y ≡ 0 = others y (λ e. off_y (sym e)) in
-            (spot, same spot off_x off_y ∙ one, λ z off. elim (spot_cases z x) [
-              | inl is ↦ ap g is ∙ gone
-              | inr other ↦ elim (spot_cases z y) [
-                | inl is ↦ ap g is ∙ (omega (arith, all, fx, fy))
-                | inr else_ ↦ same z other else_ ∙ others z off
-              ]
-            ])
+            let fy : f y ≡ 0 = others y (λ e. off_y (sym e)) in (
+              spot,
+              same spot off_x off_y ∙ one,
+              λ z off. elim (spot_cases z x) [
+                | inl is ↦ ap g is ∙ gone
+                | inr other ↦ elim (spot_cases z y) [
+                  | inl is ↦ ap g is ∙ (omega (arith, all, fx, fy))
+                  | inr else_ ↦ same z other else_ ∙ others z off
+                ]
+              ],
+            )
       ]
 ]
 

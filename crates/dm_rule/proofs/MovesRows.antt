@@ -18,21 +18,21 @@ use Rattle.dm_rule.specs.declared.line.Stage.TheVariants as stage
 use Rattle.dm_rule.specs.View.{View, Told, About, NothingElse, Target, Of, Known, Unknown, Here, Frozen, Incoming, Forward, Ended, view_after, handled, handled_first, receiver_of, is_kernels, target_of, with_ring, knowing, released, after_proto, follows_up, asks_on, held_for}
 use Rattle.dm_rule.specs.View as view
 use Rattle.dm_rule.specs.Addresses.{Addresses, Sender, Child, is_told_back, child_number}
-use Rattle.dm_rule.specs.Point.{Point, moved, label_of}
+use Rattle.dm_rule.specs.Point.{Point, moved}
 use Rattle.dm_rule.specs.Parts.{Part, Says, Again, Owns, Spelled, spelled}
-use Rattle.dm_rule.specs.Migrating.{to_kernel, forwards_on, moves_to, accepts, takes_chunk, takes_block, gives_piece, sends_on, leaves, kernel_told, chunks_of, pieces_of, updates, here_told, ended_told, process_told, server_told, migrates_child, migrates}
+use Rattle.dm_rule.specs.Migrating.{to_kernel, forwards_on, moves_to, accepts, takes_chunk, takes_block, gives_piece, sends_on, leaves, kernel_told, chunks_of, pieces_of, here_told, ended_told, process_told, server_told, migrates_child, migrates}
 use Rattle.dm_rule.specs.Rule.{fits, free_room, kernel_hears, hears}
 use Rattle.dm_rule.specs.Spots.{Spot, Queue, Held, Inbox, Untaken, ids_at}
 use Rattle.dm_laws.proofs.Steps.{bind-is}
-use Rattle.dm_rule.proofs.Lines.{Bag, hidden, Stands, Stands-stays}
+use Rattle.dm_rule.proofs.Lines.{hidden, Stands-stays}
 use Rattle.dm_rule.proofs.Letters.{letters}
 use Rattle.dm_rule.proofs.Hushed.{is_put, hushed}
-use Rattle.dm_rule.proofs.PairsLines.{touches, pair_same}
+use Rattle.dm_rule.proofs.PairsLines.{pair_same}
 use Rattle.dm_rule.proofs.States.{State, State-at, by_line, PairsFit, said}
 use Rattle.dm_rule.proofs.Said.{fits_as}
 use Rattle.dm_rule.proofs.MovesLists.{Stands-held, Stands-released, both_lists, first_off}
 use Rattle.dm_rule.proofs.MovesStates.{Between, by_own, front_way, front_kernels}
-use Rattle.dm_rule.proofs.MovesSent.{Way, Steady, steadied, fits_put, line_next, line_ends, line_owns, owns_ends, again_next, all_again, forwarded_way, sent_way}
+use Rattle.dm_rule.proofs.MovesSent.{Way, Steady, steadied, line_next, line_ends, line_owns, owns_ends, again_next, all_again, forwarded_way, sent_way}
 
 -- what the rule saw before the head is what stands behind it
 pub record SeesSame (o pt : Point) (m : ℕ) : Type 0 where
@@ -212,6 +212,13 @@ block_row pt i is p true w h fit front mine e =
     line_owns pt (line.Migration stage.MemoryTaken p) kind.AllTaken (pid_of i.from.home 0) i.from.home w refl refl fit (goes_first pt (line.Migration stage.MemoryTaken p) i is refl h front mine (λ z. memory_off pt.view p z)) e
 block_row pt i is p false w h fit front mine e = proto_row pt i is kind.PullBlock w h fit front mine e
 
+-- a process has left, and may be restarted
+left_row : (pt : Point) (i : MsgId) (p : Pid) (w : Spelled) → Steady pt → spelled pt (Says (line.Migration stage.Left p) ∷ to_kernel kind.Restart i.from.home ∷ []) ≡ Some w → State None w.point
+left_row pt i p w h e =
+    let l = line.Migration stage.Left p in
+    line_owns pt l kind.Restart (pid_of i.from.home 0) i.from.home w refl refl h.fits
+    (by_line None pt l refl h.state (Stands-stays (letters h.state.own pt.kernel.bag) pt.view (view_after pt.view l) (λ z. left_off pt.view p z) (λ j. refl) h.state.stands) (λ j. refl)) e
+
 -- the lists of a process that has left go on
 leaves_row : (pt : Point) (i : MsgId) (is : List MsgId) (p : Pid) (ids : List MsgId) (k : Known) (parts : List Part) (w : Spelled) → State None pt → PairsFit pt.view → pt.view.inbox pt.view.acting ≡ i ∷ is → is_kernels i ≡ true → both_lists pt.view p ≡ ids → leaves i p ids k ≡ Some parts → spelled pt parts ≡ Some w → State None w.point
 leaves_row pt i is p ids Unknown parts w h fit front mine same e n = cc
@@ -225,10 +232,7 @@ leaves_row pt i is p ids (Frozen to) parts w h fit front mine same e n =
     let fit' : PairsFit next.view = fits_as pt.view next.view (pair_same pt.view l refl) fit in
     let way : Way ids next = record { between = subst (λ (js : List MsgId). Between js next) same (sent_way pt p (length ids) i is h front mine); fits = fit' } in
     let a = all_again ids next to end k.rest way k.more in
-    let there = steadied a.next a.stands in
-    State-at None k.rest.point w.point k.point (State-at None a.rest.point k.rest.point a.point
-    (line_owns a.next (line.Migration stage.Left p) kind.Restart (pid_of i.from.home 0) i.from.home a.rest refl refl there.fits
-    (by_line None a.next (line.Migration stage.Left p) refl there.state (Stands-stays (letters there.state.own a.next.kernel.bag) a.next.view (view_after a.next.view (line.Migration stage.Left p)) (λ z. left_off a.next.view p z) (λ j. refl) there.state.stands) (λ j. refl)) a.more))
+    State-at None k.rest.point w.point k.point (State-at None a.rest.point k.rest.point a.point (left_row a.next i p a.rest (steadied a.next a.stands) a.more))
 leaves_row pt i is p ids (Incoming from) parts w h fit front mine same e n = cc
 leaves_row pt i is p ids (Forward at moves) parts w h fit front mine same e n = cc
 leaves_row pt i is p ids Ended parts w h fit front mine same e n = cc

@@ -15,21 +15,20 @@ use Rattle.dm_onekernel.specs.Kernel.{OneKernel}
 use Rattle.dm_rule.specs.declared.line.Line.{Line}
 use Rattle.dm_rule.specs.declared.line.Line.TheVariants as line
 use Rattle.dm_rule.specs.declared.line.Load.{Load}
-use Rattle.dm_rule.specs.Sets.{at_pair}
 use Rattle.dm_rule.specs.View.{View, Pair, Told, view_after, handled, handled_first, receiver_of, is_kernels, own_id, forwarded_for, routed_on, after_put}
 use Rattle.dm_rule.specs.Point.{Point, label_of, kernel_after, moved, after}
 use Rattle.dm_rule.specs.Parts.{Part, Says, Again, Owns, Spelled, lines_of, puts, behind, spelled}
 use Rattle.dm_rule.specs.Migrating.{sends_on}
 use Rattle.dm_rule.specs.Spots.{Spot, Queue, Held, Inbox, Untaken, times, ids_at, standing}
-use Rattle.dm_laws.proofs.Equal.{id_eq-is, id_eq-same}
+use Rattle.dm_laws.proofs.Equal.{id_eq-is}
 use Rattle.dm_laws.proofs.Steps.{bind-is}
 use Rattle.dm_rule.proofs.Once.{one_of}
-use Rattle.dm_rule.proofs.Lines.{Bag, hidden, Stands, Stands-same, Stands-handled, not_true}
+use Rattle.dm_rule.proofs.Lines.{Bag, hidden, Stands, Stands-same, Stands-handled}
 use Rattle.dm_rule.proofs.Letters.{letters}
-use Rattle.dm_rule.proofs.Hushed.{Hushed, hushed}
+use Rattle.dm_rule.proofs.Hushed.{hushed}
 use Rattle.dm_rule.proofs.PairsStand.{set_is, set_other}
 use Rattle.dm_rule.proofs.PairsLines.{touches, pair_same}
-use Rattle.dm_rule.proofs.States.{State, PairsFit, SaysNext, says_next, said, State-at, by_packet, numbered_as, PutNext, puts_next}
+use Rattle.dm_rule.proofs.States.{State, PairsFit, says_next, said, State-at, by_packet, numbered_as, PutNext, puts_next}
 use Rattle.dm_rule.proofs.Said.{fits_as}
 use Rattle.dm_rule.proofs.MovesLists.{without_all, both_lists, both_once, both_times, emptied, Stands-emptied, under_way, first_off}
 use Rattle.dm_rule.proofs.MovesStates.{hidden_letters, front_way, Between, between_packet, arrived, again, by_own_put}

@@ -1,21 +1,20 @@
 -- What migration says keeps that each message stands once: the kernels' own messages come and go, and messages go on.
-use Rattle.std.proofs.Common.{◌≡◌, ℕ, zero, suc, ◌+◌, ◌≤◌, ◌==◌, ◌&&◌, Bool, true, false, List, [], ◌∷◌, ◌++◌, refl, ap, ◌∙◌, sym, subst, arith, inl, inr}
+use Rattle.std.proofs.Common.{◌≡◌, ℕ, suc, ◌+◌, ◌≤◌, ◌==◌, Bool, true, false, List, [], ◌∷◌, refl, ap, ◌∙◌, sym, subst, arith, inl, inr}
 use Rattle.std.specs.Prelude.{if◌then◌else◌}
 use Rattle.std.specs.declared.option.Option.{Option}
 use Rattle.std.specs.declared.option.Option.TheVariants.{None, Some}
 use Rattle.std.proofs.lemmas.Bool.{cases_Bool, false≢true}
 use Rattle.std.proofs.lemmas.Bool.Decides.{nat_tests}
 use Rattle.dm_link.specs.declared.Pid.{Pid}
-use Rattle.dm_link.specs.Names.{pid_of, pid_eq}
+use Rattle.dm_link.specs.Names.{pid_of}
 use Rattle.dm_message.specs.declared.MsgId.{MsgId}
 use Rattle.dm_message.specs.declared.kind.MessageKind.{MessageKind}
 use Rattle.dm_message.specs.Ids.{id_eq, id_of}
 use Rattle.dm_message.specs.Plain.{PlainMessage}
-use Rattle.dm_onekernel.specs.Kernel.{OneKernel}
 use Rattle.dm_rule.specs.declared.line.Line.{Line}
 use Rattle.dm_rule.specs.declared.line.Line.TheVariants as line
 use Rattle.dm_rule.specs.declared.line.Load.{Load}
-use Rattle.dm_rule.specs.Sets.{at_machine, at_id}
+use Rattle.dm_rule.specs.Sets.{at_machine}
 use Rattle.dm_rule.specs.View.{View, Told, view_after, handled, handled_first, receiver_of, is_kernels, own_id}
 use Rattle.dm_rule.specs.View as view
 use Rattle.dm_rule.specs.Homes.{to_of}
@@ -24,11 +23,11 @@ use Rattle.dm_rule.specs.Spots.{Spot, Queue, Held, Inbox, Untaken, times, ids_at
 use Rattle.dm_laws.proofs.Equal.{id_eq-is, id_eq-same}
 use Rattle.dm_laws.proofs.Sound.{Sound}
 use Rattle.dm_rule.proofs.Once.{one_of}
-use Rattle.dm_rule.proofs.Lines.{Bag, hidden, having, Stands, Stands-same, Stands-stays, Stands-handled, untold_tells, having_at, having_off, pair_keeps, not_true}
-use Rattle.dm_rule.proofs.Letters.{letters, letters_own, letters_bag, letter_of, not_kernels}
-use Rattle.dm_rule.proofs.Hushed.{Hushed, is_put, hushed}
-use Rattle.dm_rule.proofs.States.{State, by_line, PairsFit, put_stands, put_told_off, numbered_as}
-use Rattle.dm_rule.proofs.MovesLists.{without_all, without_off, both_lists, both_once, both_times, Stands-emptied, under_way, first_off}
+use Rattle.dm_rule.proofs.Lines.{Bag, hidden, having, Stands, Stands-same, Stands-stays, Stands-handled, untold_tells, having_off, pair_keeps, not_true}
+use Rattle.dm_rule.proofs.Letters.{letters, letters_own, letters_bag}
+use Rattle.dm_rule.proofs.Hushed.{is_put, hushed}
+use Rattle.dm_rule.proofs.States.{State, PairsFit, put_stands, put_told_off, numbered_as}
+use Rattle.dm_rule.proofs.MovesLists.{without_all, without_off, under_way, first_off}
 
 -- a kernel's own message goes
 pub hidden_letters : (own : Bag) (bag : MsgId → Option PlainMessage) (i : MsgId) → is_kernels i ≡ true → (j : MsgId) → letters (hidden (Some i) own) bag j ≡ hidden (Some i) (letters own bag) j
@@ -41,17 +40,20 @@ hidden_letters own bag i k j = elim (cases_Bool (id_eq i j)) [
 ]
 
 -- the message at the front of the inbox stands there
-front_one : (v : View) (i : MsgId) (is : List MsgId) → v.inbox v.acting ≡ i ∷ is → 1 ≤ standing v i (Inbox v.acting)
-front_one v i is front =
-    let a : times i (v.inbox v.acting) ≡ times i (i ∷ is) = ap (times i) front in
+front_one : (v : View) (m : ℕ) (i : MsgId) (is : List MsgId) → v.inbox m ≡ i ∷ is → 1 ≤ standing v i (Inbox m)
+front_one v m i is front =
+    let a : times i (v.inbox m) ≡ times i (i ∷ is) = ap (times i) front in
     let b : one_of i i ≡ 1 = ap (λ (c : Bool). if c then 1 else 0) (id_eq-same i) in
     omega (arith, a, b)
 
+pub inbox_way : (pt : Point) (m : ℕ) (i : MsgId) (is : List MsgId) (h : State None pt) → pt.view.inbox m ≡ i ∷ is → (q : Pid) × (letters h.own pt.kernel.bag i ≡ Some q)
+inbox_way pt m i is h front = under_way (letters h.own pt.kernel.bag i) (standing pt.view i) (Inbox m) (front_one pt.view m i is front) (h.stands.kept i)
+
 pub front_way : (pt : Point) (i : MsgId) (is : List MsgId) (h : State None pt) → pt.view.inbox pt.view.acting ≡ i ∷ is → (q : Pid) × (letters h.own pt.kernel.bag i ≡ Some q)
-front_way pt i is h front = under_way (letters h.own pt.kernel.bag i) (standing pt.view i) (Inbox pt.view.acting) (front_one pt.view i is front) (h.stands.kept i)
+front_way pt i is h front = inbox_way pt pt.view.acting i is h front
 
 -- one that isn't in the bag is a kernel's own
-kernels_by : (own : Bag) (bag : MsgId → Option PlainMessage) (i : MsgId) (q : Pid) (b : Bool) → is_kernels i ≡ b → bag i ≡ None → letters own bag i ≡ Some q → b ≡ true
+pub kernels_by : (own : Bag) (bag : MsgId → Option PlainMessage) (i : MsgId) (q : Pid) (b : Bool) → is_kernels i ≡ b → bag i ≡ None → letters own bag i ≡ Some q → b ≡ true
 kernels_by own bag i q true k none is = refl
 kernels_by own bag i q false k none is = absurd (let f : None ≡ Some q = sym (letters_bag own bag i k ∙ ap to_of none) ∙ is in cc)
 

@@ -4,7 +4,7 @@ use Rattle.std.specs.Prelude.{◌/◌, if◌then◌else◌}
 use Rattle.std.specs.declared.option.Option.{Option}
 use Rattle.std.specs.declared.option.Option.TheVariants.{None, Some}
 use Rattle.dm_link.specs.declared.Pid.{Pid}
-use Rattle.dm_link.specs.Names.{pid_of, pid_eq}
+use Rattle.dm_link.specs.Names.{pid_eq}
 use Rattle.dm_message.specs.declared.MsgId.{MsgId}
 use Rattle.dm_message.specs.declared.kind.MessageKind.{MessageKind}
 use Rattle.dm_message.specs.declared.kind.MessageKind.TheVariants as kind
@@ -16,12 +16,12 @@ use Rattle.dm_rule.specs.declared.line.Line.TheVariants as line
 use Rattle.dm_rule.specs.declared.line.Stage.TheVariants as stage
 use Rattle.dm_rule.specs.View.{Pair, Told, About, NothingElse, Target, Of, Known, Unknown, Here, Frozen, Incoming, Forward, Ended, target_of}
 use Rattle.dm_rule.specs.View as view
-use Rattle.dm_rule.specs.Addresses.{Addresses, Sender, Child, is_told_back, child_number}
+use Rattle.dm_rule.specs.Addresses.{Addresses, Sender, is_told_back, child_number}
 use Rattle.dm_rule.specs.Point.{Point}
-use Rattle.dm_rule.specs.Parts.{Part, Says, Again, Owns}
+use Rattle.dm_rule.specs.Parts.{Part, Says, Owns}
 use Rattle.dm_rule.specs.Migrating.{to_kernel, forwards_on, moves_to, accepts, takes_chunk, takes_block, gives_piece, sends_on, leaves, kernel_told, chunks_of, pieces_of, updates, here_told, ended_told, process_told, server_told, migrates_child, migrates}
 use Rattle.dm_rule.specs.Rule.{fits, free_room, kernel_hears, hears}
-use Rattle.dm_rule.proofs.PairsLines.{bind-is, Fits, AllFit, AllFit-both}
+use Rattle.dm_rule.proofs.PairsLines.{bind-is, AllFit, AllFit-both}
 
 given : (f : ℕ → ℕ → Pair) (qs ps : List Part) → AllFit f qs → Some qs ≡ Some ps → AllFit f ps
 given f qs ps h e = let k : qs ≡ ps = cc in subst (AllFit f) k h

@@ -1,12 +1,12 @@
 -- A line is said, alone or before a message that is routed.
-use Rattle.std.proofs.Common.{◌≡◌, ℕ, ◌≤◌, List, [], ◌∷◌, sym, subst, length}
+use Rattle.std.proofs.Common.{◌≡◌, ℕ, ◌≤◌, [], ◌∷◌, sym, subst, length}
 use Rattle.std.specs.declared.option.Option.TheVariants.{None, Some}
 use Rattle.dm_message.specs.declared.MsgId.{MsgId}
 use Rattle.dm_onekernel.specs.Kernel.{OneKernel}
 use Rattle.dm_rule.specs.declared.line.Line.{Line}
 use Rattle.dm_rule.specs.View.{View, Pair, view_after}
 use Rattle.dm_rule.specs.Point.{Point, label_of, kernel_after, moved}
-use Rattle.dm_rule.specs.Parts.{Part, Says, Routes, Spelled, spelled}
+use Rattle.dm_rule.specs.Parts.{Says, Routes, Spelled, spelled}
 use Rattle.dm_rule.proofs.States.{State, says_next, said, State-at, PairsFit, routes_next}
 
 pub fits_as : (v w : View) → w.pair ≡ v.pair → PairsFit v → PairsFit w
@@ -28,4 +28,3 @@ line_and_route pt l i w e pair fits h =
     let k = says_next pt l (Routes i ∷ []) w e in
     let n = routes_next (moved pt l k.s) i [] k.rest (h k.s k.is) (fits_as pt.view (view_after pt.view l) pair fits) k.more in
     State-at None k.rest.point w.point k.point (State-at None n.rest.point k.rest.point n.point (State-at None n.next n.rest.point (said n.next n.rest n.more) n.stands))
-

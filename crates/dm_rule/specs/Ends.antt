@@ -1,5 +1,5 @@
 -- The lines at the end of a run: where everything stands then, by the kernel without machines, the view and the addresses.
-use Rattle.std.specs.Prelude.{ℕ, zero, suc, ◌+◌, ◌*◌, ◌/◌, Bool, true, false, ◌==◌, if◌then◌else◌, List, [], ◌∷◌, ◌++◌, length, take, drop}
+use Rattle.std.specs.Prelude.{ℕ, zero, suc, ◌+◌, ◌*◌, ◌/◌, ◌==◌, if◌then◌else◌, List, [], ◌∷◌, ◌++◌, length, take, drop}
 use Rattle.std.specs.declared.option.Option.{Option}
 use Rattle.std.specs.declared.option.Option.TheVariants.{None, Some}
 use Rattle.dm_link.specs.declared.Link.{Link}
@@ -20,7 +20,7 @@ use Rattle.dm_rule.specs.declared.line.Standing.{Standing}
 use Rattle.dm_rule.specs.declared.line.Standing.TheVariants as standing
 use Rattle.dm_rule.specs.declared.line.Doing.{Doing}
 use Rattle.dm_rule.specs.declared.line.Doing.TheVariants as doing
-use Rattle.dm_rule.specs.View.{View, Pair, Known, Unknown, Here, Frozen, Incoming, Forward, Ended}
+use Rattle.dm_rule.specs.View.{View, Known, Unknown, Here, Frozen, Incoming, Forward, Ended}
 use Rattle.dm_rule.specs.Addresses.{Addresses, Slot, Child, Name}
 use Rattle.dm_rule.specs.Point.{Point}
 use Rattle.dm_rule.specs.Spots.{untaken}

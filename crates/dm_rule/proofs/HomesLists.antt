@@ -1,0 +1,272 @@
+-- Each message stands where its receiver is at home: what lines do to the lists that messages stand in.
+use Rattle.std.proofs.Common.{◌≡◌, ℕ, zero, suc, ◌+◌, ◌≤◌, ◌==◌, ◌&&◌, Bool, true, false, not, List, [], ◌∷◌, ◌++◌, drop, refl, ap, ◌∙◌, sym, inl, inr, arith, nat_le}
+use Rattle.std.specs.Prelude.{if◌then◌else◌, slice_get, filter}
+use Rattle.std.specs.declared.option.Option.{Option}
+use Rattle.std.specs.declared.option.Option.TheVariants.{None, Some}
+use Rattle.std.proofs.lemmas.Bool.{cases_Bool}
+use Rattle.std.proofs.lemmas.Bool.Decides.{nat_tests}
+use Rattle.dm_link.specs.declared.Pid.{Pid}
+use Rattle.dm_link.specs.Names.{pid_eq}
+use Rattle.dm_message.specs.declared.MsgId.{MsgId}
+use Rattle.dm_message.specs.Ids.{id_eq}
+use Rattle.dm_message.specs.declared.kind.MessageKind.{MessageKind}
+use Rattle.dm_message.specs.declared.kind.MessageKind.TheVariants as kind
+use Rattle.dm_message.specs.Plain.{PlainMessage}
+use Rattle.dm_onekernel.specs.declared.label.Label.{Label}
+use Rattle.dm_onekernel.specs.declared.label.Label.TheVariants as label
+use Rattle.dm_onekernel.specs.Kernel.{OneKernel}
+use Rattle.dm_rule.specs.Sets.{at_machine, at_pair, at_record, without_id, without_front}
+use Rattle.dm_rule.specs.Spots.{untaken}
+use Rattle.dm_rule.specs.View as view
+use Rattle.dm_rule.specs.View.{View, Pair, Told, after_label, served_told, kills, handled, routed_on, after_put, after_taken, taken_id, oldest, queued_for}
+use Rattle.dm_rule.specs.Homes.{is_for_home, are_for_home}
+
+-- each of these messages has entered, and is for a receiver of this home as long as it is in the bag
+abbrev pub stands : OneKernel → (MsgId → ℕ) → ℕ → MsgId → Bool
+stands s e m i = nat_le 1 (e i) && is_for_home m (s.bag i)
+
+abbrev pub all_stand : OneKernel → (MsgId → ℕ) → ℕ → List MsgId → Bool
+all_stand s e m [] = true
+all_stand s e m (i ∷ is) = stands s e m i && all_stand s e m is
+
+both : (b c : Bool) → (b && c) ≡ true → (b ≡ true) × (c ≡ true)
+both true c e = (refl, e)
+both false c e = cc
+
+two_hold : (b c : Bool) → b ≡ true → c ≡ true → (b && c) ≡ true
+two_hold true c e f = f
+two_hold false c e f = e
+
+pub are_for : (s : OneKernel) (e : MsgId → ℕ) (m : ℕ) (is : List MsgId) → all_stand s e m is ≡ true → are_for_home s m is ≡ true
+are_for s e m [] h = refl
+are_for s e m (i ∷ is) h =
+    let k = both (stands s e m i) (all_stand s e m is) h in
+    two_hold (is_for_home m (s.bag i)) (are_for_home s m is) (both (nat_le 1 (e i)) (is_for_home m (s.bag i)) k.0).1 (are_for s e m is k.1)
+
+pub all_stand_last : (s : OneKernel) (e : MsgId → ℕ) (m : ℕ) (is : List MsgId) (i : MsgId) → all_stand s e m is ≡ true → stands s e m i ≡ true → all_stand s e m (is ++ i ∷ []) ≡ true
+all_stand_last s e m [] i h k = two_hold (stands s e m i) true k refl
+all_stand_last s e m (j ∷ js) i h k =
+    let w = both (stands s e m j) (all_stand s e m js) h in
+    two_hold (stands s e m j) (all_stand s e m (js ++ i ∷ [])) w.0 (all_stand_last s e m js i w.1 k)
+
+front_if : (s : OneKernel) (e : MsgId → ℕ) (m : ℕ) (b : Bool) (j : MsgId) (js : List MsgId) → all_stand s e m (j ∷ js) ≡ true → all_stand s e m (if b then js else j ∷ js) ≡ true
+front_if s e m true j js h = (both (stands s e m j) (all_stand s e m js) h).1
+front_if s e m false j js h = h
+
+pub all_stand_front : (s : OneKernel) (e : MsgId → ℕ) (m : ℕ) (i : MsgId) (is : List MsgId) → all_stand s e m is ≡ true → all_stand s e m (without_front i is) ≡ true
+all_stand_front s e m i [] h = refl
+all_stand_front s e m i (j ∷ js) h = front_if s e m (id_eq i j) j js h
+
+without_if : (s : OneKernel) (e : MsgId → ℕ) (m : ℕ) (b : Bool) (j : MsgId) (js ks : List MsgId) → stands s e m j ≡ true → all_stand s e m js ≡ true → all_stand s e m ks ≡ true → all_stand s e m (if b then js else j ∷ ks) ≡ true
+without_if s e m true j js ks h k l = k
+without_if s e m false j js ks h k l = two_hold (stands s e m j) (all_stand s e m ks) h l
+
+pub all_stand_without : (s : OneKernel) (e : MsgId → ℕ) (m : ℕ) (i : MsgId) (is : List MsgId) → all_stand s e m is ≡ true → all_stand s e m (without_id i is) ≡ true
+all_stand_without s e m i [] h = refl
+all_stand_without s e m i (j ∷ js) h =
+    let w = both (stands s e m j) (all_stand s e m js) h in
+    without_if s e m (id_eq i j) j js (without_id i js) w.0 w.1 (all_stand_without s e m i js w.1)
+
+-- a pair's list: one more at the end, the first taken
+drop_none : (s : OneKernel) (e : MsgId → ℕ) (m n : ℕ) → all_stand s e m (drop n []) ≡ true
+drop_none s e m zero = refl
+drop_none s e m (suc n) = refl
+
+pub drop_last : (s : OneKernel) (e : MsgId → ℕ) (m n : ℕ) (is : List MsgId) (i : MsgId) → all_stand s e m (drop n is) ≡ true → stands s e m i ≡ true → all_stand s e m (drop n (is ++ i ∷ [])) ≡ true
+drop_last s e m zero is i h k = all_stand_last s e m is i h k
+drop_last s e m (suc n) [] i h k = drop_none s e m n
+drop_last s e m (suc n) (j ∷ js) i h k = drop_last s e m n js i h k
+
+pub drop_one : (s : OneKernel) (e : MsgId → ℕ) (m n : ℕ) (is : List MsgId) → all_stand s e m (drop n is) ≡ true → all_stand s e m (drop (suc n) is) ≡ true
+drop_one s e m n [] h = refl
+drop_one s e m zero (j ∷ js) h = (both (stands s e m j) (all_stand s e m js) h).1
+drop_one s e m (suc n) (j ∷ js) h = drop_one s e m n js h
+
+pub drop_first : (s : OneKernel) (e : MsgId → ℕ) (m n : ℕ) (is : List MsgId) (i : MsgId) → slice_get is n ≡ Some i → all_stand s e m (drop n is) ≡ true → stands s e m i ≡ true
+drop_first s e m n [] i f h = cc
+drop_first s e m zero (j ∷ js) i f h = let k : j ≡ i = cc in ap (stands s e m) (sym k) ∙ (both (stands s e m j) (all_stand s e m js) h).0
+drop_first s e m (suc n) (j ∷ js) i f h = drop_first s e m n js i f h
+
+-- the kernel goes on: what has entered, and is in the bag, was there already
+abbrev pub Old : (MsgId → ℕ) → OneKernel → OneKernel → Type 0
+Old e s t = (i : MsgId) (x : PlainMessage) → nat_le 1 (e i) ≡ true → t.bag i ≡ Some x → s.bag i ≡ Some x
+
+for_home_on : (m : ℕ) (a b : Option PlainMessage) → ((x : PlainMessage) → b ≡ Some x → a ≡ Some x) → is_for_home m a ≡ true → is_for_home m b ≡ true
+for_home_on m a None h k = refl
+for_home_on m a (Some x) h k = sym (ap (is_for_home m) (h x refl)) ∙ k
+
+pub stand_on : (s t : OneKernel) (e f : MsgId → ℕ) (m : ℕ) (is : List MsgId) → Old e s t → ((i : MsgId) → e i ≤ f i) → all_stand s e m is ≡ true → all_stand t f m is ≡ true
+stand_on s t e f m [] old le h = refl
+stand_on s t e f m (i ∷ is) old le h =
+    let w = both (stands s e m i) (all_stand s e m is) h in
+    let x = both (nat_le 1 (e i)) (is_for_home m (s.bag i)) w.0 in
+    let entered = x.0 in
+    let more = le i in
+    two_hold (stands t f m i) (all_stand t f m is)
+    (two_hold (nat_le 1 (f i)) (is_for_home m (t.bag i)) (let g : nat_le 1 (f i) ≡ true = grind (arith, nat_tests) in g) (for_home_on m (s.bag i) (t.bag i) (λ y there. old i y entered there) x.1))
+    (stand_on s t e f m is old le w.1)
+
+pub record ListsHome (s : OneKernel) (e : MsgId → ℕ) (v : View) : Type 0 where
+  pub inbox : (m : ℕ) → all_stand s e m (v.inbox m) ≡ true
+  pub queue : (m : ℕ) (p : Pid) → all_stand s e m (v.queue m p) ≡ true
+  pub untaken : (a m : ℕ) → all_stand s e m (untaken (v.pair a m)) ≡ true
+
+pub lists_on : (s t : OneKernel) (e f : MsgId → ℕ) (v : View) → Old e s t → ((i : MsgId) → e i ≤ f i) → ListsHome s e v → ListsHome t f v
+lists_on s t e f v old le h = record {
+  inbox = λ m. stand_on s t e f m (v.inbox m) old le (h.inbox m);
+  queue = λ m p. stand_on s t e f m (v.queue m p) old le (h.queue m p);
+  untaken = λ a m. stand_on s t e f m (untaken (v.pair a m)) old le (h.untaken a m);
+}
+
+-- one machine's inbox, one process's queue
+inbox_set : (s : OneKernel) (e : MsgId → ℕ) (f : ℕ → List MsgId) (m : ℕ) (is : List MsgId) → all_stand s e m is ≡ true → ((n : ℕ) → all_stand s e n (f n) ≡ true) → (n : ℕ) → all_stand s e n (at_machine f m is n) ≡ true
+inbox_set s e f m is h k n = elim (cases_Bool (m == n)) [
+  | inl same ↦
+      let at : m ≡ n = grind (arith, nat_tests) in
+      ap (λ (c : Bool). all_stand s e n (if c then is else f n)) same ∙ ap (λ (i : ℕ). all_stand s e i is) (sym at) ∙ h
+  | inr apart ↦ ap (λ (c : Bool). all_stand s e n (if c then is else f n)) apart ∙ k n
+]
+
+queue_if : (s : OneKernel) (e : MsgId → ℕ) (m n : ℕ) (b : Bool) (is js : List MsgId) → (m == n) ≡ true → all_stand s e m is ≡ true → all_stand s e n js ≡ true → all_stand s e n (if b then is else js) ≡ true
+queue_if s e m n true is js same h k = let at : m ≡ n = grind (arith, nat_tests) in ap (λ (i : ℕ). all_stand s e i is) (sym at) ∙ h
+queue_if s e m n false is js same h k = k
+
+queue_set : (s : OneKernel) (e : MsgId → ℕ) (f : ℕ → Pid → List MsgId) (m : ℕ) (p : Pid) (is : List MsgId) → all_stand s e m is ≡ true → ((n : ℕ) (q : Pid) → all_stand s e n (f n q) ≡ true) → (n : ℕ) (q : Pid) → all_stand s e n (at_record f m p is n q) ≡ true
+queue_set s e f m p is h k n q = elim (cases_Bool (m == n)) [
+  | inl same ↦ ap (λ (c : Bool). all_stand s e n (if c && pid_eq p q then is else f n q)) same ∙ queue_if s e m n (pid_eq p q) is (f n q) same h (k n q)
+  | inr apart ↦ ap (λ (c : Bool). all_stand s e n (if c && pid_eq p q then is else f n q)) apart ∙ k n q
+]
+
+-- a label's lists
+pub handled_lists : (s : OneKernel) (e : MsgId → ℕ) (v : View) (id : MsgId) → ListsHome s e v → ListsHome s e (handled v id)
+handled_lists s e v id h = record {
+  inbox = inbox_set s e v.inbox v.acting (without_front id (v.inbox v.acting)) (all_stand_front s e v.acting id (v.inbox v.acting) (h.inbox v.acting)) h.inbox;
+  queue = h.queue;
+  untaken = h.untaken;
+}
+
+dropped_lists : (s : OneKernel) (e : MsgId → ℕ) (v : View) (id : MsgId) (o : Option Pid) → ListsHome s e v → ListsHome s e (view.dropped_for v id o)
+dropped_lists s e v id None h = h
+dropped_lists s e v id (Some p) h = record {
+  inbox = h.inbox;
+  queue = queue_set s e v.queue v.acting p (without_front id (v.queue v.acting p)) (all_stand_front s e v.acting id (v.queue v.acting p) (h.queue v.acting p)) h.queue;
+  untaken = h.untaken;
+}
+
+kills_lists : (s : OneKernel) (e : MsgId → ℕ) (v : View) (k : MessageKind) (o : Option Pid) → ListsHome s e v → ListsHome s e (kills k v o)
+kills_lists s e v kind.Kill (Some p) h = record { inbox = h.inbox; queue = h.queue; untaken = h.untaken }
+kills_lists s e v kind.Kill None h = h
+kills_lists s e v kind.User o h = h
+kills_lists s e v kind.Stop o h = h
+kills_lists s e v kind.Resume o h = h
+kills_lists s e v kind.Read o h = h
+kills_lists s e v kind.Write o h = h
+kills_lists s e v kind.Block o h = h
+kills_lists s e v kind.Written o h = h
+kills_lists s e v kind.Gone o h = h
+kills_lists s e v kind.Create o h = h
+kills_lists s e v kind.Created o h = h
+kills_lists s e v kind.NoRoom o h = h
+kills_lists s e v kind.Migrate o h = h
+kills_lists s e v kind.Update o h = h
+kills_lists s e v kind.Ask o h = h
+kills_lists s e v kind.Refuse o h = h
+kills_lists s e v kind.PullState o h = h
+kills_lists s e v kind.State o h = h
+kills_lists s e v kind.PullBlock o h = h
+kills_lists s e v kind.Memory o h = h
+kills_lists s e v kind.AllTaken o h = h
+kills_lists s e v kind.Restart o h = h
+kills_lists s e v kind.Move o h = h
+kills_lists s e v kind.Moved o h = h
+kills_lists s e v kind.CallOff o h = h
+kills_lists s e v kind.Bury o h = h
+
+told_lists : (s : OneKernel) (e : MsgId → ℕ) (v : View) (o : Option Told) → ListsHome s e v → ListsHome s e (served_told v o)
+told_lists s e v None h = h
+told_lists s e v (Some t) h = kills_lists s e v t.kind (Some t.receiver) h
+
+pub label_lists : (s : OneKernel) (e : MsgId → ℕ) (v : View) (l : Label) → ListsHome s e v → ListsHome s e (after_label v l)
+label_lists s e v (label.Ran p k) h = record { inbox = h.inbox; queue = h.queue; untaken = h.untaken }
+label_lists s e v (label.Call p n c) h = h
+label_lists s e v (label.Send p id) h = h
+label_lists s e v (label.Wait p) h = h
+label_lists s e v (label.Out p w) h = h
+label_lists s e v (label.End p y) h = record { inbox = h.inbox; queue = h.queue; untaken = h.untaken }
+label_lists s e v (label.Receive p id) h = record {
+  inbox = h.inbox;
+  queue = queue_set s e v.queue v.acting p (without_id id (v.queue v.acting p)) (all_stand_without s e v.acting id (v.queue v.acting p) (h.queue v.acting p)) h.queue;
+  untaken = h.untaken;
+}
+label_lists s e v (label.Refuse p id c) h = record { inbox = h.inbox; queue = h.queue; untaken = h.untaken }
+label_lists s e v (label.Dropped id) h = dropped_lists s e (handled v id) id (view.receiver_of (v.told id)) (handled_lists s e v id h)
+label_lists s e v (label.Served id) h = told_lists s e (handled v id) (v.told id) (handled_lists s e v id h)
+label_lists s e v (label.Gone id) h = handled_lists s e v id h
+label_lists s e v (label.Took id) h = handled_lists s e v id h
+label_lists s e v (label.Created id p) h = let k = handled_lists s e v id h in record { inbox = k.inbox; queue = k.queue; untaken = k.untaken }
+label_lists s e v (label.NoSpace id f b) h = handled_lists s e v id h
+
+-- queued
+queued_lists : (s : OneKernel) (e : MsgId → ℕ) (v : View) (id : MsgId) (o : Option Pid) → stands s e v.acting id ≡ true → ListsHome s e v → ListsHome s e (queued_for v id o)
+queued_lists s e v id None at h = h
+queued_lists s e v id (Some p) at h = record {
+  inbox = h.inbox;
+  queue = queue_set s e v.queue v.acting p (v.queue v.acting p ++ id ∷ []) (all_stand_last s e v.acting (v.queue v.acting p) id (h.queue v.acting p) at) h.queue;
+  untaken = h.untaken;
+}
+
+pub queue_lists : (s : OneKernel) (e : MsgId → ℕ) (v : View) (id : MsgId) → stands s e v.acting id ≡ true → ListsHome s e v → ListsHome s e (queued_for (handled v id) id (view.receiver_of (v.told id)))
+queue_lists s e v id at h = queued_lists s e (handled v id) id (view.receiver_of (v.told id)) at (handled_lists s e v id h)
+
+-- a pair changes
+pair_if : (s : OneKernel) (e : MsgId → ℕ) (b d : ℕ) (c : Bool) (p q : Pair) → (b == d) ≡ true → all_stand s e b (untaken p) ≡ true → all_stand s e d (untaken q) ≡ true → all_stand s e d (untaken (if c then p else q)) ≡ true
+pair_if s e b d true p q same h k = let at : b ≡ d = grind (arith, nat_tests) in ap (λ (i : ℕ). all_stand s e i (untaken p)) (sym at) ∙ h
+pair_if s e b d false p q same h k = k
+
+and-swap : (b c : Bool) → (b && c) ≡ (c && b)
+and-swap true true = refl
+and-swap true false = refl
+and-swap false true = refl
+and-swap false false = refl
+
+pub pair_set : (s : OneKernel) (e : MsgId → ℕ) (f : ℕ → ℕ → Pair) (a b : ℕ) (p : Pair) → all_stand s e b (untaken p) ≡ true → ((c d : ℕ) → all_stand s e d (untaken (f c d)) ≡ true) → (c d : ℕ) → all_stand s e d (untaken (at_pair f a b p c d)) ≡ true
+pair_set s e f a b p h k c d =
+    ap (λ (x : Bool). all_stand s e d (untaken (if x then p else f c d))) (and-swap (a == c) (b == d))
+    ∙ elim (cases_Bool (b == d)) [
+      | inl same ↦ ap (λ (x : Bool). all_stand s e d (untaken (if x && (a == c) then p else f c d))) same ∙ pair_if s e b d (a == c) p (f c d) same h (k c d)
+      | inr apart ↦ ap (λ (x : Bool). all_stand s e d (untaken (if x && (a == c) then p else f c d))) apart ∙ k c d
+    ]
+
+-- a message is routed
+routed_stands : (s : OneKernel) (e : MsgId → ℕ) (a b : ℕ) (p : Pair) (id : MsgId) (c : Bool) → stands s e b id ≡ true → all_stand s e b (untaken p) ≡ true → all_stand s e b (drop (if c then p.taken + 1 else p.taken) (p.ids ++ id ∷ [])) ≡ true
+routed_stands s e a b p id true at h =
+    let next : suc p.taken ≡ p.taken + 1 = omega arith in
+    ap (λ (n : ℕ). all_stand s e b (drop n (p.ids ++ id ∷ []))) (sym next) ∙ drop_one s e b p.taken (p.ids ++ id ∷ []) (drop_last s e b p.taken p.ids id h at)
+routed_stands s e a b p id false at h = drop_last s e b p.taken p.ids id h at
+
+inbox_if : (s : OneKernel) (e : MsgId → ℕ) (f g : ℕ → List MsgId) (c : Bool) → ((n : ℕ) → all_stand s e n (f n) ≡ true) → ((n : ℕ) → all_stand s e n (g n) ≡ true) → (n : ℕ) → all_stand s e n ((if c then f else g) n) ≡ true
+inbox_if s e f g true h k n = h n
+inbox_if s e f g false h k n = k n
+
+pub put_lists : (s : OneKernel) (e : MsgId → ℕ) (v : View) (a b : ℕ) (id : MsgId) (k : MessageKind) (q : Pid) → stands s e b id ≡ true → ListsHome s e v → ListsHome s e (after_put v a b id k q)
+put_lists s e v a b id k q at h = record {
+  inbox = inbox_if s e (at_machine v.inbox b (v.inbox b ++ id ∷ [])) v.inbox (a == b) (inbox_set s e v.inbox b (v.inbox b ++ id ∷ []) (all_stand_last s e b (v.inbox b) id (h.inbox b) at) h.inbox) h.inbox;
+  queue = h.queue;
+  untaken = pair_set s e v.pair a b (routed_on a b (v.pair a b) id) (routed_stands s e a b (v.pair a b) id (a == b) at (h.untaken a b)) h.untaken;
+}
+
+-- a message is taken
+taken_with : (s : OneKernel) (e : MsgId → ℕ) (v : View) (b : ℕ) (o : Option MsgId) → ((i : MsgId) → o ≡ Some i → stands s e b i ≡ true) → ListsHome s e v → ListsHome s e (taken_id v b o)
+taken_with s e v b None at h = h
+taken_with s e v b (Some id) at h = record { inbox = inbox_set s e v.inbox b (v.inbox b ++ id ∷ []) (all_stand_last s e b (v.inbox b) id (h.inbox b) (at id refl)) h.inbox; queue = h.queue; untaken = h.untaken }
+
+pub taken_lists : (s : OneKernel) (e : MsgId → ℕ) (v : View) (a b n : ℕ) → ListsHome s e v → ListsHome s e (after_taken v a b n)
+taken_lists s e v a b n h =
+    let p = v.pair a b in
+    let r : Pair = record p { taken = p.taken + 1; kept = filter (λ k. not (k == n)) p.kept } in
+    taken_with s e (view.with_pair v a b r) b (oldest p) (λ i there. drop_first s e b p.taken p.ids i there (h.untaken a b))
+    (record {
+      inbox = h.inbox;
+      queue = h.queue;
+      untaken = pair_set s e v.pair a b r (let next : suc p.taken ≡ p.taken + 1 = omega arith in ap (λ (i : ℕ). all_stand s e b (drop i p.ids)) (sym next) ∙ drop_one s e b p.taken p.ids (h.untaken a b)) h.untaken;
+    })

@@ -1,0 +1,178 @@
+-- What processes do keeps addresses at homes.
+use Rattle.std.proofs.Common.{◌≡◌, ℕ, zero, suc, ◌+◌, ◌==◌, ◌&&◌, Bool, true, false, List, [], ◌∷◌, refl, ap, ◌∙◌, sym, subst, inl, inr, arith}
+use Rattle.std.specs.Prelude.{if◌then◌else◌, slice_get}
+use Rattle.std.specs.declared.option.Option.TheVariants.{None, Some}
+use Rattle.std.proofs.lemmas.Bool.{cases_Bool}
+use Rattle.std.proofs.lemmas.Bool.Decides.{nat_tests}
+use Rattle.dm_link.specs.declared.Pid.{Pid}
+use Rattle.dm_link.specs.Names.{Place, pid_eq}
+use Rattle.dm_message.specs.declared.MsgId.{MsgId}
+use Rattle.dm_message.specs.Ids.{id_eq}
+use Rattle.dm_message.specs.Plain.{PlainMessage}
+use Rattle.dm_onekernel.specs.PlainProcess.{PlainProcess, PlainStatus, Ready, Waiting, Moving}
+use Rattle.dm_onekernel.specs.Kernel.{Life, Alive, OneKernel, with_process, with_sent}
+use Rattle.dm_onekernel.specs.Service.{without_message}
+use Rattle.dm_onekernel.specs.Step as kernel
+use Rattle.dm_laws.proofs.Equal.{pid_eq-is, id_eq-is, id_eq-same}
+use Rattle.dm_laws.proofs.Movers.{sent_at, sent_off, stayed}
+use Rattle.dm_laws.proofs.Steps.{bind-is}
+use Rattle.dm_rule.specs.Addresses.{Addresses, given, Slot, Owner, Receiver, Sender, Enclosed, Child, Name, Answer, encloses}
+use Rattle.dm_rule.proofs.Homes.{HomeProcess, HomeMessage, AtHome}
+
+-- a process's addresses stay, and a message's
+pub record SameProcess (a b : Addresses) (p : Pid) : Type 0 where
+  pub slot : (k : ℕ) → b (Slot p k) ≡ a (Slot p k)
+  pub owner : b (Owner p) ≡ a (Owner p)
+
+pub record SameMessage (a b : Addresses) (i : MsgId) : Type 0 where
+  pub receiver : b (Receiver i) ≡ a (Receiver i)
+  pub sender : b (Sender i) ≡ a (Sender i)
+  pub enclosed : (k : ℕ) → b (Enclosed i k) ≡ a (Enclosed i k)
+
+-- those of the servers
+pub record SameServers (a b : Addresses) : Type 0 where
+  pub child : (n : ℕ) → b (Child n) ≡ a (Child n)
+  pub name : (n : ℕ) → b (Name n) ≡ a (Name n)
+  pub answer : (n : ℕ) → b (Answer n) ≡ a (Answer n)
+
+pub process_same : (a b : Addresses) (p : Pid) (x : PlainProcess) → SameProcess a b p → HomeProcess a p x → HomeProcess b p x
+process_same a b p x w h = record { slots = λ k l e. w.slot k ∙ h.slots k l e; owner = λ q e. w.owner ∙ h.owner q e }
+
+pub message_same : (a b : Addresses) (i : MsgId) (m : PlainMessage) → SameMessage a b i → HomeMessage a i m → HomeMessage b i m
+message_same a b i m w h = record { receiver = w.receiver ∙ h.receiver; sender = w.sender ∙ h.sender; enclosed = λ k l e. w.enclosed k ∙ h.enclosed k l e }
+
+-- the processes once one was set
+pub set_home : (s : OneKernel) (a b : Addresses) (p : Pid) (life : Life) → AtHome s a → ((q : Pid) → pid_eq p q ≡ false → SameProcess a b q) → ((y : PlainProcess) → kernel.alive (Some life) ≡ Some y → HomeProcess b p y)
+    → (q : Pid) (x : PlainProcess) → kernel.alive ((with_process s p life).processes q) ≡ Some x → HomeProcess b q x
+set_home s a b p life h off on q x e = elim (cases_Bool (pid_eq p q)) [
+  | inl same ↦
+      subst (λ (v : Pid). HomeProcess b v x) (pid_eq-is p q same) (on x (sym (ap (λ (c : Bool). kernel.alive (if c then Some life else s.processes q)) same) ∙ e))
+  | inr apart ↦
+      process_same a b q x (off q apart) (h.processes q x (sym (ap (λ (c : Bool). kernel.alive (if c then Some life else s.processes q)) apart) ∙ e))
+]
+
+-- the messages once one came
+pub sent_home : (s : OneKernel) (a b : Addresses) (m : PlainMessage) → ((i : MsgId) (x : PlainMessage) → s.bag i ≡ Some x → HomeMessage a i x) → ((i : MsgId) → id_eq m.id i ≡ false → SameMessage a b i) → HomeMessage b m.id m
+    → (i : MsgId) (x : PlainMessage) → (with_sent s (Some m)).bag i ≡ Some x → HomeMessage b i x
+sent_home s a b m h off on i x e = elim (cases_Bool (id_eq m.id i)) [
+  | inl same ↦
+      let f : Some m ≡ Some x = sym (sent_at s m i same) ∙ e in
+      let g : m ≡ x = cc in
+      subst (λ (v : PlainMessage). HomeMessage b i v) g (subst (λ (j : MsgId). HomeMessage b j m) (id_eq-is m.id i same) on)
+  | inr apart ↦ message_same a b i x (off i apart) (h i x (sym (sent_off s m i apart) ∙ e))
+]
+
+-- only a process's addresses are given
+pub at_home_process : (s : OneKernel) (a b : Addresses) (p : Pid) (life : Life) → AtHome s a → ((q : Pid) → pid_eq p q ≡ false → SameProcess a b q) → ((y : PlainProcess) → kernel.alive (Some life) ≡ Some y → HomeProcess b p y)
+    → ((i : MsgId) → SameMessage a b i) → SameServers a b → AtHome (with_process s p life) b
+at_home_process s a b p life h off on messages servers = record {
+  processes = set_home s a b p life h off on;
+  messages = λ i m e. message_same a b i m (messages i) (h.messages i m e);
+  children = λ n q e. servers.child n ∙ h.children n q e;
+  named = λ n k e. servers.name n ∙ h.named n k e;
+  answers = λ n r e. servers.answer n ∙ h.answers n r e;
+  pending = h.pending;
+}
+
+-- a process's and a message's
+pub at_home_sends : (s : OneKernel) (a b : Addresses) (p : Pid) (life : Life) (m : PlainMessage) → AtHome s a → ((q : Pid) → pid_eq p q ≡ false → SameProcess a b q) → ((y : PlainProcess) → kernel.alive (Some life) ≡ Some y → HomeProcess b p y)
+    → ((i : MsgId) → id_eq m.id i ≡ false → SameMessage a b i) → HomeMessage b m.id m → SameServers a b → AtHome (with_sent (with_process s p life) (Some m)) b
+at_home_sends s a b p life m h off on messages sent servers = record {
+  processes = set_home s a b p life h off on;
+  messages = sent_home s a b m h.messages messages sent;
+  children = λ n q e. servers.child n ∙ h.children n q e;
+  named = λ n k e. servers.name n ∙ h.named n k e;
+  answers = λ n r e. servers.answer n ∙ h.answers n r e;
+  pending = h.pending;
+}
+
+pub at_home_out : (s : OneKernel) (a : Addresses) (id : MsgId) → AtHome s a → AtHome (without_message s id) a
+at_home_out s a id h = record {
+  processes = h.processes;
+  messages = λ i m e. h.messages i m (stayed s id i m e);
+  children = h.children;
+  named = h.named;
+  answers = h.answers;
+  pending = h.pending;
+}
+
+pub at_home_goes : (s : OneKernel) (a : Addresses) (p : Pid) (life : Life) → AtHome s a → ((y : PlainProcess) → kernel.alive (Some life) ≡ Some y → HomeProcess a p y) → AtHome (with_process s p life) a
+at_home_goes s a p life h on =
+    at_home_process s a a p life h (λ q e. record { slot = λ k. refl; owner = refl }) on (λ i. record { receiver = refl; sender = refl; enclosed = λ k. refl })
+    (record { child = λ n. refl; name = λ n. refl; answer = λ n. refl })
+
+pub alive_on : (a : Addresses) (p : Pid) (x : PlainProcess) → HomeProcess a p x → (y : PlainProcess) → kernel.alive (Some (Alive x)) ≡ Some y → HomeProcess a p y
+alive_on a p x h y e = let f : x ≡ y = cc in subst (HomeProcess a p) f h
+
+-- a process goes on
+pub home_goes : (s : OneKernel) (a : Addresses) (p : Pid) (y : PlainProcess) → AtHome s a → HomeProcess a p y → AtHome (kernel.goes_on s p y) a
+home_goes s a p y h k = at_home_goes s a p (Alive y) h (alive_on a p y k)
+
+-- the process that executes
+running_home_if : (a : Addresses) (p : Pid) (y : PlainProcess) (c : Bool) (x : PlainProcess) → HomeProcess a p y → (if c then None else Some y) ≡ Some x → HomeProcess a p x
+running_home_if a p y true x h e = cc
+running_home_if a p y false x h e = let f : y ≡ x = cc in subst (HomeProcess a p) f h
+
+running_home_of : (a : Addresses) (p : Pid) (y : PlainProcess) (st : PlainStatus) (x : PlainProcess) → HomeProcess a p y → kernel.if_ready y st ≡ Some x → HomeProcess a p x
+running_home_of a p y Ready x h e = running_home_if a p y y.stopped x h e
+running_home_of a p y (Waiting mask base size) x h e = cc
+running_home_of a p y (Moving dir owner base own left pending) x h e = cc
+
+pub running_home : (s : OneKernel) (a : Addresses) (p : Pid) (x : PlainProcess) → AtHome s a → kernel.running s p ≡ Some x → HomeProcess a p x
+running_home s a p x h e =
+    let (y, is, ready) = bind-is (kernel.alive (s.processes p)) (λ (v : PlainProcess). kernel.if_ready v v.status) x e in
+    running_home_of a p y y.status x (h.processes p y is) ready
+
+-- links of an enclosing list
+encloses_slot : (a : Addresses) (id : MsgId) (n : ℕ) (ps : List Place) (q : Pid) (k : ℕ) → given a (encloses id n ps) (Slot q k) ≡ a (Slot q k)
+encloses_slot a id n [] q k = refl
+encloses_slot a id n (p ∷ ps) q k = encloses_slot a id (n + 1) ps q k
+
+encloses_owner : (a : Addresses) (id : MsgId) (n : ℕ) (ps : List Place) (q : Pid) → given a (encloses id n ps) (Owner q) ≡ a (Owner q)
+encloses_owner a id n [] q = refl
+encloses_owner a id n (p ∷ ps) q = encloses_owner a id (n + 1) ps q
+
+encloses_receiver : (a : Addresses) (id : MsgId) (n : ℕ) (ps : List Place) (i : MsgId) → given a (encloses id n ps) (Receiver i) ≡ a (Receiver i)
+encloses_receiver a id n [] i = refl
+encloses_receiver a id n (p ∷ ps) i = encloses_receiver a id (n + 1) ps i
+
+encloses_sender : (a : Addresses) (id : MsgId) (n : ℕ) (ps : List Place) (i : MsgId) → given a (encloses id n ps) (Sender i) ≡ a (Sender i)
+encloses_sender a id n [] i = refl
+encloses_sender a id n (p ∷ ps) i = encloses_sender a id (n + 1) ps i
+
+encloses_child : (a : Addresses) (id : MsgId) (n : ℕ) (ps : List Place) (k : ℕ) → given a (encloses id n ps) (Child k) ≡ a (Child k)
+encloses_child a id n [] k = refl
+encloses_child a id n (p ∷ ps) k = encloses_child a id (n + 1) ps k
+
+encloses_name : (a : Addresses) (id : MsgId) (n : ℕ) (ps : List Place) (k : ℕ) → given a (encloses id n ps) (Name k) ≡ a (Name k)
+encloses_name a id n [] k = refl
+encloses_name a id n (p ∷ ps) k = encloses_name a id (n + 1) ps k
+
+encloses_answer : (a : Addresses) (id : MsgId) (n : ℕ) (ps : List Place) (k : ℕ) → given a (encloses id n ps) (Answer k) ≡ a (Answer k)
+encloses_answer a id n [] k = refl
+encloses_answer a id n (p ∷ ps) k = encloses_answer a id (n + 1) ps k
+
+encloses_other : (a : Addresses) (id : MsgId) (n : ℕ) (ps : List Place) (i : MsgId) (k : ℕ) → id_eq id i ≡ false → given a (encloses id n ps) (Enclosed i k) ≡ a (Enclosed i k)
+encloses_other a id n [] i k e = refl
+encloses_other a id n (p ∷ ps) i k e =
+    ap (λ (c : Bool). if c && (n == k) then p else given a (encloses id (n + 1) ps) (Enclosed i k)) e ∙ encloses_other a id (n + 1) ps i k e
+
+pub encloses_servers : (a : Addresses) (id : MsgId) (n : ℕ) (ps : List Place) → SameServers a (given a (encloses id n ps))
+encloses_servers a id n ps = record { child = encloses_child a id n ps; name = encloses_name a id n ps; answer = encloses_answer a id n ps }
+
+pub encloses_process : (a : Addresses) (id : MsgId) (n : ℕ) (ps : List Place) (q : Pid) → SameProcess a (given a (encloses id n ps)) q
+encloses_process a id n ps q = record { slot = encloses_slot a id n ps q; owner = encloses_owner a id n ps q }
+
+pub encloses_message : (a : Addresses) (id : MsgId) (n : ℕ) (ps : List Place) (i : MsgId) → id_eq id i ≡ false → SameMessage a (given a (encloses id n ps)) i
+encloses_message a id n ps i e = record { receiver = encloses_receiver a id n ps i; sender = encloses_sender a id n ps i; enclosed = λ k. encloses_other a id n ps i k e }
+
+-- the k-th of them has its place
+pub encloses_at : (a : Addresses) (id : MsgId) (n : ℕ) (ps : List Place) (k j : ℕ) (p : Place) → slice_get ps k ≡ Some p → j ≡ n + k → given a (encloses id n ps) (Enclosed id j) ≡ p
+encloses_at a id n [] k j p e f = cc
+encloses_at a id n (x ∷ ps) zero j p e f =
+    let same : (id_eq id id && (n == j)) ≡ true = let g = id_eq-same id in grind (arith, nat_tests) in
+    let is : x ≡ p = cc in
+    ap (λ (c : Bool). if c then x else given a (encloses id (n + 1) ps) (Enclosed id j)) same ∙ is
+encloses_at a id n (x ∷ ps) (suc k) j p e f =
+    let apart : (id_eq id id && (n == j)) ≡ false = let g = id_eq-same id in grind (arith, nat_tests) in
+    ap (λ (c : Bool). if c then x else given a (encloses id (n + 1) ps) (Enclosed id j)) apart ∙ encloses_at a id (n + 1) ps k j p e (omega (arith, f))

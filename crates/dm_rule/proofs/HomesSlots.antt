@@ -1,0 +1,92 @@
+-- Lists of slots and links, and the registers of a call.
+use Rattle.std.proofs.Common.{◌≡◌, ℕ, zero, suc, ◌+◌, ◌%◌, ◌==◌, Bool, true, false, List, [], ◌∷◌, length, refl, ◌⊎◌, inl, inr, arith, nat_lt, nat_le}
+use Rattle.std.specs.Prelude.{if◌then◌else◌, slice_set, slice_index}
+use Rattle.std.specs.declared.option.Option.{Option}
+use Rattle.std.specs.declared.option.Option.TheVariants.{None, Some}
+use Rattle.std.proofs.lemmas.Bool.Decides.{nat_tests}
+use Rattle.dm_link.specs.Plain.{PlainLink}
+use Rattle.dm_linktable.specs.Slots.{link_at}
+use Rattle.dm_regs.specs.declared.registers.Regs.{Regs}
+use Rattle.dm_regs.specs.declared.opcodes.Opcode.{Opcode}
+use Rattle.dm_regs.specs.declared.opcodes.Opcode.TheVariants as op
+use Rattle.dm_regs.specs.Instructions as row
+use Rattle.dm_regs.specs.declared.registers.Fault.TheVariants as fault
+use Rattle.dm_regs.specs.Opcodes.{opcode_of}
+use Rattle.dm_regs.specs.Instructions.{Row, instruction, past}
+use Rattle.dm_onekernel.specs.Calls as calls
+
+-- a slot that was set holds what it was set to, and the others what they held
+pub set_link : {L : Type 0} (slots : List (Option L)) (k j : ℕ) (y : Option L) (l : L) → link_at (slice_set slots k y) j ≡ Some l
+    → (((k == j) ≡ true) × (y ≡ Some l)) ⊎ (((k == j) ≡ false) × (link_at slots j ≡ Some l))
+set_link [] k j y l e = cc
+set_link (x ∷ xs) zero zero y l e = inl (refl, e)
+set_link (x ∷ xs) zero (suc j) y l e = inr (let f : (0 == suc j) ≡ false = grind (arith, nat_tests) in f, e)
+set_link (x ∷ xs) (suc k) zero y l e = inr (let f : (suc k == 0) ≡ false = grind (arith, nat_tests) in f, e)
+set_link (x ∷ xs) (suc k) (suc j) y l e = elim (set_link xs k j y l e) [
+  | inl h ↦ inl (let g = h.0 in let f : (suc k == suc j) ≡ true = grind (arith, nat_tests) in f, h.1)
+  | inr h ↦ inr (let g = h.0 in let f : (suc k == suc j) ≡ false = grind (arith, nat_tests) in f, h.1)
+]
+
+-- of slots some of which were emptied
+pub emptied_link : {L : Type 0} (slots : List (Option L)) (k j : ℕ) (l : L) → link_at (slice_set slots k None) j ≡ Some l → link_at slots j ≡ Some l
+emptied_link slots k j l e = elim (set_link slots k j None l e) [
+  | inl h ↦ let g : None ≡ Some l = h.1 in cc
+  | inr h ↦ h.1
+]
+
+emptied_if : {L : Type 0} (b : Bool) (slots : List (Option L)) (k j : ℕ) (l : L) → link_at (if b then slice_set slots k None else slots) j ≡ Some l → link_at slots j ≡ Some l
+emptied_if true slots k j l e = emptied_link slots k j l e
+emptied_if false slots k j l e = e
+
+pub without_replies_link : (ss : List ℕ) (slots : List (Option PlainLink)) (j : ℕ) (l : PlainLink) → link_at (calls.without_replies slots ss) j ≡ Some l → link_at slots j ≡ Some l
+without_replies_link [] slots j l e = e
+without_replies_link (s ∷ ss) slots j l e =
+    emptied_if (calls.holds_reply (link_at slots s)) slots s j l
+    (without_replies_link ss (if calls.holds_reply (link_at slots s) then slice_set slots s None else slots) j l e)
+
+-- no instruction but a call's is a call, and a call goes past it
+past_if : (b : Bool) (w : Row) (f : _) (n : ℕ) (r q : Regs) → (w ≡ row.Calls n r → r ≡ q) → (if b then w else row.Faults f) ≡ row.Calls n r → r ≡ q
+past_if true w f n r q h e = h e
+past_if false w f n r q h e = cc
+
+past_word : (bytes : List ℕ) (at n : ℕ) (w : Row) (r q : Regs) → (w ≡ row.Calls n r → r ≡ q) → row.word_row bytes at w ≡ row.Calls n r → r ≡ q
+past_word bytes at n w r q h e = past_if (nat_le (at + 4) (length bytes)) (if at % 4 == 0 then w else row.Faults fault.Unaligned) fault.OutOfRange n r q (λ f. past_if (at % 4 == 0) w fault.Unaligned n r q h f) e
+
+plain_no : (x : Regs) (y : List ℕ) (n : ℕ) (r q : Regs) → row.Plain x y ≡ row.Calls n r → r ≡ q
+plain_no x y n r q e = cc
+
+past_effect : (o : Opcode) (regs : Regs) (m : List ℕ) (a b c n : ℕ) (r : Regs) → row.effect o regs m a b c ≡ row.Calls n r → r ≡ past regs
+past_effect op.Li regs m a b c n r e = cc
+past_effect op.Lih regs m a b c n r e = cc
+past_effect op.Mov regs m a b c n r e = cc
+past_effect op.Add regs m a b c n r e = cc
+past_effect op.Sub regs m a b c n r e = cc
+past_effect op.Mul regs m a b c n r e = cc
+past_effect op.And regs m a b c n r e = cc
+past_effect op.Or regs m a b c n r e = cc
+past_effect op.Xor regs m a b c n r e = cc
+past_effect op.Shl regs m a b c n r e = cc
+past_effect op.Shr regs m a b c n r e = cc
+past_effect op.Lw regs m a b c n r e =
+    past_word m (row.reg regs b + c) n (row.Plain (row.with_reg regs a (row.word_at m (row.reg regs b + c))) m) r (past regs) (plain_no (row.with_reg regs a (row.word_at m (row.reg regs b + c))) m n r (past regs)) e
+past_effect op.Sw regs m a b c n r e =
+    past_word m (row.reg regs b + c) n (row.Plain (past regs) (row.with_word m (row.reg regs b + c) (row.reg regs a))) r (past regs) (plain_no (past regs) (row.with_word m (row.reg regs b + c) (row.reg regs a)) n r (past regs)) e
+past_effect op.Lb regs m a b c n r e =
+    past_if (nat_lt (row.reg regs b + c) (length m)) (row.Plain (row.with_reg regs a (slice_index m (row.reg regs b + c))) m) _ n r (past regs) (plain_no (row.with_reg regs a (slice_index m (row.reg regs b + c))) m n r (past regs)) e
+past_effect op.Sb regs m a b c n r e =
+    past_if (nat_lt (row.reg regs b + c) (length m)) (row.Plain (past regs) (slice_set m (row.reg regs b + c) (row.reg regs a % 256))) _ n r (past regs) (plain_no (past regs) (slice_set m (row.reg regs b + c) (row.reg regs a % 256)) n r (past regs)) e
+past_effect op.Jmp regs m a b c n r e = cc
+past_effect op.Beq regs m a b c n r e = cc
+past_effect op.Bne regs m a b c n r e = cc
+past_effect op.Bltu regs m a b c n r e = cc
+past_effect op.Sys regs m a b c n r e = cc
+
+past_operation : (o : Option Opcode) (regs : Regs) (m : List ℕ) (a b c n : ℕ) (r : Regs) → row.operation_row o regs m a b c ≡ row.Calls n r → r ≡ past regs
+past_operation None regs m a b c n r e = cc
+past_operation (Some o) regs m a b c n r e = past_if (row.names_registers (row.register_fields o) a b c) (row.effect o regs m a b c) _ n r (past regs) (λ f. past_effect o regs m a b c n r f) e
+
+pub past_call : (regs : Regs) (m : List ℕ) (n : ℕ) (r : Regs) → instruction regs m ≡ row.Calls n r → r ≡ past regs
+unfolding instruction
+past_call regs m n r e =
+    past_word m regs.pc n (row.operation_row (opcode_of (slice_index m regs.pc)) regs m (slice_index m (regs.pc + 1)) (slice_index m (regs.pc + 2)) (slice_index m (regs.pc + 3))) r (past regs)
+    (λ f. past_operation (opcode_of (slice_index m regs.pc)) regs m (slice_index m (regs.pc + 1)) (slice_index m (regs.pc + 2)) (slice_index m (regs.pc + 3)) n r f) e

@@ -1,0 +1,151 @@
+-- Where a run begins, each address names the home of its process.
+use Rattle.std.proofs.Common.{◌≡◌, ℕ, zero, suc, ◌+◌, ◌-◌, ◌==◌, ◌&&◌, ◌||◌, Bool, true, false, List, [], ◌∷◌, ◌++◌, length, refl, ap, ◌∙◌, sym, arith, nat_lt, nat_le, inl, inr}
+use Rattle.std.specs.Prelude.{if◌then◌else◌, map, option_map, slice_get, replicate}
+use Rattle.std.specs.declared.option.Option.{Option}
+use Rattle.std.specs.declared.option.Option.TheVariants.{None, Some}
+use Rattle.std.proofs.lemmas.Bool.{cases_Bool}
+use Rattle.std.proofs.lemmas.Bool.Decides.{nat_tests}
+use Rattle.dm_link.specs.declared.Pid.{Pid}
+use Rattle.dm_link.specs.declared.Link.{Link}
+use Rattle.dm_link.specs.Names.{place_of, pid_eq}
+use Rattle.dm_link.specs.Plain.{PlainLink, plain_link}
+use Rattle.dm_linktable.specs.Slots.{link_at}
+use Rattle.dm_onekernel.specs.declared.boot.BootProcess.{BootProcess}
+use Rattle.dm_onekernel.specs.declared.boot.BootImage.{BootImage}
+use Rattle.dm_onekernel.specs.declared.boot.Boot.{Boot}
+use Rattle.dm_onekernel.specs.Boot as boot
+use Rattle.dm_onekernel.specs.Boot.{IsValid, switchboard, manager, processes_are_valid, starting_at, slots_of}
+use Rattle.dm_onekernel.specs.PlainProcess.{PlainProcess}
+use Rattle.dm_onekernel.specs.Start.{start, life_at, first_life, begun, slots_with}
+use Rattle.dm_onekernel.specs.Kernel.{Alive}
+use Rattle.dm_onekernel.specs.Manager as manage
+use Rattle.dm_onekernel.specs.Step as kernel
+use Rattle.dm_laws.proofs.Equal.{pid_eq-is}
+use Rattle.dm_rule.specs.View.{ring_at}
+use Rattle.dm_rule.specs.Point.{first_point}
+use Rattle.dm_rule.specs.Addresses.{unmoved, place_in, links_at, home_of, nth_child, first_addresses, owner_in}
+use Rattle.dm_rule.specs.Homes.{Homes, are_home}
+use Rattle.dm_rule.proofs.Homes.{HomeProcess, AtHome, homes_are}
+
+-- a link of the boot file leads to a home
+named_is : (q : Pid) (ps : List BootProcess) (p : BootProcess) → boot.process_named q ps ≡ Some p → p.pid ≡ q
+named_is q [] p e = cc
+named_is q (r ∷ ps) p e = elim (cases_Bool (pid_eq r.pid q)) [
+  | inl same ↦ let f : Some r ≡ Some p = sym (ap (λ (c : Bool). if c then Some r else boot.process_named q ps) same) ∙ e in let g : r ≡ p = cc in ap (λ (v : BootProcess). v.pid) (sym g) ∙ pid_eq-is r.pid q same
+  | inr apart ↦ named_is q ps p (sym (ap (λ (c : Bool). if c then Some r else boot.process_named q ps) apart) ∙ e)
+]
+
+process_at : (b : Boot) (l : Link) (o : Option BootProcess) → ((p : BootProcess) → o ≡ Some p → p.pid ≡ l.addr.pid) → boot.leads_to_process b l o ≡ true → l.addr.at ≡ l.addr.pid.home
+process_at b l None h e = cc
+process_at b l (Some p) h e = let k : p.pid.home ≡ l.addr.pid.home = ap (λ (v : Pid). v.home) (h p refl) in let f : (l.addr.at == p.pid.home) ≡ true = grind (arith, nat_tests) in grind (arith, nat_tests)
+
+somewhere_by : (b : Boot) (l : Link) (c d : Bool) → pid_eq l.addr.pid switchboard ≡ c → pid_eq l.addr.pid manager ≡ d
+    → (if c then boot.leads_to_server l else if d then boot.leads_to_server l || boot.controls_child b l else boot.leads_to_process b l (boot.process_named l.addr.pid b.processes)) ≡ true → l.addr.at ≡ l.addr.pid.home
+somewhere_by b l true d is as_ e = grind (arith, nat_tests)
+somewhere_by b l false true is as_ e =
+    elim (cases_Bool (boot.leads_to_server l)) [
+      | inl holds ↦ grind (arith, nat_tests)
+      | inr fails ↦ let f : boot.controls_child b l ≡ true = ap (λ (v : Bool). v || boot.controls_child b l) (sym fails) ∙ e in grind (arith, nat_tests)
+    ]
+somewhere_by b l false false is as_ e = process_at b l (boot.process_named l.addr.pid b.processes) (named_is l.addr.pid b.processes) e
+
+and-left : (b c : Bool) → (b && c) ≡ true → b ≡ true
+and-left true c e = refl
+and-left false c e = cc
+
+and-right : (b c : Bool) → (b && c) ≡ true → c ≡ true
+and-right true c e = e
+and-right false c e = cc
+
+link_home : (b : Boot) (l : Link) → boot.link_is_valid b l ≡ true → place_of l.addr ≡ unmoved l.addr.pid.home
+link_home b l e =
+    let first : (l.addr.moves == 0) ≡ true = and-left (l.addr.moves == 0) _ e in
+    let none : l.addr.moves ≡ 0 = grind (arith, nat_tests) in
+    let rest : boot.leads_somewhere b l ≡ true = and-right (nat_le l.channel 31) (boot.leads_somewhere b l) (and-right _ _ (and-right (l.addr.moves == 0) _ e)) in
+    let at : l.addr.at ≡ l.addr.pid.home = somewhere_by b l (pid_eq l.addr.pid switchboard) (pid_eq l.addr.pid manager) refl refl rest in
+    ap (λ (n : ℕ). record { at = n; moves = l.addr.moves }) at ∙ ap (λ (n : ℕ). record { at = l.addr.pid.home; moves = n }) none
+
+-- the links of a process as it begins
+empty_slot : (n k : ℕ) (l : PlainLink) → link_at (replicate n None) k ≡ Some l → ⊥
+empty_slot zero k l e = cc
+empty_slot (suc n) zero l e = cc
+empty_slot (suc n) (suc k) l e = empty_slot n k l e
+
+first_link : (b : Boot) (ls : List Link) (n k : ℕ) (l : PlainLink) → boot.links_are_valid b ls ≡ true → link_at (map Some (map plain_link ls) ++ replicate n None) k ≡ Some l → place_in (slice_get ls k) ≡ unmoved l.to.home
+first_link b [] n k l valid e = absurd (empty_slot n k l e)
+first_link b (x ∷ xs) n zero l valid e =
+    let f : plain_link x ≡ l = cc in
+    let g : x.addr.pid.home ≡ l.to.home = ap (λ (v : PlainLink). v.to.home) f in
+    link_home b x (and-left (boot.link_is_valid b x) (boot.links_are_valid b xs) valid) ∙ ap unmoved g
+first_link b (x ∷ xs) n (suc k) l valid e = first_link b xs n k l (and-right (boot.link_is_valid b x) (boot.links_are_valid b xs) valid) e
+
+begun_home_of : (b : Boot) (p : BootProcess) (q : Pid) (x : PlainProcess) (o : Option BootImage) → boot.links_are_valid b p.links ≡ true → links_at b.processes q ≡ p.links
+    → kernel.alive (option_map (λ image. Alive (begun b.format image (map plain_link p.links))) o) ≡ Some x → HomeProcess (first_addresses b) q x
+begun_home_of b p q x None valid at e = cc
+begun_home_of b p q x (Some i) valid at e =
+    let f : begun b.format i (map plain_link p.links) ≡ x = cc in
+    let links : slots_with (slots_of b.format) (map plain_link p.links) ≡ x.links = ap (λ (v : PlainProcess). v.links) f in
+    record {
+      slots = λ k l there. ap (λ (v : List Link). place_in (slice_get v k)) at ∙ first_link b p.links (slots_of b.format - length (map plain_link p.links)) k l valid (ap (λ (v : List (Option PlainLink)). link_at v k) links ∙ there);
+      owner = λ w moving. absurd (let g : None ≡ Some w = ap (λ (v : PlainProcess). owner_in v.status) f ∙ moving in cc);
+    }
+
+links_valid : (b : Boot) (n : ℕ) (p : BootProcess) → boot.process_is_valid b n p ≡ true → boot.links_are_valid b p.links ≡ true
+links_valid b n p e =
+    let last = boot.links_are_valid b p.links in
+    let few = nat_le (length p.links) (slots_of b.format) in
+    let image = nat_lt p.image (length b.images) in
+    let number = p.pid.num == boot.first_number + n in
+    and-right few last (and-right image (few && last) (and-right number (image && (few && last)) (and-right (nat_lt p.pid.home (length b.machines)) (number && (image && (few && last))) e)))
+
+begun_home : (b : Boot) (earlier ps : List BootProcess) (q : Pid) (x : PlainProcess) → processes_are_valid b earlier ps ≡ true → links_at b.processes q ≡ links_at ps q
+    → kernel.alive (life_at b ps q) ≡ Some x → HomeProcess (first_addresses b) q x
+begun_home b earlier [] q x valid at e = cc
+begun_home b earlier (p ∷ ps) q x valid at e =
+    let mine : boot.process_is_valid b (starting_at p.pid.home earlier) p ≡ true = and-left _ _ valid in
+    elim (cases_Bool (pid_eq p.pid q)) [
+      | inl same ↦
+          begun_home_of b p q x (slice_get b.images p.image) (links_valid b (starting_at p.pid.home earlier) p mine) (at ∙ ap (λ (c : Bool). if c then p.links else links_at ps q) same)
+          (sym (ap (λ (c : Bool). kernel.alive (if c then first_life b p else life_at b ps q)) same) ∙ e)
+      | inr apart ↦
+          begun_home b (earlier ++ p ∷ []) ps q x (and-right _ _ valid) (at ∙ ap (λ (c : Bool). if c then p.links else links_at ps q) apart)
+          (sym (ap (λ (c : Bool). kernel.alive (if c then first_life b p else life_at b ps q)) apart) ∙ e)
+    ]
+
+child_home_of : (ps : List BootProcess) (n : ℕ) (q : Pid) → slice_get (map (λ (p : BootProcess). p.pid) ps) n ≡ Some q → unmoved (home_of (slice_get ps n)) ≡ unmoved q.home
+child_home_of [] n q e = cc
+child_home_of (p ∷ ps) zero q e = let f : p.pid ≡ q = cc in ap (λ (v : Pid). unmoved v.home) f
+child_home_of (p ∷ ps) (suc n) q e = child_home_of ps n q e
+
+child_home : (ps : List BootProcess) (n : ℕ) (q : Pid) → manage.child_numbered (map (λ (p : BootProcess). p.pid) ps) n ≡ Some q → unmoved (home_of (nth_child ps n)) ≡ unmoved q.home
+child_home ps zero q e = cc
+child_home ps (suc n) q e = child_home_of ps n q e
+
+pub start_at_home : (b : Boot) → IsValid b → AtHome (start b) (first_addresses b)
+start_at_home b valid = record {
+  processes = λ q x e. begun_home b [] b.processes q x valid.processes refl e;
+  messages = λ i m e. absurd (let f : None ≡ Some m = e in cc);
+  children = λ n q e. child_home b.processes n q e;
+  named = λ n k e. absurd (let f : None ≡ Some k = e in cc);
+  answers = λ n r e. absurd (let f : None ≡ Some r = e in cc);
+  pending = refl;
+}
+
+ring_home_if : (c : Bool) (p : Pid) (m : ℕ) (ps : List Pid) → (p.home == m) ≡ c → are_home m ps ≡ true → are_home m (if c then p ∷ ps else ps) ≡ true
+ring_home_if true p m ps is h = ap (λ (v : Bool). v && are_home m ps) is ∙ h
+ring_home_if false p m ps is h = h
+
+ring_home : (m : ℕ) (ps : List BootProcess) → are_home m (ring_at ps m) ≡ true
+ring_home m [] = refl
+ring_home m (p ∷ ps) = ring_home_if (p.pid.home == m) p.pid m (ring_at ps m) refl (ring_home m ps)
+
+pub Homes-start : (b : Boot) → IsValid b → Homes (first_point b)
+Homes-start b valid = record {
+  home = homes_are (start b) (first_addresses b) (start_at_home b valid);
+  moves = λ p. refl;
+  ring = λ m. ring_home m b.processes;
+  inbox = λ m. refl;
+  queue = λ m p. refl;
+  untaken = λ a m. refl;
+  pending = refl;
+}
