@@ -37,3 +37,4 @@ pub mod HomesLines
 pub mod HomesParts
 pub mod HomesGroups
 pub mod HomesTurns
+pub mod PhasesCalm

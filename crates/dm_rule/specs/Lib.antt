@@ -7,6 +7,7 @@ pub mod Parts
 pub mod Migrating
 pub mod Rule
 pub mod Pairs
+pub mod Phases
 pub mod Homes
 pub mod Good
 pub mod Worn
