@@ -38,3 +38,5 @@ pub mod HomesParts
 pub mod HomesGroups
 pub mod HomesTurns
 pub mod PhasesCalm
+pub mod Telling
+pub mod PhasesLines

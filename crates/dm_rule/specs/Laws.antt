@@ -12,6 +12,7 @@ use Rattle.dm_rule.specs.Rule.{group_of}
 use Rattle.dm_rule.specs.Spots.{StandsRight, standing}
 use Rattle.dm_rule.specs.Pairs.{PairStands, HomeStands}
 use Rattle.dm_rule.specs.Homes.{Homes}
+use Rattle.dm_rule.specs.Tells.{TellsRight}
 
 -- a directive for so many machines
 abbrev pub IsStep : ℕ → Step → Type 0
@@ -50,3 +51,7 @@ PairsStandAlways = (b : Boot) (es : List Step) (pt : Point) (m n : ℕ) → Lead
 -- receiver is at home
 abbrev pub LeadHomeAlways : Type 0
 LeadHomeAlways = (b : Boot) (es : List Step) (pt : Point) → IsValid b → AreStill es → Leads b (first_point b) es pt → Homes pt
+
+-- wherever the rule leads, the first put of each message told what it is
+abbrev pub TellsRightAlways : Type 0
+TellsRightAlways = (b : Boot) (es : List Step) (pt : Point) → IsValid b → Leads b (first_point b) es pt → TellsRight pt

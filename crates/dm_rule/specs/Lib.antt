@@ -8,6 +8,7 @@ pub mod Migrating
 pub mod Rule
 pub mod Pairs
 pub mod Phases
+pub mod Tells
 pub mod Homes
 pub mod Good
 pub mod Worn

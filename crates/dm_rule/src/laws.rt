@@ -1,5 +1,5 @@
 //! What holds wherever the rule leads, whoever ran by it.
-ghost use Rattle.dm_rule.specs.Laws.{StandsOnceAlways, PairsStandAlways, LeadHomeAlways};
+ghost use Rattle.dm_rule.specs.Laws.{StandsOnceAlways, PairsStandAlways, LeadHomeAlways, TellsRightAlways};
 
 /// Wherever the rule leads from a boot file, each message that the kernel without machines holds stands exactly once
 /// among the queues, held lists, inboxes and streams of the printed lines, a kernel's own message at most once, and no other
@@ -18,4 +18,10 @@ pub fn pairs_stand_always()
 /// names its process's home, and each queued, routed or received message stands where its receiver is at home.
 pub fn lead_home_always()
     ensures { LeadHomeAlways }
+{}
+
+/// Wherever the rule leads from a boot file, the lines have told of each message that the kernel without machines holds, once it
+/// was put, its kind and its receiver; and what kernels tell each other of migrations is named as their own.
+pub fn tells_right_always()
+    ensures { TellsRightAlways }
 {}
