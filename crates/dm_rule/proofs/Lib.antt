@@ -40,3 +40,6 @@ pub mod HomesTurns
 pub mod PhasesCalm
 pub mod Telling
 pub mod PhasesLines
+pub mod PhasesQuiet
+pub mod PhasesStand
+pub mod PhasesPut

@@ -119,7 +119,7 @@ told_same : (o : Option Told) (t u : Told) → o ≡ Some t → view.first_told 
 told_same None t u e = cc
 told_same (Some s) t u e = let f : s ≡ t = cc in f
 
-not_first : (i : MsgId) (o : Option Told) (t : Told) → o ≡ Some t → view.is_own i o ≡ false
+pub not_first : (i : MsgId) (o : Option Told) (t : Told) → o ≡ Some t → view.is_own i o ≡ false
 not_first i None t e = cc
 not_first i (Some s) t e = refl
 
@@ -194,7 +194,7 @@ own_apart v j other = not_true (id_eq (own_id v) j) (λ e. false≢true (sym oth
 own_counts : (v : View) (a b : ℕ) (k : MessageKind) (q : Pid) → v.told (own_id v) ≡ None → (view.after_put v a b (own_id v) k q).count ≡ at_machine v.count v.acting (v.count v.acting + 1)
 own_counts v a b k q none = ap (λ (o : Option Told). if view.is_own (own_id v) o then at_machine v.count v.acting (v.count v.acting + 1) else v.count) none
 
-own_numbered : (v : View) (a b : ℕ) (k : MessageKind) (q : Pid) → v.told (own_id v) ≡ None → ((m n : ℕ) → v.count m ≤ n → v.told (id_of (pid_of m 0) n) ≡ None)
+pub own_numbered : (v : View) (a b : ℕ) (k : MessageKind) (q : Pid) → v.told (own_id v) ≡ None → ((m n : ℕ) → v.count m ≤ n → v.told (id_of (pid_of m 0) n) ≡ None)
     → (m n : ℕ) → (view.after_put v a b (own_id v) k q).count m ≤ n → (view.after_put v a b (own_id v) k q).told (id_of (pid_of m 0) n) ≡ None
 own_numbered v a b k q none h m n le =
     let more : at_machine v.count v.acting (v.count v.acting + 1) m ≤ n = subst (λ (f : ℕ → ℕ). f m ≤ n) (own_counts v a b k q none) le in

@@ -15,9 +15,16 @@ use Rattle.dm_laws.proofs.Equal.{id_eq-is}
 use Rattle.dm_rule.proofs.Lines.{not_true}
 use Rattle.dm_rule.specs.Phases.{is_between, is_apart, told_between, Phase, Nowhere, Rests, Over, Moves, knows, token_in, sender_in, receiver_in, IsToken, HasToken, Alone, IsIn}
 
--- a message stood there, or has come from a stream that leads there
+-- the machine that a spot is on, or leads to
+abbrev pub machine_of : Spot → ℕ
+machine_of (Queue m p) = m
+machine_of (Held m p) = m
+machine_of (Inbox m) = m
+machine_of (Untaken a b) = b
+
+-- a message stood there, or has come to an inbox from a spot of that machine
 abbrev pub Came : View → MsgId → Spot → Type 0
-Came v i z = (1 ≤ standing v i z) ⊎ ((a : ℕ) × (b : ℕ) × (z ≡ Inbox b) × (1 ≤ standing v i (Untaken a b)))
+Came v i z = (1 ≤ standing v i z) ⊎ ((y : Spot) × (1 ≤ standing v i y) × (z ≡ Inbox (machine_of y)))
 
 pub record Calm (v w : View) : Type 0 where
   pub known : (m : ℕ) (p : Pid) → w.known m p ≡ v.known m p
@@ -31,28 +38,12 @@ pub record Calm (v w : View) : Type 0 where
 pub calm_same : (v : View) → Calm v v
 calm_same v = record { known = λ m p. refl; fresh = λ i t e b. e; kept = λ i t e. e; back = λ i t e b z s. inl s; on = λ i t e b z s. (z, s) }
 
--- a stream isn't an inbox
-abbrev is_inbox : Spot → Bool
-is_inbox (Queue m p) = false
-is_inbox (Held m p) = false
-is_inbox (Inbox m) = true
-is_inbox (Untaken a b) = false
-
-abbrev to_machine : Spot → ℕ
-to_machine (Queue m p) = m
-to_machine (Held m p) = m
-to_machine (Inbox m) = m
-to_machine (Untaken a b) = b
-
-not_inbox : (a b c : ℕ) → Untaken a b ≡ Inbox c → ⊥
-not_inbox a b c e = false≢true (ap is_inbox e)
-
 came_on : (u v : View) (i : MsgId) (z : Spot) → ((y : Spot) → 1 ≤ standing v i y → Came u i y) → Came v i z → Came u i z
 came_on u v i z h c = elim c [
   | inl s ↦ h z s
-  | inr t ↦ let (a, b, is, s) = t in elim (h (Untaken a b) s) [
-    | inl x ↦ inr (a, b, is, x)
-    | inr x ↦ let (c_, d, e, f) = x in absurd (not_inbox a b d e)
+  | inr t ↦ let (y, s, is) = t in elim (h y s) [
+    | inl x ↦ inr (y, x, is)
+    | inr x ↦ let (w, st, e) = x in inr (w, st, is ∙ ap (λ (q : Spot). Inbox (machine_of q)) e)
   ]
 ]
 
@@ -66,12 +57,12 @@ calm_trans u v w h k = record {
 }
 
 -- a phase goes on
-stands_where : (v w : View) (i : MsgId) (from to : ℕ) (z : Spot) → ((y : Spot) → 1 ≤ standing v i y → (y ≡ Inbox to) ⊎ (y ≡ Untaken from to)) → Came v i z → (z ≡ Inbox to) ⊎ (z ≡ Untaken from to)
-stands_where v w i from to z h c = elim c [
+pub stands_where : (v : View) (i : MsgId) (from to : ℕ) (z : Spot) → ((y : Spot) → 1 ≤ standing v i y → (y ≡ Inbox to) ⊎ (y ≡ Untaken from to)) → Came v i z → (z ≡ Inbox to) ⊎ (z ≡ Untaken from to)
+stands_where v i from to z h c = elim c [
   | inl s ↦ h z s
-  | inr t ↦ let (a, b, is, s) = t in elim (h (Untaken a b) s) [
-    | inl x ↦ absurd (not_inbox a b to x)
-    | inr x ↦ inl (is ∙ ap (λ (n : ℕ). Inbox n) (ap to_machine x))
+  | inr t ↦ let (y, s, is) = t in elim (h y s) [
+    | inl x ↦ inl (is ∙ ap (λ (q : Spot). Inbox (machine_of q)) x)
+    | inr x ↦ inl (is ∙ ap (λ (q : Spot). Inbox (machine_of q)) x)
   ]
 ]
 
@@ -91,7 +82,7 @@ calm_token v w p k s d id b c h =
       from = h.from;
       spot = y;
       stands = x;
-      ways = λ z st. stands_where v w id (sender_in k s d) (receiver_in k s d) z h.ways (c.back id (told_between p k s d) h.told b z st);
+      ways = λ z st. stands_where v id (sender_in k s d) (receiver_in k s d) z h.ways (c.back id (told_between p k s d) h.told b z st);
     }
 
 calm_has : (v w : View) (p : Pid) (phase : Phase) → is_apart phase ≡ true → Calm v w → HasToken v p phase → HasToken w p phase
@@ -106,7 +97,7 @@ calm_alone v w p o c h i t z told b about st =
     let was = c.fresh i t told b in
     elim (c.back i t was b z st) [
       | inl s ↦ h i t z was b about s
-      | inr x ↦ let (a, m, is, s) = x in h i t (Untaken a m) was b about s
+      | inr x ↦ let (y, s, is) = x in h i t y was b about s
     ]
 
 pub calm_in : (v w : View) (p : Pid) (phase : Phase) → Calm v w → IsIn v p phase → IsIn w p phase

@@ -89,47 +89,47 @@ handled_spots v i j e (Held m p) = refl
 handled_spots v i j e (Inbox m) = machine_times v.inbox v.acting (without_front i (v.inbox v.acting)) j (front_times i j (v.inbox v.acting) e) m
 handled_spots v i j e (Untaken a b) = refl
 
-queued_spots : (v : View) (i j : MsgId) (o : Option Pid) → id_eq i j ≡ false → (z : Spot) → standing (queued_for v i o) j z ≡ standing v j z
+pub queued_spots : (v : View) (i j : MsgId) (o : Option Pid) → id_eq i j ≡ false → (z : Spot) → standing (queued_for v i o) j z ≡ standing v j z
 queued_spots v i j None e z = refl
 queued_spots v i j (Some p) e (Queue m q) = record_times v.queue v.acting p (v.queue v.acting p ++ i ∷ []) j (last_times i j (v.queue v.acting p) e) m q
 queued_spots v i j (Some p) e (Held m q) = refl
 queued_spots v i j (Some p) e (Inbox m) = refl
 queued_spots v i j (Some p) e (Untaken a b) = refl
 
-held_spots : (v : View) (i j : MsgId) (o : Option Pid) → id_eq i j ≡ false → (z : Spot) → standing (held_for v i o) j z ≡ standing v j z
+pub held_spots : (v : View) (i j : MsgId) (o : Option Pid) → id_eq i j ≡ false → (z : Spot) → standing (held_for v i o) j z ≡ standing v j z
 held_spots v i j None e z = refl
 held_spots v i j (Some p) e (Queue m q) = refl
 held_spots v i j (Some p) e (Held m q) = record_times v.held v.acting p (v.held v.acting p ++ i ∷ []) j (last_times i j (v.held v.acting p) e) m q
 held_spots v i j (Some p) e (Inbox m) = refl
 held_spots v i j (Some p) e (Untaken a b) = refl
 
-dropped_spots : (v : View) (i j : MsgId) (o : Option Pid) → id_eq i j ≡ false → (z : Spot) → standing (dropped_for v i o) j z ≡ standing v j z
+pub dropped_spots : (v : View) (i j : MsgId) (o : Option Pid) → id_eq i j ≡ false → (z : Spot) → standing (dropped_for v i o) j z ≡ standing v j z
 dropped_spots v i j None e z = refl
 dropped_spots v i j (Some p) e (Queue m q) = record_times v.queue v.acting p (without_front i (v.queue v.acting p)) j (front_times i j (v.queue v.acting p) e) m q
 dropped_spots v i j (Some p) e (Held m q) = refl
 dropped_spots v i j (Some p) e (Inbox m) = refl
 dropped_spots v i j (Some p) e (Untaken a b) = refl
 
-forwarded_spots : (v : View) (j : MsgId) (o : Option Pid) (z : Spot) → standing (forwarded_for v o) j z ≡ standing v j z
+pub forwarded_spots : (v : View) (j : MsgId) (o : Option Pid) (z : Spot) → standing (forwarded_for v o) j z ≡ standing v j z
 forwarded_spots v j None z = refl
 forwarded_spots v j (Some p) (Queue m q) = refl
 forwarded_spots v j (Some p) (Held m q) = refl
 forwarded_spots v j (Some p) (Inbox m) = refl
 forwarded_spots v j (Some p) (Untaken a b) = refl
 
-queued_known : (v : View) (i : MsgId) (o : Option Pid) (m : ℕ) (p : Pid) → (queued_for v i o).known m p ≡ v.known m p
+pub queued_known : (v : View) (i : MsgId) (o : Option Pid) (m : ℕ) (p : Pid) → (queued_for v i o).known m p ≡ v.known m p
 queued_known v i None m p = refl
 queued_known v i (Some q) m p = refl
 
-held_known : (v : View) (i : MsgId) (o : Option Pid) (m : ℕ) (p : Pid) → (held_for v i o).known m p ≡ v.known m p
+pub held_known : (v : View) (i : MsgId) (o : Option Pid) (m : ℕ) (p : Pid) → (held_for v i o).known m p ≡ v.known m p
 held_known v i None m p = refl
 held_known v i (Some q) m p = refl
 
-dropped_known : (v : View) (i : MsgId) (o : Option Pid) (m : ℕ) (p : Pid) → (dropped_for v i o).known m p ≡ v.known m p
+pub dropped_known : (v : View) (i : MsgId) (o : Option Pid) (m : ℕ) (p : Pid) → (dropped_for v i o).known m p ≡ v.known m p
 dropped_known v i None m p = refl
 dropped_known v i (Some q) m p = refl
 
-forwarded_known : (v : View) (o : Option Pid) (m : ℕ) (p : Pid) → (forwarded_for v o).known m p ≡ v.known m p
+pub forwarded_known : (v : View) (o : Option Pid) (m : ℕ) (p : Pid) → (forwarded_for v o).known m p ≡ v.known m p
 forwarded_known v None m p = refl
 forwarded_known v (Some q) m p = refl
 
@@ -154,13 +154,13 @@ put_pair a b p i j false is e full =
 home_full : (v : View) (a b : ℕ) → PairsFit v → (a == b) ≡ true → (v.pair a b).taken ≡ length (v.pair a b).ids
 home_full v a b fits is = let e : a ≡ b = eq_is a b is in subst (λ n. (v.pair a n).taken ≡ length (v.pair a n).ids) e (fits.home a)
 
-put_spots : (v : View) (a b : ℕ) (i j : MsgId) (k : MessageKind) (q : Pid) → PairsFit v → id_eq i j ≡ false → (z : Spot) → standing (after_put v a b i k q) j z ≡ standing v j z
+pub put_spots : (v : View) (a b : ℕ) (i j : MsgId) (k : MessageKind) (q : Pid) → PairsFit v → id_eq i j ≡ false → (z : Spot) → standing (after_put v a b i k q) j z ≡ standing v j z
 put_spots v a b i j k q fits e (Queue m p) = refl
 put_spots v a b i j k q fits e (Held m p) = refl
 put_spots v a b i j k q fits e (Inbox m) = put_inbox v a b i j (a == b) e m
 put_spots v a b i j k q fits e (Untaken c d) = pair_times v.pair a b (routed_on a b (v.pair a b) i) j (put_pair a b (v.pair a b) i j (a == b) refl e (home_full v a b fits)) c d
 
-put_at : (v : View) (a b : ℕ) (i : MsgId) (k : MessageKind) (q : Pid) → (after_put v a b i k q).told i ≡ Some (view.first_told (v.told i) (record { kind = k; receiver = q; about = v.topic }))
+pub put_at : (v : View) (a b : ℕ) (i : MsgId) (k : MessageKind) (q : Pid) → (after_put v a b i k q).told i ≡ Some (view.first_told (v.told i) (record { kind = k; receiver = q; about = v.topic }))
 put_at v a b i k q = ap (λ (c : Bool). if c then Some (view.first_told (v.told i) (record { kind = k; receiver = q; about = v.topic })) else v.told i) (id_eq-same i)
 
 first_plain : (v : View) (i : MsgId) (k : MessageKind) (q : Pid) (o : Option Told) → v.told i ≡ o → is_between k ≡ false → Plain v i → is_between (view.first_told o (record { kind = k; receiver = q; about = v.topic })).kind ≡ false

@@ -188,7 +188,7 @@ not_own i (Some t) k e = refl
 pub kernels_id : (i : MsgId) (m n : ℕ) → is_kernels i ≡ false → id_eq i (id_of (pid_of m 0) n) ≡ false
 kernels_id i m n k = not_true (id_eq i (id_of (pid_of m 0) n)) (λ e. let is = id_eq-is i (id_of (pid_of m 0) n) e in false≢true (sym k ∙ ap is_kernels is))
 
-numbered_put : (v : View) (a b : ℕ) (i : MsgId) (k : MessageKind) (q : Pid) → is_kernels i ≡ false → v.told i ≡ None → ((m n : ℕ) → v.count m ≤ n → v.told (id_of (pid_of m 0) n) ≡ None)
+pub numbered_put : (v : View) (a b : ℕ) (i : MsgId) (k : MessageKind) (q : Pid) → is_kernels i ≡ false → v.told i ≡ None → ((m n : ℕ) → v.count m ≤ n → v.told (id_of (pid_of m 0) n) ≡ None)
     → (m n : ℕ) → (view.after_put v a b i k q).count m ≤ n → (view.after_put v a b i k q).told (id_of (pid_of m 0) n) ≡ None
 numbered_put v a b i k q other untold h m n le =
     let count : (view.after_put v a b i k q).count ≡ v.count = ap (λ (c : Bool). if c then at_machine v.count i.from.home (v.count i.from.home + 1) else v.count) (not_own i (v.told i) other untold) in

@@ -40,7 +40,11 @@ use Rattle.dm_laws.proofs.Steps.{bind-is}
 use Rattle.dm_laws.proofs.Runs.{after_step, start-sound}
 use Rattle.dm_rule.proofs.Letters.{not_kernels}
 use Rattle.dm_rule.proofs.Hushed.{is_put, hushed}
-use Rattle.dm_rule.proofs.States.{put_told_off}
+use Rattle.dm_rule.proofs.States.{put_told_off, numbered_as, numbered_put}
+use Rattle.dm_rule.proofs.MovesStates.{not_first, own_numbered}
+use Rattle.dm_rule.specs.Sets.{at_machine}
+use Rattle.dm_link.specs.Names.{pid_of}
+use Rattle.dm_message.specs.Ids.{id_of}
 use Rattle.std.specs.Prelude.{slice_get}
 use Rattle.std.proofs.Common.{zero, suc, ◌⊎◌}
 use Rattle.dm_rule.specs.Rule as rule
@@ -50,12 +54,17 @@ use Rattle.dm_rule.proofs.PairsTurns.{turns_fit}
 use Rattle.dm_rule.proofs.PairsMigrating.{migrates_fit}
 use Rattle.dm_rule.proofs.Groups.{IsNetLine, IsNet, arrives_net, resends_net, group_is}
 
+-- a kernel's own numbers from its count on were never put
+abbrev pub Numbered : View → Type 0
+Numbered v = (m n : ℕ) → v.count m ≤ n → v.told (id_of (pid_of m 0) n) ≡ None
+
 pub record Sane (pt : Point) : Type 0 where
   pub r : MsgId → ℕ
   pub e : MsgId → ℕ
   pub sound : Sound r e pt.kernel
   pub untold : (i : MsgId) → e i ≡ 0 → is_kernels i ≡ false → pt.view.told i ≡ None
   pub tells : TellsRight pt
+  pub numbered : Numbered pt.view
 
 -- a message that is in the bag behind a step was there before, the same, or enters, and nothing was told of it
 came_from : (a b : Option PlainMessage) (e : ℕ) (x : PlainMessage) → e + (if is_none a && is_some b then 1 else 0) ≤ 1 → b ≡ Some x → ((y : PlainMessage) → a ≡ Some y → y ≡ x) → (e ≡ 0 → a ≡ Some x) → a ≡ Some x
@@ -78,6 +87,7 @@ sane_label pt l x s quiet is h =
       e = λ i. h.e i + entry i pt.kernel s;
       sound = a.sound;
       untold = λ i zero_ other. same i ∙ h.untold i (omega (arith, zero_)) other;
+      numbered = (let hush = hushed pt.view l quiet in numbered_as pt.view (view_after pt.view l) hush.count hush.told h.numbered);
       tells = record {
         kind = λ i m t there told. h.tells.kind i m t (was_there pt x s h is i m t there (sym (same i) ∙ told)) (sym (same i) ∙ told);
         receiver = λ i m t there told. h.tells.receiver i m t (was_there pt x s h is i m t there (sym (same i) ∙ told)) (sym (same i) ∙ told);
@@ -93,6 +103,7 @@ sane_quiet pt l quiet h =
       e = h.e;
       sound = h.sound;
       untold = λ i zero_ other. same i ∙ h.untold i zero_ other;
+      numbered = (let hush = hushed pt.view l quiet in numbered_as pt.view (view_after pt.view l) hush.count hush.told h.numbered);
       tells = record {
         kind = λ i m t there told. h.tells.kind i m t there (sym (same i) ∙ told);
         receiver = λ i m t there told. h.tells.receiver i m t there (sym (same i) ∙ told);
@@ -116,6 +127,7 @@ pub record PutRight (pt : Point) (e : MsgId → ℕ) (i : MsgId) (k : MessageKin
   pub receiver : (x : PlainMessage) → pt.kernel.bag i ≡ Some x → q ≡ x.to
   pub own : is_between k ≡ true → is_kernels i ≡ true
   pub entered : is_kernels i ≡ false → 1 ≤ e i
+  pub numbered : (a b : ℕ) → Numbered (view.after_put pt.view a b i k q)
 
 some_entered : (r e : MsgId → ℕ) (s : OneKernel) (i : MsgId) (o : Option PlainMessage) → s.bag i ≡ o → is_some o ≡ true → Sound r e s → 1 ≤ e i
 some_entered r e s i None is some h = absurd (false≢true some)
@@ -154,6 +166,7 @@ sane_put pt a b i k q h right =
             absurd (let z : h.e i ≡ 0 = ap h.e is ∙ zero_ in omega (arith, least, z))
         | inr apart ↦ put_told_off v a b i j k q apart ∙ h.untold j zero_ other
       ];
+      numbered = right.numbered a b;
       tells = record {
         kind = λ j x t there e. told j t (λ n s. pt.kernel.bag n ≡ Some x → s.kind ≡ plain_kind x.what) e (λ s was in_. h.tells.kind j x s in_ was) (λ in_. right.kind x in_) there;
         receiver = λ j x t there e. told j t (λ n s. pt.kernel.bag n ≡ Some x → s.receiver ≡ x.to) e (λ s was in_. h.tells.receiver j x s in_ was) (λ in_. right.receiver x in_) there;
@@ -162,7 +175,7 @@ sane_put pt a b i k q h right =
     }
 
 -- the three kinds of put
-plain_not : (w : PlainWhat) → is_between (plain_kind w) ≡ false
+pub plain_not : (w : PlainWhat) → is_between (plain_kind w) ≡ false
 plain_not (what.User x1 x2 x3 x4) = refl
 plain_not what.Stop = refl
 plain_not what.Resume = refl
@@ -178,12 +191,27 @@ plain_not what.NoRoom = refl
 plain_not (what.Move x1) = refl
 plain_not (what.Moved x1) = refl
 
+-- a message that was told of before is not counted, and one that is no kernel's own neither
+numbered_some : (v : View) (a b : ℕ) (i : MsgId) (k : MessageKind) (q : Pid) (t : Told) → v.told i ≡ Some t → Numbered v → Numbered (view.after_put v a b i k q)
+numbered_some v a b i k q t told h m n le =
+    let count : (view.after_put v a b i k q).count ≡ v.count = ap (λ (c : Bool). if c then at_machine v.count i.from.home (v.count i.from.home + 1) else v.count) (not_first i (v.told i) t told) in
+    let none : v.told (id_of (pid_of m 0) n) ≡ None = h m n (subst (λ (f : ℕ → ℕ). f m ≤ n) count le) in
+    elim (cases_Bool (id_eq i (id_of (pid_of m 0) n))) [
+      | inl same ↦ absurd (let is : i ≡ id_of (pid_of m 0) n = id_eq-is i (id_of (pid_of m 0) n) same in let f : None ≡ Some t = sym none ∙ ap v.told (sym is) ∙ told in cc)
+      | inr apart ↦ put_told_off v a b i (id_of (pid_of m 0) n) k q apart ∙ none
+    ]
+
+numbered_other : (v : View) (a b : ℕ) (i : MsgId) (k : MessageKind) (q : Pid) (o : Option Told) → v.told i ≡ o → is_kernels i ≡ false → Numbered v → Numbered (view.after_put v a b i k q)
+numbered_other v a b i k q None is other h = numbered_put v a b i k q other is h
+numbered_other v a b i k q (Some t) is other h = numbered_some v a b i k q t is h
+
 routes_right : (pt : Point) (i : MsgId) (m : PlainMessage) (h : Sane pt) → pt.kernel.bag i ≡ Some m → PutRight pt h.e i (plain_kind m.what) m.to
 routes_right pt i m h there = record {
   kind = λ x is. (let f : Some m ≡ Some x = sym there ∙ is in let g : m ≡ x = cc in ap (λ (y : PlainMessage). plain_kind y.what) g);
   receiver = λ x is. (let f : Some m ≡ Some x = sym there ∙ is in let g : m ≡ x = cc in ap (λ (y : PlainMessage). y.to) g);
   own = λ b. absurd (false≢true (sym (plain_not m.what) ∙ b));
   entered = λ k. some_entered h.r h.e pt.kernel i (pt.kernel.bag i) refl (ap is_some there) h.sound;
+  numbered = λ a b. numbered_other pt.view a b i (plain_kind m.what) m.to (pt.view.told i) refl (not_kernels h.r h.e pt.kernel i m there h.sound) h.numbered;
 }
 
 zero_cases : (n : ℕ) → (n ≡ 0) ⊎ (1 ≤ n)
@@ -202,6 +230,7 @@ again_right pt i t h told = record {
   receiver = λ x is. h.tells.receiver i x t is told;
   own = λ b. h.tells.own i t told b;
   entered = λ k. again_entered pt i t h told k;
+  numbered = λ a b. numbered_some pt.view a b i t.kind t.receiver t told h.numbered;
 }
 
 not_own_bag : (pt : Point) (x : PlainMessage) (h : Sane pt) → pt.kernel.bag (own_id pt.view) ≡ Some x → ⊥
@@ -213,6 +242,7 @@ owns_right pt k q h = record {
   receiver = λ x is. absurd (not_own_bag pt x h is);
   own = λ b. refl;
   entered = λ n. absurd (false≢true (sym n));
+  numbered = λ a b. own_numbered pt.view a b k q (h.numbered pt.view.acting (pt.view.count pt.view.acting) (omega arith)) h.numbered;
 }
 
 -- a put with its packet
@@ -252,7 +282,7 @@ one_line pt next l ls quiet is leads h =
     let g : mid ≡ next = cc in
     subst Sane g (sane_line pt mid l quiet first h)
 
-part_sane : (pt next : Point) (p : Part) (ls : List Line) → Sayable p → lines_of pt p ≡ Some ls → after pt ls ≡ Some next → Sane pt → Sane next
+pub part_sane : (pt next : Point) (p : Part) (ls : List Line) → Sayable p → lines_of pt p ≡ Some ls → after pt ls ≡ Some next → Sane pt → Sane next
 part_sane pt next (Says l) ls ok is leads h = one_line pt next l ls ok is leads h
 part_sane pt next (Routes i) ls ok is leads h =
     let (m, there, last) = bind-is (pt.kernel.bag i) (λ m. Some (puts pt.view (pt.addresses (Receiver i)).at i (plain_kind m.what) m.to)) ls is in
@@ -366,6 +396,7 @@ sane_start b valid = record {
   e = λ i. 0;
   sound = start-sound b valid;
   untold = λ i z other. refl;
+  numbered = λ m n le. refl;
   tells = record { kind = λ i x t there told. cc; receiver = λ i x t there told. cc; own = λ i t told b. cc };
 }
 
