@@ -43,3 +43,4 @@ pub mod PhasesLines
 pub mod PhasesQuiet
 pub mod PhasesStand
 pub mod PhasesPut
+pub mod PhasesAnswers

@@ -65,11 +65,11 @@ forwards_row pt a i is k sender to w h fit front e =
     State-at None n.rest.point w.point n.point (State-at None m.rest.point n.rest.point m.point (told_back m.next (is_told_back k) sender (a (Sender i)).at m.rest (steadied m.next m.stands) m.more))
 
 -- lines that handle a kernel's own message, and move no other
-goes_first : (pt : Point) (l : Line) (i : MsgId) (is : List MsgId) → is_put l ≡ false → State None pt → pt.view.inbox pt.view.acting ≡ i ∷ is → is_kernels i ≡ true → ((z : Spot) → ids_at (view_after pt.view l) z ≡ ids_at (handled_first pt.view) z) → State None (moved pt l pt.kernel)
+pub goes_first : (pt : Point) (l : Line) (i : MsgId) (is : List MsgId) → is_put l ≡ false → State None pt → pt.view.inbox pt.view.acting ≡ i ∷ is → is_kernels i ≡ true → ((z : Spot) → ids_at (view_after pt.view l) z ≡ ids_at (handled_first pt.view) z) → State None (moved pt l pt.kernel)
 goes_first pt l i is quiet h front mine off =
     by_own pt l i is quiet h front mine (λ s. Stands-stays (hidden (Some i) (letters h.own pt.kernel.bag)) (handled_first pt.view) (view_after pt.view l) off (λ j. ap (λ (f : MsgId → Option Told). f j) (hushed pt.view l quiet).told) s)
 
-goes_front : (pt : Point) (l : Line) (i : MsgId) (is : List MsgId) → is_put l ≡ false → State None pt → pt.view.inbox pt.view.acting ≡ i ∷ is → is_kernels i ≡ true → ((z : Spot) → ids_at (view_after pt.view l) z ≡ ids_at (handled pt.view i) z) → State None (moved pt l pt.kernel)
+pub goes_front : (pt : Point) (l : Line) (i : MsgId) (is : List MsgId) → is_put l ≡ false → State None pt → pt.view.inbox pt.view.acting ≡ i ∷ is → is_kernels i ≡ true → ((z : Spot) → ids_at (view_after pt.view l) z ≡ ids_at (handled pt.view i) z) → State None (moved pt l pt.kernel)
 goes_front pt l i is quiet h front mine off = goes_first pt l i is quiet h front mine (λ z. off z ∙ sym (first_off pt.view i is front z))
 
 asks_off : (v : View) (a : About) (z : Spot) → ids_at (asks_on v a) z ≡ ids_at v z
@@ -115,41 +115,41 @@ about_off v a (Held m q) = refl
 about_off v a (Inbox m) = refl
 about_off v a (Untaken c d) = refl
 
-proto_off : (v : View) (o : Option Told) (z : Spot) → ids_at (after_proto v o) z ≡ ids_at v z
+pub proto_off : (v : View) (o : Option Told) (z : Spot) → ids_at (after_proto v o) z ≡ ids_at v z
 proto_off v None z = about_off v NothingElse z
 proto_off v (Some t) z = about_off (follows_up v t.about t.kind) t.about z ∙ follows_off v t.about t.kind z
 
-frozen_off : (v : View) (p : Pid) (z : Spot) → ids_at (view_after v (line.Migration stage.Frozen p)) z ≡ ids_at (handled_first v) z
+pub frozen_off : (v : View) (p : Pid) (z : Spot) → ids_at (view_after v (line.Migration stage.Frozen p)) z ≡ ids_at (handled_first v) z
 frozen_off v p (Queue m q) = refl
 frozen_off v p (Held m q) = refl
 frozen_off v p (Inbox m) = refl
 frozen_off v p (Untaken c d) = refl
 
-accepted_off : (v : View) (p : Pid) (z : Spot) → ids_at (view_after v (line.Migration stage.Accepted p)) z ≡ ids_at (handled_first v) z
+pub accepted_off : (v : View) (p : Pid) (z : Spot) → ids_at (view_after v (line.Migration stage.Accepted p)) z ≡ ids_at (handled_first v) z
 accepted_off v p (Queue m q) = refl
 accepted_off v p (Held m q) = refl
 accepted_off v p (Inbox m) = refl
 accepted_off v p (Untaken c d) = refl
 
-state_off : (v : View) (p : Pid) (z : Spot) → ids_at (view_after v (line.Migration stage.StateTaken p)) z ≡ ids_at (handled_first v) z
+pub state_off : (v : View) (p : Pid) (z : Spot) → ids_at (view_after v (line.Migration stage.StateTaken p)) z ≡ ids_at (handled_first v) z
 state_off v p (Queue m q) = refl
 state_off v p (Held m q) = refl
 state_off v p (Inbox m) = refl
 state_off v p (Untaken c d) = refl
 
-memory_off : (v : View) (p : Pid) (z : Spot) → ids_at (view_after v (line.Migration stage.MemoryTaken p)) z ≡ ids_at (handled_first v) z
+pub memory_off : (v : View) (p : Pid) (z : Spot) → ids_at (view_after v (line.Migration stage.MemoryTaken p)) z ≡ ids_at (handled_first v) z
 memory_off v p (Queue m q) = refl
 memory_off v p (Held m q) = refl
 memory_off v p (Inbox m) = refl
 memory_off v p (Untaken c d) = refl
 
-lacks_off : (v : View) (p : Pid) (slots blocks : ℕ) (z : Spot) → ids_at (view_after v (line.Lacks p slots blocks)) z ≡ ids_at (handled_first v) z
+pub lacks_off : (v : View) (p : Pid) (slots blocks : ℕ) (z : Spot) → ids_at (view_after v (line.Lacks p slots blocks)) z ≡ ids_at (handled_first v) z
 lacks_off v p slots blocks (Queue m q) = refl
 lacks_off v p slots blocks (Held m q) = refl
 lacks_off v p slots blocks (Inbox m) = refl
 lacks_off v p slots blocks (Untaken c d) = refl
 
-left_off : (v : View) (p : Pid) (z : Spot) → ids_at (view_after v (line.Migration stage.Left p)) z ≡ ids_at v z
+pub left_off : (v : View) (p : Pid) (z : Spot) → ids_at (view_after v (line.Migration stage.Left p)) z ≡ ids_at v z
 left_off v p (Queue m q) = refl
 left_off v p (Held m q) = refl
 left_off v p (Inbox m) = refl
@@ -159,19 +159,19 @@ left_off v p (Untaken c d) = refl
 abbrev pub home_again : View → Pid → View
 home_again v p = with_ring (knowing v p Here) (v.ring v.acting ++ p ∷ [])
 
-home_off : (v : View) (p : Pid) (z : Spot) → ids_at (home_again v p) z ≡ ids_at v z
+pub home_off : (v : View) (p : Pid) (z : Spot) → ids_at (home_again v p) z ≡ ids_at v z
 home_off v p (Queue m q) = refl
 home_off v p (Held m q) = refl
 home_off v p (Inbox m) = refl
 home_off v p (Untaken c d) = refl
 
-restarted_off : (v : View) (p : Pid) (z : Spot) → ids_at (view_after v (line.Migration stage.Restarted p)) z ≡ ids_at (released (home_again (handled_first v) p) p) z
+pub restarted_off : (v : View) (p : Pid) (z : Spot) → ids_at (view_after v (line.Migration stage.Restarted p)) z ≡ ids_at (released (home_again (handled_first v) p) p) z
 restarted_off v p (Queue m q) = refl
 restarted_off v p (Held m q) = refl
 restarted_off v p (Inbox m) = refl
 restarted_off v p (Untaken c d) = refl
 
-comes_back : (pt : Point) (l : Line) (i : MsgId) (is : List MsgId) (p : Pid) → is_put l ≡ false → State None pt → pt.view.inbox pt.view.acting ≡ i ∷ is → is_kernels i ≡ true
+pub comes_back : (pt : Point) (l : Line) (i : MsgId) (is : List MsgId) (p : Pid) → is_put l ≡ false → State None pt → pt.view.inbox pt.view.acting ≡ i ∷ is → is_kernels i ≡ true
     → ((z : Spot) → ids_at (view_after pt.view l) z ≡ ids_at (released (home_again (handled_first pt.view) p) p) z) → State None (moved pt l pt.kernel)
 comes_back pt l i is p quiet h front mine off =
     by_own pt l i is quiet h front mine (λ s.

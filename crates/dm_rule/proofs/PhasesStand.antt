@@ -148,9 +148,17 @@ rests_token w p (Over at) e = tt
 rests_token w p (Moves k s d None) e = tt
 rests_token w p (Moves k s d (Some i)) e = cc
 
+-- the phases behind, and the one that changed
+pub record Turned (w : View) (p : Pid) (next : Phase) : Type 0 where
+  pub phases : InPhases w
+  pub now : phases.of p ≡ next
+
 pub learns_phases : (v w : View) (p : Pid) (next : Phase) (h : InPhases v) → Learns v w p → token_in next ≡ None → is_apart next ≡ true → ((m : ℕ) → knows next m (w.known m p) ≡ true)
-    → ((i : MsgId) → token_in (h.of p) ≡ Some i → (z : Spot) → standing w i z ≡ 0) → InPhases w
-learns_phases v w p next h c none apart known gone =
-    phase_set v w p next h (λ q off. learns_in v w p q (h.of q) off c (h.each q))
+    → ((i : MsgId) → token_in (h.of p) ≡ Some i → (z : Spot) → standing w i z ≡ 0) → Turned w p next
+unfolding phase_set
+learns_phases v w p next h c none apart known gone = record {
+  phases = phase_set v w p next h (λ q off. learns_in v w p q (h.of q) off c (h.each q))
     (record { known = known; token = rests_token w p next none; alone = subst (λ (o : Option MsgId). Alone w p o) (sym none) (none_left v w p (token_in (h.of p)) c (h.each p).alone gone); apart = apart })
-    (λ i t told b. h.about i t (c.fresh i t told b) b)
+    (λ i t told b. h.about i t (c.fresh i t told b) b);
+  now = ap (λ (x : Bool). if x then next else h.of p) (pid_eq-same p);
+}
