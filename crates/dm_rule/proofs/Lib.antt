@@ -44,3 +44,4 @@ pub mod PhasesQuiet
 pub mod PhasesStand
 pub mod PhasesPut
 pub mod PhasesAnswers
+pub mod PhasesPieces
