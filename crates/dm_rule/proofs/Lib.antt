@@ -45,3 +45,4 @@ pub mod PhasesStand
 pub mod PhasesPut
 pub mod PhasesAnswers
 pub mod PhasesPieces
+pub mod PhasesRests

@@ -47,10 +47,10 @@ pub record Whole (pt : Point) : Type 0 where
   pub fits : PairsFit pt.view
   pub phases : InPhases pt.view
 
-whole_packet : (q : Point) (a b k : ℕ) (l : Load) → Whole q → Whole (moved q (line.Packet a b k l) q.kernel)
+pub whole_packet : (q : Point) (a b k : ℕ) (l : Load) → Whole q → Whole (moved q (line.Packet a b k l) q.kernel)
 whole_packet q a b k l h = record { state = by_packet None q a b k l h.state; fits = fits_packet q.view a b k l h.fits; phases = calm_phases q.view (view_after q.view (line.Packet a b k l)) (packet_calm q.view a b k l) h.phases }
 
-whole_ends : (pt : Point) (w : Spelled) → Whole pt → spelled pt [] ≡ Some w → Whole w.point
+pub whole_ends : (pt : Point) (w : Spelled) → Whole pt → spelled pt [] ≡ Some w → Whole w.point
 whole_ends pt w h e = subst Whole (said pt w e) h
 
 -- the next message is put at the group's end
@@ -100,7 +100,7 @@ due pt i is t h front told b =
     record { p = p; k = k; s = s; d = d; phase = phase; told = same; acting = inbox_is v.acting (sender_in k s d) (receiver_in k s d) (token.ways (Inbox v.acting) one); from = token.from }
 
 -- it goes, and nothing else
-nowhere_of : (bag : Bag) (i : MsgId) (f : Spot → ℕ) → StandsAsBag (hidden (Some i) bag i) f → StandsNowhere f
+pub nowhere_of : (bag : Bag) (i : MsgId) (f : Spot → ℕ) → StandsAsBag (hidden (Some i) bag i) f → StandsNowhere f
 nowhere_of bag i f h = subst (λ (o : Option Pid). StandsAsBag o f) (ap (λ (c : Bool). if c then None else bag i) (id_eq-same i)) h
 
 pub front_gone : (pt : Point) (l : Line) (i : MsgId) (is : List MsgId) (h : State None pt) → is_put l ≡ false → pt.view.inbox pt.view.acting ≡ i ∷ is → ((z : Spot) → ids_at (view_after pt.view l) z ≡ ids_at (handled_first pt.view) z) → (z : Spot) → standing (view_after pt.view l) i z ≡ 0
@@ -140,18 +140,18 @@ first_learns pt l i is t p h quiet front told about off known =
       ];
     }
 
-token_one : (phase : Phase) (k : MessageKind) (s d : ℕ) (i j : MsgId) → phase ≡ Moves k s d (Some i) → token_in phase ≡ Some j → i ≡ j
+pub token_one : (phase : Phase) (k : MessageKind) (s d : ℕ) (i j : MsgId) → phase ≡ Moves k s d (Some i) → token_in phase ≡ Some j → i ≡ j
 token_one phase k s d i j e f = let g : Some i ≡ Some j = sym (ap token_in e) ∙ f in cc
 
 and_hold : (b c : Bool) → b ≡ true → c ≡ true → (b && c) ≡ true
 and_hold true c e f = f
 and_hold false c e f = absurd (false≢true e)
 
-second : (b c : Bool) → (b && c) ≡ true → c ≡ true
+pub second : (b c : Bool) → (b && c) ≡ true → c ≡ true
 second true c e = e
 second false c e = absurd (false≢true e)
 
-still_apart : (v : View) (h : InPhases v) (p : Pid) (k j : MessageKind) (s d : ℕ) (i : MsgId) → h.of p ≡ Moves k s d (Some i) → is_between j ≡ true → (is_between j && not (s == d)) ≡ true
+pub still_apart : (v : View) (h : InPhases v) (p : Pid) (k j : MessageKind) (s d : ℕ) (i : MsgId) → h.of p ≡ Moves k s d (Some i) → is_between j ≡ true → (is_between j && not (s == d)) ≡ true
 still_apart v h p k j s d i e b =
     let was : (is_between k && not (s == d)) ≡ true = sym (ap is_apart e) ∙ (h.each p).apart in
     and_hold (is_between j) (not (s == d)) b (second (is_between k) (not (s == d)) was)

@@ -67,14 +67,14 @@ record_here f a p x m e = ap (λ (b : Bool). if b && pid_eq p p then x else f m 
 pub due_known : (pt : Point) (i : MsgId) (t : Told) (h : InPhases pt.view) (u : Due pt i t h) (m : ℕ) → knows (Moves u.k u.s u.d (Some i)) m (pt.view.known m u.p) ≡ true
 due_known pt i t h u m = subst (λ (x : Phase). knows x m (pt.view.known m u.p) ≡ true) u.phase ((h.each u.p).known m)
 
-due_apart : (pt : Point) (i : MsgId) (t : Told) (h : InPhases pt.view) (u : Due pt i t h) → (is_between u.k && not (u.s == u.d)) ≡ true
+pub due_apart : (pt : Point) (i : MsgId) (t : Told) (h : InPhases pt.view) (u : Due pt i t h) → (is_between u.k && not (u.s == u.d)) ≡ true
 due_apart pt i t h u = subst (λ (x : Phase). is_apart x ≡ true) u.phase (h.each u.p).apart
 
 -- the other end of the two machines
 pub to_sender : (pt : Point) (i : MsgId) (t : Told) (h : InPhases pt.view) (u : Due pt i t h) → i.from.home ≡ sender_in u.k u.s u.d
 to_sender pt i t h u = ap (λ (p : Pid). p.home) u.from
 
-same_row : (pt : Point) (i : MsgId) (t : Told) (h : InPhases pt.view) (u : Due pt i t h) (j : MessageKind) (w : View) → ((m : ℕ) → w.known m u.p ≡ pt.view.known m u.p) → is_restart u.k ≡ is_restart j → is_early u.k ≡ is_early j
+pub same_row : (pt : Point) (i : MsgId) (t : Told) (h : InPhases pt.view) (u : Due pt i t h) (j : MessageKind) (w : View) → ((m : ℕ) → w.known m u.p ≡ pt.view.known m u.p) → is_restart u.k ≡ is_restart j → is_early u.k ≡ is_early j
     → (m : ℕ) → knows (Moves j u.s u.d None) m (w.known m u.p) ≡ true
 same_row pt i t h u j w same e f m =
     ap (knows (Moves j u.s u.d None) m) (same m) ∙ sym (knows_as u.k j u.s u.d (Some i) None m (pt.view.known m u.p) e f) ∙ due_known pt i t h u m

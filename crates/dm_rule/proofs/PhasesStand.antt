@@ -23,7 +23,7 @@ pub record InPhases (v : View) : Type 0 where
   -- what kernels tell each other of migrations is about a process
   pub about : (i : MsgId) (t : Told) → v.told i ≡ Some t → is_between t.kind ≡ true → (p : Pid) × (t.about ≡ Of p)
 
-pub calm_phases : (v w : View) → Calm v w → InPhases v → InPhases w
+abbrev pub calm_phases : (v w : View) → Calm v w → InPhases v → InPhases w
 calm_phases v w c h = record {
   of = h.of;
   each = λ p. calm_in v w p (h.of p) c (h.each p);
