@@ -46,3 +46,4 @@ pub mod PhasesPut
 pub mod PhasesAnswers
 pub mod PhasesPieces
 pub mod PhasesRests
+pub mod PhasesLeaves

@@ -95,7 +95,7 @@ pub record Steady (pt : Point) : Type 0 where
   pub state : State None pt
   pub fits : PairsFit pt.view
 
-way_packet : (gone : List MsgId) (q : Point) (a b k : ℕ) (l : Load) → Way gone q → Way gone (moved q (line.Packet a b k l) q.kernel)
+pub way_packet : (gone : List MsgId) (q : Point) (a b k : ℕ) (l : Load) → Way gone q → Way gone (moved q (line.Packet a b k l) q.kernel)
 way_packet gone q a b k l h = record { between = between_packet gone q a b k l h.between; fits = fits_packet q.view a b k l h.fits }
 
 steady_packet : (q : Point) (a b k : ℕ) (l : Load) → Steady q → Steady (moved q (line.Packet a b k l) q.kernel)
@@ -206,7 +206,7 @@ without_same : (js : List MsgId) (bag other : Bag) → ((i : MsgId) → other i 
 without_same [] bag other e i = e i
 without_same (j ∷ js) bag other e i = ap (λ (x : Option Pid). if id_eq j i then None else x) (without_same js bag other e i)
 
-sent_off : (v : View) (p : Pid) (n : ℕ) (z : Spot) → ids_at (view_after v (line.SentOn p n)) z ≡ ids_at (emptied (handled_first v) p) z
+pub sent_off : (v : View) (p : Pid) (n : ℕ) (z : Spot) → ids_at (view_after v (line.SentOn p n)) z ≡ ids_at (emptied (handled_first v) p) z
 sent_off v p n (Queue m q) = refl
 sent_off v p n (Held m q) = refl
 sent_off v p n (Inbox m) = refl
