@@ -47,3 +47,4 @@ pub mod PhasesAnswers
 pub mod PhasesPieces
 pub mod PhasesRests
 pub mod PhasesLeaves
+pub mod PhasesHears

@@ -238,10 +238,10 @@ leaves_row pt i is p ids (Forward at moves) parts w h fit front mine same e n = 
 leaves_row pt i is p ids Ended parts w h fit front mine same e n = cc
 
 -- what a kernel is told
-given : (pt : Point) (qs ps : List Part) (w : Spelled) → Some qs ≡ Some ps → spelled pt ps ≡ Some w → spelled pt qs ≡ Some w
+pub given : (pt : Point) (qs ps : List Part) (w : Spelled) → Some qs ≡ Some ps → spelled pt ps ≡ Some w → spelled pt qs ≡ Some w
 given pt qs ps w e n = let f : qs ≡ ps = cc in ap (spelled pt) f ∙ n
 
-both_same : (o pt : Point) (m : ℕ) (p : Pid) → SeesSame o pt m → both_lists pt.view p ≡ o.view.queue m p ++ o.view.held m p
+pub both_same : (o pt : Point) (m : ℕ) (p : Pid) → SeesSame o pt m → both_lists pt.view p ≡ o.view.queue m p ++ o.view.held m p
 both_same o pt m p sees = sym (ap (λ (q : List MsgId). q ++ o.view.held m p) (sees.queue p) ∙ ap (λ (q : List MsgId). pt.view.queue pt.view.acting p ++ q) (sees.held p))
 
 told_row : (o pt : Point) (m : ℕ) (i : MsgId) (is : List MsgId) (p : Pid) (room : Bool × ℕ × ℕ) (x : PlainProcess) (k : MessageKind) (parts : List Part) (w : Spelled) → State None pt → PairsFit pt.view → pt.view.inbox pt.view.acting ≡ i ∷ is → is_kernels i ≡ true → SeesSame o pt m
