@@ -77,13 +77,13 @@ taken_told : (v : View) (b : ℕ) (o : Option MsgId) (i : MsgId) → (view.taken
 taken_told v b None i = refl
 taken_told v b (Some j) i = refl
 
-early_off : (v : View) (a b n : ℕ) (z : Spot) → ids_at (view.after_early v a b n) z ≡ ids_at v z
+pub early_off : (v : View) (a b n : ℕ) (z : Spot) → ids_at (view.after_early v a b n) z ≡ ids_at v z
 early_off v a b n (Queue m p) = refl
 early_off v a b n (Held m p) = refl
 early_off v a b n (Inbox m) = refl
 early_off v a b n (Untaken c d) = pair_keeps v.pair a b (record (v.pair a b) { kept = n ∷ filter (λ k. not (k == n)) (v.pair a b).kept }) refl c d
 
-acked_off : (v : View) (a b n : ℕ) (z : Spot) → ids_at (view.after_acked v a b n) z ≡ ids_at v z
+pub acked_off : (v : View) (a b n : ℕ) (z : Spot) → ids_at (view.after_acked v a b n) z ≡ ids_at v z
 acked_off v a b n (Queue m p) = refl
 acked_off v a b n (Held m p) = refl
 acked_off v a b n (Inbox m) = refl
@@ -178,31 +178,31 @@ resends_net v m zero = tt
 resends_net v m (suc b) = net-append (rule.resends v m b) (if m == b then [] else rule.repeats m b (rule.numbers_from (v.pair m b).acked ((v.pair m b).gone - (v.pair m b).acked))) (resends_net v m b) (if_net (m == b) (rule.repeats m b (rule.numbers_from (v.pair m b).acked ((v.pair m b).gone - (v.pair m b).acked))) (repeats_net m b (rule.numbers_from (v.pair m b).acked ((v.pair m b).gone - (v.pair m b).acked))))
 
 -- the head of a group moves no message
-deliver_off : (v : View) (a b k : ℕ) (z : Spot) → ids_at (after_head v (step.Deliver a b k)) z ≡ ids_at v z
+pub deliver_off : (v : View) (a b k : ℕ) (z : Spot) → ids_at (after_head v (step.Deliver a b k)) z ≡ ids_at v z
 deliver_off v a b k (Queue m p) = refl
 deliver_off v a b k (Held m p) = refl
 deliver_off v a b k (Inbox m) = refl
 deliver_off v a b k (Untaken c d) = pair_keeps v.pair a b (view.marked (v.pair a b) k) refl c d
 
-turn_off : (v : View) (m : ℕ) (z : Spot) → ids_at (after_head v (step.Turn m)) z ≡ ids_at v z
+pub turn_off : (v : View) (m : ℕ) (z : Spot) → ids_at (after_head v (step.Turn m)) z ≡ ids_at v z
 turn_off v m (Queue n p) = refl
 turn_off v m (Held n p) = refl
 turn_off v m (Inbox n) = refl
 turn_off v m (Untaken c d) = refl
 
-tick_off : (v : View) (m : ℕ) (z : Spot) → ids_at (after_head v (step.Tick m)) z ≡ ids_at v z
+pub tick_off : (v : View) (m : ℕ) (z : Spot) → ids_at (after_head v (step.Tick m)) z ≡ ids_at v z
 tick_off v m (Queue n p) = refl
 tick_off v m (Held n p) = refl
 tick_off v m (Inbox n) = refl
 tick_off v m (Untaken c d) = refl
 
-migrate_off : (v : View) (p : Pid) (m : ℕ) (z : Spot) → ids_at (after_head v (step.Migrate p m)) z ≡ ids_at v z
+pub migrate_off : (v : View) (p : Pid) (m : ℕ) (z : Spot) → ids_at (after_head v (step.Migrate p m)) z ≡ ids_at v z
 migrate_off v p m (Queue n q) = refl
 migrate_off v p m (Held n q) = refl
 migrate_off v p m (Inbox n) = refl
 migrate_off v p m (Untaken c d) = refl
 
-begun : (pt : Point) (d : Step) → State None pt → ((z : Spot) → ids_at (after_head pt.view d) z ≡ ids_at pt.view z) → ((i : MsgId) → (after_head pt.view d).told i ≡ pt.view.told i) → State None (moved pt (line.Head d) pt.kernel)
+pub begun : (pt : Point) (d : Step) → State None pt → ((z : Spot) → ids_at (after_head pt.view d) z ≡ ids_at pt.view z) → ((i : MsgId) → (after_head pt.view d).told i ≡ pt.view.told i) → State None (moved pt (line.Head d) pt.kernel)
 begun pt d h off told = by_line None pt (line.Head d) refl h (Stands-stays (letters h.own pt.kernel.bag) pt.view (view_after pt.view (line.Head d)) off told h.stands) told
 
 -- a group is its head and what is spelled behind it

@@ -48,3 +48,4 @@ pub mod PhasesPieces
 pub mod PhasesRests
 pub mod PhasesLeaves
 pub mod PhasesHears
+pub mod PhasesNet

@@ -247,12 +247,12 @@ Stands-dequeued bag v w i p rest counts same told h =
     })
 
 -- what stands at a place of a list, and what is behind it
-at_place : (xs : List MsgId) (k : ℕ) (x : MsgId) → slice_get xs k ≡ Some x → drop k xs ≡ x ∷ drop (suc k) xs
+pub at_place : (xs : List MsgId) (k : ℕ) (x : MsgId) → slice_get xs k ≡ Some x → drop k xs ≡ x ∷ drop (suc k) xs
 at_place [] k x e = cc
 at_place (y ∷ ys) zero x e = let f : y ≡ x = cc in ap (λ v. v ∷ ys) f
 at_place (y ∷ ys) (suc k) x e = at_place ys k x e
 
-past_place : (xs : List MsgId) (k : ℕ) → slice_get xs k ≡ None → (drop k xs ≡ []) × (drop (suc k) xs ≡ [])
+pub past_place : (xs : List MsgId) (k : ℕ) → slice_get xs k ≡ None → (drop k xs ≡ []) × (drop (suc k) xs ≡ [])
 past_place [] zero e = (refl, refl)
 past_place [] (suc k) e = (refl, refl)
 past_place (y ∷ ys) zero e = cc

@@ -394,7 +394,7 @@ hears_row b o pt m i is (Some t) parts w h fit front none sees e n =
     hears_by b o pt m i is t (t.receiver.num == 0) (pid_eq t.receiver switchboard) (pid_eq t.receiver manager) parts w h fit front (front_kernels pt i is h front none) sees e n
 
 -- the directive to migrate
-child_row : (pt : Point) (a : Addresses) (p : Pid) (o : Option ℕ) (w : Spelled) → State None pt → PairsFit pt.view → spelled pt (migrates_child a p o) ≡ Some w → State None w.point
+pub child_row : (pt : Point) (a : Addresses) (p : Pid) (o : Option ℕ) (w : Spelled) → State None pt → PairsFit pt.view → spelled pt (migrates_child a p o) ≡ Some w → State None w.point
 child_row pt a p None w h fit e = line_ends pt (line.NoChild p) w refl (by_line None pt (line.NoChild p) refl h h.stands (λ j. refl)) e
 child_row pt a p (Some n) w h fit e = owns_ends pt kind.Migrate p (a (Child n)).at w (record { state = h; fits = fit }) e
 

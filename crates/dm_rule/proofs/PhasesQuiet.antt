@@ -262,7 +262,7 @@ hushed_calm v l i quiet plain known spots =
     calm_others v (view_after v l) i plain (λ t told. plain t (sym (same i) ∙ told)) (λ t told. same i ∙ told) (record { known = known; told = λ j apart. same j; spots = spots })
 
 -- a line that moves none
-moves_none : (v : View) (l : Line) → is_put l ≡ false → ((m : ℕ) (p : Pid) → (view_after v l).known m p ≡ v.known m p) → ((z : Spot) → ids_at (view_after v l) z ≡ ids_at v z) → Calm v (view_after v l)
+pub moves_none : (v : View) (l : Line) → is_put l ≡ false → ((m : ℕ) (p : Pid) → (view_after v l).known m p ≡ v.known m p) → ((z : Spot) → ids_at (view_after v l) z ≡ ids_at v z) → Calm v (view_after v l)
 moves_none v l quiet known off = calm_still v (view_after v l) known (λ j. ap (λ (f : MsgId → Option Told). f j) (hushed v l quiet).told) (λ i z. ap (times i) (off z))
 
 serving_off : (v : View) (p : Pid) (z : Spot) → ids_at (view.serving v p) z ≡ ids_at v z
