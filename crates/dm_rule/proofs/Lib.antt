@@ -49,3 +49,4 @@ pub mod PhasesRests
 pub mod PhasesLeaves
 pub mod PhasesHears
 pub mod PhasesNet
+pub mod PhasesLives
