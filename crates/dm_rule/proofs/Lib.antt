@@ -50,3 +50,4 @@ pub mod PhasesLeaves
 pub mod PhasesHears
 pub mod PhasesNet
 pub mod PhasesLives
+pub mod PhasesTurns
