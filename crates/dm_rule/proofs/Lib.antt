@@ -51,3 +51,4 @@ pub mod PhasesHears
 pub mod PhasesNet
 pub mod PhasesLives
 pub mod PhasesTurns
+pub mod PhasesGroups

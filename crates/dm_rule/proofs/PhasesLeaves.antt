@@ -162,7 +162,7 @@ sent_learns pt n i is t h u front told =
     }
 
 -- the messages of the lists are none of the protocol
-told_some : (o : Option Told) (q : Pid) → receiver_of o ≡ Some q → (t : Told) × (o ≡ Some t)
+pub told_some : (o : Option Told) (q : Pid) → receiver_of o ≡ Some q → (t : Told) × (o ≡ Some t)
 told_some None q e = cc
 told_some (Some t) q e = (t, refl)
 
