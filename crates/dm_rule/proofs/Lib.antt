@@ -52,3 +52,4 @@ pub mod PhasesNet
 pub mod PhasesLives
 pub mod PhasesTurns
 pub mod PhasesGroups
+pub mod PhasesStart
