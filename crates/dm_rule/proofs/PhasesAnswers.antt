@@ -1,42 +1,34 @@
 -- The message about a process that moves is handled, and the next one is put.
-use Rattle.std.proofs.Common.{◌≡◌, ◌⊎◌, ℕ, ◌+◌, ◌≤◌, ◌==◌, ◌&&◌, Bool, true, false, not, List, [], ◌∷◌, ◌++◌, length, refl, ap, ◌∙◌, sym, subst, inl, inr, arith}
+use Rattle.std.proofs.Common.{◌≡◌, ◌⊎◌, ℕ, ◌≤◌, ◌==◌, ◌&&◌, Bool, true, false, not, List, [], ◌∷◌, refl, ap, ◌∙◌, sym, subst, inl, inr, arith}
 use Rattle.std.specs.Prelude.{if◌then◌else◌}
 use Rattle.std.specs.declared.option.Option.{Option}
 use Rattle.std.specs.declared.option.Option.TheVariants.{None, Some}
 use Rattle.std.proofs.lemmas.Bool.{cases_Bool, false≢true}
-use Rattle.std.proofs.lemmas.Bool.Decides.{nat_tests}
 use Rattle.dm_link.specs.declared.Pid.{Pid}
 use Rattle.dm_link.specs.Names.{pid_of, pid_eq}
 use Rattle.dm_message.specs.declared.MsgId.{MsgId}
 use Rattle.dm_message.specs.declared.kind.MessageKind.{MessageKind}
-use Rattle.dm_message.specs.declared.kind.MessageKind.TheVariants as kind
 use Rattle.dm_message.specs.Ids.{id_eq}
 use Rattle.dm_rule.specs.declared.line.Line.{Line}
 use Rattle.dm_rule.specs.declared.line.Line.TheVariants as line
 use Rattle.dm_rule.specs.declared.line.Load.{Load}
-use Rattle.dm_rule.specs.declared.line.Stage.TheVariants as stage
-use Rattle.dm_rule.specs.Sets.{at_pid, at_record}
-use Rattle.dm_rule.specs.View.{View, Told, About, Of, Known, Unknown, Here, Frozen, Incoming, Forward, Ended, view_after, handled, handled_first, own_id, after_proto, follows_up, asks_on}
-use Rattle.dm_rule.specs.View as view
+use Rattle.dm_rule.specs.View.{View, Told, Of, view_after, handled_first, own_id}
 use Rattle.dm_rule.specs.Point.{Point, label_of, moved}
-use Rattle.dm_rule.specs.Parts.{Part, Says, Owns, Spelled, spelled}
-use Rattle.dm_rule.specs.Migrating.{to_kernel, accepts, takes_chunk, takes_block, gives_piece}
-use Rattle.dm_rule.specs.Spots.{Spot, Queue, Held, Inbox, Untaken, times, ids_at, standing, StandsNowhere, StandsAsBag}
-use Rattle.dm_rule.specs.Phases.{is_between, is_apart, is_of_source, Phase, Nowhere, Rests, Over, Moves, knows, token_in, sender_in, receiver_in, told_between, IsToken, HasToken, Alone, IsIn}
-use Rattle.dm_laws.proofs.Equal.{id_eq-is, id_eq-same, pid_eq-is, pid_eq-same}
+use Rattle.dm_rule.specs.Parts.{Says, Owns, Spelled, spelled}
+use Rattle.dm_rule.specs.Spots.{Spot, Inbox, Untaken, times, ids_at, standing, StandsNowhere, StandsAsBag}
+use Rattle.dm_rule.specs.Phases.{is_between, is_apart, Phase, Moves, knows, token_in, sender_in, receiver_in, told_between}
+use Rattle.dm_laws.proofs.Equal.{id_eq-is, id_eq-same, pid_eq-same}
 use Rattle.dm_rule.proofs.Standing.{StandsAsBag-once}
 use Rattle.dm_rule.proofs.Once.{one_of}
-use Rattle.dm_rule.proofs.Lines.{Bag, hidden, Stands, Stands-handled, not_true}
+use Rattle.dm_rule.proofs.Lines.{Bag, hidden, Stands-handled}
 use Rattle.dm_rule.proofs.Letters.{letters}
 use Rattle.dm_rule.proofs.Hushed.{is_put, hushed}
 use Rattle.dm_rule.proofs.PairsLines.{touches, pair_same}
-use Rattle.dm_rule.proofs.States.{State, State-at, PairsFit, by_packet, PutNext, puts_next, said}
+use Rattle.dm_rule.proofs.States.{State, PairsFit, by_packet, puts_next, said}
 use Rattle.dm_rule.proofs.Said.{fits_as}
 use Rattle.dm_rule.proofs.MovesLists.{first_off}
-use Rattle.dm_rule.proofs.MovesStates.{by_own_put, front_kernels}
-use Rattle.dm_rule.proofs.MovesSent.{Steady, line_next, fits_put, fits_packet}
-use Rattle.dm_rule.proofs.MovesRows.{goes_first, goes_front, frozen_off, accepted_off, state_off, memory_off, lacks_off, proto_off}
-use Rattle.dm_rule.proofs.PhasesCalm.{Came, Calm}
+use Rattle.dm_rule.proofs.MovesStates.{by_own_put}
+use Rattle.dm_rule.proofs.MovesSent.{line_next, fits_put, fits_packet}
 use Rattle.dm_rule.proofs.PhasesLines.{handled_spots, packet_calm}
 use Rattle.dm_rule.proofs.PhasesStand.{InPhases, calm_phases, token_is, token_at, Learns, learns_phases}
 use Rattle.dm_rule.proofs.PhasesPut.{own_put_phases, put_there, put_spot}
@@ -169,6 +161,6 @@ answer_row pt l i is t k b w h u none quiet calm front told there off others kno
     let learns = first_learns pt l i is t u.p h.state quiet front told (λ x. ap (λ (y : Told). y.about) u.told) off others in
     let apart : is_apart (Moves k u.s u.d None) ≡ true = still_apart v h.phases u.p u.k k u.s u.d i u.phase between in
     let turned = learns_phases v next.view u.p (Moves k u.s u.d None) h.phases learns refl apart known
-        (λ j x z. subst (λ (y : MsgId). standing next.view y z ≡ 0) (token_one (h.phases.of u.p) u.k u.s u.d i j u.phase x) (front_gone pt l i is h.state quiet front off z)) in
+    (λ j x z. subst (λ (y : MsgId). standing next.view y z ≡ 0) (token_one (h.phases.of u.p) u.k u.s u.d i j u.phase x) (front_gone pt l i is h.state quiet front off z)) in
     let whole : Whole next = record { state = there; fits = fits_as v next.view (pair_same v l calm) h.fits; phases = turned.phases } in
     subst Whole n.point (owns_whole next u.p k u.s u.d b n.rest whole turned.now topic (acting ∙ u.acting ∙ turn) to n.more)

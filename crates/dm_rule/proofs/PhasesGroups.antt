@@ -1,6 +1,6 @@
 -- A group keeps each process in a phase, where what a machine's ring lists is here, and nothing is known of what is made next.
-use Rattle.std.proofs.Common.{◌≡◌, ℕ, ◌+◌, ◌≤◌, Bool, true, false, List, [], ◌∷◌, refl, ap, ◌∙◌, sym, subst, length}
-use Rattle.std.specs.Prelude.{⊤, if◌then◌else◌, slice_get}
+use Rattle.std.proofs.Common.{◌≡◌, ℕ, ◌+◌, List, [], ◌∷◌, refl, ap, ◌∙◌, subst}
+use Rattle.std.specs.Prelude.{slice_get}
 use Rattle.std.specs.declared.option.Option.{Option}
 use Rattle.std.specs.declared.option.Option.TheVariants.{None, Some}
 use Rattle.dm_link.specs.declared.Pid.{Pid}
@@ -9,28 +9,26 @@ use Rattle.dm_message.specs.declared.MsgId.{MsgId}
 use Rattle.dm_message.specs.Plain.{PlainMessage}
 use Rattle.dm_onekernel.specs.declared.boot.Boot.{Boot}
 use Rattle.dm_onekernel.specs.Boot.{first_number}
-use Rattle.dm_onekernel.specs.Kernel.{OneKernel}
 use Rattle.dm_schedule.specs.declared.Step.{Step}
 use Rattle.dm_schedule.specs.declared.Step.TheVariants as step
 use Rattle.dm_rule.specs.declared.line.Line.TheVariants as line
-use Rattle.dm_rule.specs.View.{View, Known, Unknown, Here, after_head, receiver_of}
+use Rattle.dm_rule.specs.View.{Unknown, Here, after_head}
 use Rattle.dm_rule.specs.Point.{Point, moved}
 use Rattle.dm_rule.specs.Parts.{Part, Says, Spelled, spelled}
 use Rattle.dm_rule.specs.Migrating.{migrates}
 use Rattle.dm_rule.specs.Rule as rule
 use Rattle.dm_rule.specs.Rule.{group_of}
 use Rattle.dm_rule.proofs.States.{State, PairsFit}
-use Rattle.dm_rule.proofs.Groups.{group_is, begun, turn_off, migrate_off, arrives_net, resends_net}
+use Rattle.dm_rule.proofs.Groups.{group_is, begun, turn_off, arrives_net, resends_net}
 use Rattle.dm_rule.proofs.MovesStates.{front_way}
-use Rattle.dm_rule.proofs.MovesRows.{SeesSame}
 use Rattle.dm_rule.proofs.Telling.{Sane, sane_line}
-use Rattle.dm_rule.proofs.PhasesCalm.{Calm, calm_trans}
+use Rattle.dm_rule.proofs.PhasesCalm.{calm_trans}
 use Rattle.dm_rule.proofs.PhasesStand.{InPhases, calm_phases}
 use Rattle.dm_rule.proofs.PhasesAnswers.{Whole}
-use Rattle.dm_rule.proofs.PhasesHears.{SeesAll, phases_hears}
+use Rattle.dm_rule.proofs.PhasesHears.{phases_hears}
 use Rattle.dm_rule.proofs.PhasesNet.{head_calm, net_parts, migrates_quiet}
 use Rattle.dm_rule.proofs.PhasesLeaves.{told_some}
-use Rattle.dm_rule.proofs.PhasesTurns.{Fit, Front, quiet_parts, phases_handles, phases_round}
+use Rattle.dm_rule.proofs.PhasesTurns.{Fit, quiet_parts, phases_handles, phases_round}
 
 -- what a ring's first process that can be served is, and what is known of the process that a machine would make next
 pub record Rooted (pt : Point) : Type 0 where

@@ -1,12 +1,12 @@
 -- A kernel's own message is handled: each process stays in a phase.
 use Rattle.std.proofs.Common.{◌≡◌, ℕ, ◌==◌, Bool, true, false, List, [], ◌∷◌, ◌++◌, refl, ap, ◌∙◌, sym, subst, length, arith}
-use Rattle.std.specs.Prelude.{⊤, ◌/◌, if◌then◌else◌}
+use Rattle.std.specs.Prelude.{◌/◌, if◌then◌else◌}
 use Rattle.std.specs.declared.option.Option.{Option}
 use Rattle.std.specs.declared.option.Option.TheVariants.{None, Some}
 use Rattle.std.proofs.lemmas.Bool.{false≢true}
 use Rattle.std.proofs.lemmas.Bool.Decides.{nat_tests}
 use Rattle.dm_link.specs.declared.Pid.{Pid}
-use Rattle.dm_link.specs.Names.{pid_of, pid_eq}
+use Rattle.dm_link.specs.Names.{pid_eq}
 use Rattle.dm_message.specs.declared.MsgId.{MsgId}
 use Rattle.dm_message.specs.declared.kind.MessageKind.{MessageKind}
 use Rattle.dm_message.specs.declared.kind.MessageKind.TheVariants as kind
@@ -20,19 +20,19 @@ use Rattle.dm_rule.specs.View.{View, Told, About, NothingElse, Target, Of, Known
 use Rattle.dm_rule.specs.View as view
 use Rattle.dm_rule.specs.Addresses.{Addresses, Sender, is_told_back}
 use Rattle.dm_rule.specs.Point.{Point}
-use Rattle.dm_rule.specs.Parts.{Part, Says, Again, Owns, Spelled, spelled}
-use Rattle.dm_rule.specs.Migrating.{to_kernel, forwards_on, moves_to, accepts, takes_chunk, takes_block, gives_piece, leaves, kernel_told, chunks_of, pieces_of, updates, here_told, ended_told, process_told, server_told}
+use Rattle.dm_rule.specs.Parts.{Part, Says, Owns, Spelled, spelled}
+use Rattle.dm_rule.specs.Migrating.{to_kernel, forwards_on, moves_to, accepts, takes_chunk, takes_block, gives_piece, kernel_told, chunks_of, pieces_of, updates, here_told, ended_told, process_told, server_told}
 use Rattle.dm_rule.specs.Rule.{fits, free_room, kernel_hears, hears}
-use Rattle.dm_rule.specs.Phases.{is_between, told_between, receiver_in}
+use Rattle.dm_rule.specs.Phases.{is_between}
 use Rattle.dm_laws.proofs.Steps.{bind-is}
 use Rattle.dm_rule.proofs.States.{State}
 use Rattle.dm_rule.proofs.MovesStates.{front_kernels}
 use Rattle.dm_rule.proofs.MovesRows.{SeesSame, given, both_same, hears_row}
 use Rattle.dm_rule.proofs.Telling.{Sane}
 use Rattle.dm_rule.proofs.PhasesCalm.{calm_same}
-use Rattle.dm_rule.proofs.PhasesQuiet.{Tame, Quiet, AllQuiet, Settled, parts_settle}
+use Rattle.dm_rule.proofs.PhasesQuiet.{Tame, AllQuiet, parts_settle}
 use Rattle.dm_rule.proofs.PhasesStand.{InPhases, calm_phases}
-use Rattle.dm_rule.proofs.PhasesAnswers.{Whole, Due, due}
+use Rattle.dm_rule.proofs.PhasesAnswers.{Whole, due}
 use Rattle.dm_rule.proofs.PhasesPieces.{ask_row, pull_state_row, pull_block_row, chunk_row, block_row}
 use Rattle.dm_rule.proofs.PhasesRests.{stays_row, restart_row, frozen_row}
 use Rattle.dm_rule.proofs.PhasesLeaves.{leaves_row}
@@ -62,49 +62,49 @@ about_same p q e = cc
 -- a message of the protocol, by its kind
 told_row : (o pt : Point) (m : ℕ) (i : MsgId) (is : List MsgId) (t : Told) (p : Pid) (room : Bool × ℕ × ℕ) (x : PlainProcess) (k : MessageKind) (parts : List Part) (w : Spelled) (h : Whole pt) → pt.view.inbox pt.view.acting ≡ i ∷ is → pt.view.told i ≡ Some t → is_kernels i ≡ true → SeesAll o pt m
     → t.kind ≡ k → t.about ≡ Of p → kernel_told o m i p room x k ≡ Some parts → spelled pt parts ≡ Some w → Whole w.point
-told_row o pt m i is t p room x kind.Ask parts w h front told mine sees e about g n = 
+told_row o pt m i is t p room x kind.Ask parts w h front told mine sees e about g n =
     let u = due pt i is t h.phases front told (ap is_between e) in
     let pu : u.p ≡ p = about_same u.p p (sym (ap (λ (y : Told). y.about) u.told) ∙ about) in
     let ku : u.k ≡ kind.Ask = sym (ap (λ (y : Told). y.kind) u.told) ∙ e in
     let mine_ : kernel_told o m i u.p room x kind.Ask ≡ Some parts = subst (λ (q : Pid). kernel_told o m i q room x kind.Ask ≡ Some parts) (sym pu) g in
     ask_row pt i is t room.0 room.1 room.2 w h u ku front told mine (given pt (accepts i.from.home u.p room.0 room.1 room.2) parts w mine_ n)
-told_row o pt m i is t p room x kind.Refuse parts w h front told mine sees e about g n = 
+told_row o pt m i is t p room x kind.Refuse parts w h front told mine sees e about g n =
     let u = due pt i is t h.phases front told (ap is_between e) in
     let pu : u.p ≡ p = about_same u.p p (sym (ap (λ (y : Told). y.about) u.told) ∙ about) in
     let ku : u.k ≡ kind.Refuse = sym (ap (λ (y : Told). y.kind) u.told) ∙ e in
     let mine_ : kernel_told o m i u.p room x kind.Refuse ≡ Some parts = subst (λ (q : Pid). kernel_told o m i q room x kind.Refuse ≡ Some parts) (sym pu) g in
     stays_row pt i is t w h u ku front told mine (given pt (Says (line.Stays u.p) ∷ []) parts w mine_ n)
-told_row o pt m i is t p room x kind.PullState parts w h front told mine sees e about g n = 
+told_row o pt m i is t p room x kind.PullState parts w h front told mine sees e about g n =
     let u = due pt i is t h.phases front told (ap is_between e) in
     let pu : u.p ≡ p = about_same u.p p (sym (ap (λ (y : Told). y.about) u.told) ∙ about) in
     let ku : u.k ≡ kind.PullState = sym (ap (λ (y : Told). y.kind) u.told) ∙ e in
     let mine_ : kernel_told o m i u.p room x kind.PullState ≡ Some parts = subst (λ (q : Pid). kernel_told o m i q room x kind.PullState ≡ Some parts) (sym pu) g in
     pull_state_row pt i is t w h u ku front told mine (given pt (gives_piece i kind.State) parts w mine_ n)
-told_row o pt m i is t p room x kind.State parts w h front told mine sees e about g n = 
+told_row o pt m i is t p room x kind.State parts w h front told mine sees e about g n =
     let u = due pt i is t h.phases front told (ap is_between e) in
     let pu : u.p ≡ p = about_same u.p p (sym (ap (λ (y : Told). y.about) u.told) ∙ about) in
     let ku : u.k ≡ kind.State = sym (ap (λ (y : Told). y.kind) u.told) ∙ e in
     let mine_ : kernel_told o m i u.p room x kind.State ≡ Some parts = subst (λ (q : Pid). kernel_told o m i q room x kind.State ≡ Some parts) (sym pu) g in
     chunk_row pt i is t (o.view.asked u.p == chunks_of x) w h u ku front told mine (given pt (takes_chunk i u.p (o.view.asked u.p == chunks_of x)) parts w mine_ n)
-told_row o pt m i is t p room x kind.PullBlock parts w h front told mine sees e about g n = 
+told_row o pt m i is t p room x kind.PullBlock parts w h front told mine sees e about g n =
     let u = due pt i is t h.phases front told (ap is_between e) in
     let pu : u.p ≡ p = about_same u.p p (sym (ap (λ (y : Told). y.about) u.told) ∙ about) in
     let ku : u.k ≡ kind.PullBlock = sym (ap (λ (y : Told). y.kind) u.told) ∙ e in
     let mine_ : kernel_told o m i u.p room x kind.PullBlock ≡ Some parts = subst (λ (q : Pid). kernel_told o m i q room x kind.PullBlock ≡ Some parts) (sym pu) g in
     pull_block_row pt i is t w h u ku front told mine (given pt (gives_piece i kind.Memory) parts w mine_ n)
-told_row o pt m i is t p room x kind.Memory parts w h front told mine sees e about g n = 
+told_row o pt m i is t p room x kind.Memory parts w h front told mine sees e about g n =
     let u = due pt i is t h.phases front told (ap is_between e) in
     let pu : u.p ≡ p = about_same u.p p (sym (ap (λ (y : Told). y.about) u.told) ∙ about) in
     let ku : u.k ≡ kind.Memory = sym (ap (λ (y : Told). y.kind) u.told) ∙ e in
     let mine_ : kernel_told o m i u.p room x kind.Memory ≡ Some parts = subst (λ (q : Pid). kernel_told o m i q room x kind.Memory ≡ Some parts) (sym pu) g in
     block_row pt i is t (o.view.asked u.p == pieces_of x) w h u ku front told mine (given pt (takes_block i u.p (o.view.asked u.p == pieces_of x)) parts w mine_ n)
-told_row o pt m i is t p room x kind.AllTaken parts w h front told mine sees e about g n = 
+told_row o pt m i is t p room x kind.AllTaken parts w h front told mine sees e about g n =
     let u = due pt i is t h.phases front told (ap is_between e) in
     let pu : u.p ≡ p = about_same u.p p (sym (ap (λ (y : Told). y.about) u.told) ∙ about) in
     let ku : u.k ≡ kind.AllTaken = sym (ap (λ (y : Told). y.kind) u.told) ∙ e in
     let mine_ : kernel_told o m i u.p room x kind.AllTaken ≡ Some parts = subst (λ (q : Pid). kernel_told o m i q room x kind.AllTaken ≡ Some parts) (sym pu) g in
     leaves_row pt i is t (o.view.queue m u.p ++ o.view.held m u.p) (o.view.known m u.p) parts w h u ku front told mine (both_same o pt m u.p sees.same) mine_ n
-told_row o pt m i is t p room x kind.Restart parts w h front told mine sees e about g n = 
+told_row o pt m i is t p room x kind.Restart parts w h front told mine sees e about g n =
     let u = due pt i is t h.phases front told (ap is_between e) in
     let pu : u.p ≡ p = about_same u.p p (sym (ap (λ (y : Told). y.about) u.told) ∙ about) in
     let ku : u.k ≡ kind.Restart = sym (ap (λ (y : Told). y.kind) u.told) ∙ e in

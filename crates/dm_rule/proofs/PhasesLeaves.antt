@@ -4,15 +4,13 @@ use Rattle.std.specs.Prelude.{if◌then◌else◌}
 use Rattle.std.specs.declared.option.Option.{Option}
 use Rattle.std.specs.declared.option.Option.TheVariants.{None, Some}
 use Rattle.std.proofs.lemmas.Bool.{cases_Bool, false≢true}
-use Rattle.std.proofs.lemmas.Bool.Decides.{nat_tests}
 use Rattle.dm_link.specs.declared.Pid.{Pid}
-use Rattle.dm_link.specs.Names.{pid_of, pid_eq}
+use Rattle.dm_link.specs.Names.{pid_eq}
 use Rattle.dm_message.specs.declared.MsgId.{MsgId}
 use Rattle.dm_message.specs.declared.kind.MessageKind.{MessageKind}
 use Rattle.dm_message.specs.declared.kind.MessageKind.TheVariants as kind
 use Rattle.dm_message.specs.Ids.{id_eq}
 use Rattle.dm_onekernel.specs.Options.{bind}
-use Rattle.dm_rule.specs.declared.line.Line.{Line}
 use Rattle.dm_rule.specs.declared.line.Line.TheVariants as line
 use Rattle.dm_rule.specs.declared.line.Load.{Load}
 use Rattle.dm_rule.specs.declared.line.Stage.TheVariants as stage
@@ -20,30 +18,29 @@ use Rattle.dm_rule.specs.Sets.{at_record}
 use Rattle.dm_rule.specs.View.{View, Told, About, Of, Known, Unknown, Here, Frozen, Incoming, Forward, Ended, view_after, handled_first, gone_to, receiver_of, is_kernels}
 use Rattle.dm_rule.specs.View as view
 use Rattle.dm_rule.specs.Point.{Point, moved, after}
-use Rattle.dm_rule.specs.Parts.{Part, Says, Again, Owns, Spelled, lines_of, puts, behind, spelled}
+use Rattle.dm_rule.specs.Parts.{Part, Says, Again, Spelled, lines_of, puts, behind, spelled}
 use Rattle.dm_rule.specs.Migrating.{to_kernel, sends_on, leaves}
-use Rattle.dm_rule.specs.Spots.{Spot, Queue, Held, Inbox, Untaken, times, ids_at, standing}
+use Rattle.dm_rule.specs.Spots.{Spot, Queue, Held, Inbox, Untaken, times, standing}
 use Rattle.dm_rule.specs.Phases.{is_between, is_apart, is_away, comes, Phase, Moves, knows, token_in, sender_in, receiver_in, told_between, IsIn}
 use Rattle.dm_rule.specs.Phases as phase
 use Rattle.dm_laws.proofs.Equal.{id_eq-is, id_eq-same, pid_eq-same}
 use Rattle.dm_laws.proofs.Steps.{bind-is}
 use Rattle.dm_rule.proofs.Once.{one_of}
-use Rattle.dm_rule.proofs.Lines.{Bag, hidden, Stands-handled, eq_is}
+use Rattle.dm_rule.proofs.Lines.{Stands-handled, eq_is}
 use Rattle.dm_rule.proofs.Letters.{letters}
-use Rattle.dm_rule.proofs.Hushed.{hushed}
 use Rattle.dm_rule.proofs.PairsLines.{pair_same}
-use Rattle.dm_rule.proofs.States.{State, by_line, PairsFit, PutNext, puts_next}
+use Rattle.dm_rule.proofs.States.{State, by_line, PutNext, puts_next}
 use Rattle.dm_rule.proofs.Lines.{Stands-stays}
 use Rattle.dm_rule.proofs.Said.{fits_as}
 use Rattle.dm_rule.proofs.MovesLists.{both_lists, both_times, emptied, first_off}
 use Rattle.dm_rule.proofs.MovesStates.{Between, again}
-use Rattle.dm_rule.proofs.MovesSent.{Way, Steady, steadied, way_packet, sent_way, sent_off, line_next, fits_put}
+use Rattle.dm_rule.proofs.MovesSent.{Way, steadied, way_packet, sent_way, sent_off, line_next, fits_put}
 use Rattle.dm_rule.proofs.MovesRows.{left_off}
-use Rattle.dm_rule.proofs.PhasesCalm.{Came, Calm}
+use Rattle.dm_rule.proofs.PhasesCalm.{Calm}
 use Rattle.dm_rule.proofs.PhasesLines.{handled_spots, put_calm, packet_calm}
 use Rattle.dm_rule.proofs.PhasesQuiet.{Tame}
 use Rattle.dm_rule.proofs.PhasesStand.{InPhases, calm_phases, queued_plain, held_plain, Learns, learns_phases}
-use Rattle.dm_rule.proofs.PhasesAnswers.{Whole, Due, owns_whole, nowhere_of, token_one, second}
+use Rattle.dm_rule.proofs.PhasesAnswers.{Whole, Due, owns_whole, nowhere_of, token_one}
 use Rattle.dm_rule.proofs.PhasesPieces.{record_off, same_row, due_apart, to_sender}
 
 -- where messages are on the way, in the phase of a process
@@ -236,8 +233,8 @@ left_row pt p s d b w h apart to e =
     let steady = steadied pt h.way in
     let was : (m : ℕ) → knows (Moves kind.AllTaken s d None) m (v.known m p) ≡ true = λ m. subst (λ (x : Phase). knows x m (v.known m p) ≡ true) h.now ((h.phases.each p).known m) in
     let turned = learns_phases v next.view p (Moves kind.Restart s d None) h.phases (left_calm v p) refl apart
-        (λ m. ap (knows (Moves kind.Restart s d None) m) (left_at v s m p (v.moves p + 1) h.acting) ∙ left_known s d m (v.moves p + 1) (s == m) (v.known m p) refl (was m))
-        (λ j x z. absurd (let f : None ≡ Some j = sym (ap token_in h.now) ∙ x in cc)) in
+    (λ m. ap (knows (Moves kind.Restart s d None) m) (left_at v s m p (v.moves p + 1) h.acting) ∙ left_known s d m (v.moves p + 1) (s == m) (v.known m p) refl (was m))
+    (λ j x z. absurd (let f : None ≡ Some j = sym (ap token_in h.now) ∙ x in cc)) in
     let whole : Whole next = record {
       state = by_line None pt l refl steady.state (Stands-stays (letters steady.state.own pt.kernel.bag) v next.view (λ z. left_off v p z) (λ j. refl) steady.state.stands) (λ j. refl);
       fits = fits_as v next.view (pair_same v l refl) h.way.fits;
@@ -264,8 +261,8 @@ leaves_row pt i is t ids (Frozen to) parts w h u e front told mine same f n =
     let from : i.from.home ≡ u.d = to_sender pt i t h.phases u ∙ ap (λ (k : MessageKind). sender_in k u.s u.d) e in
     let apart : (is_between kind.AllTaken && not (u.s == u.d)) ≡ true = ap (λ (k : MessageKind). is_between k && not (u.s == u.d)) (sym e) ∙ due_apart pt i t h.phases u in
     let turned = learns_phases v next.view u.p ph h.phases (sent_learns pt (length ids) i is t h u front told) refl apart
-        (same_row pt i t h.phases u kind.AllTaken next.view (λ m. refl) (ap phase.is_restart e) (ap phase.is_early e))
-        (λ j x z. subst (λ (y : MsgId). standing next.view y z ≡ 0) (token_one (h.phases.of u.p) u.k u.s u.d i j u.phase x) (sent_gone pt u.p (length ids) i is h.state front z)) in
+    (same_row pt i t h.phases u kind.AllTaken next.view (λ m. refl) (ap phase.is_restart e) (ap phase.is_early e))
+    (λ j x z. subst (λ (y : MsgId). standing next.view y z ≡ 0) (token_one (h.phases.of u.p) u.k u.s u.d i j u.phase x) (sent_gone pt u.p (length ids) i is h.state front z)) in
     let sent : Between ids next = subst (λ (js : List MsgId). Between js next) same (sent_way pt u.p (length ids) i is h.state front mine) in
     let way : WayIn u.p ph u.s ids next = record {
       way = record { between = sent; fits = fits_as v next.view (pair_same v l refl) h.fits };

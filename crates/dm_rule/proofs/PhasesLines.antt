@@ -1,32 +1,29 @@
 -- Lines that leave the migrations of all processes as they are.
-use Rattle.std.proofs.Common.{◌≡◌, ◌⊎◌, ℕ, zero, suc, ◌+◌, ◌≤◌, ◌==◌, ◌&&◌, Bool, true, false, not, filter, List, [], ◌∷◌, ◌++◌, drop, length, refl, ap, ◌∙◌, sym, subst, inl, inr, arith}
-use Rattle.std.specs.Prelude.{if◌then◌else◌, slice_get}
+use Rattle.std.proofs.Common.{◌≡◌, ℕ, zero, suc, ◌+◌, ◌==◌, ◌&&◌, Bool, true, false, List, [], ◌∷◌, ◌++◌, drop, length, refl, ap, ◌∙◌, sym, subst, inl, inr, arith}
+use Rattle.std.specs.Prelude.{if◌then◌else◌}
 use Rattle.std.specs.declared.option.Option.{Option}
 use Rattle.std.specs.declared.option.Option.TheVariants.{None, Some}
-use Rattle.std.proofs.lemmas.Bool.{cases_Bool, false≢true}
-use Rattle.std.proofs.lemmas.Bool.Decides.{nat_tests}
+use Rattle.std.proofs.lemmas.Bool.{cases_Bool}
 use Rattle.std.proofs.lemmas.List.{length-append}
 use Rattle.std.proofs.Math.Seq.{drop-length}
 use Rattle.dm_link.specs.declared.Pid.{Pid}
 use Rattle.dm_link.specs.Names.{pid_eq}
 use Rattle.dm_message.specs.declared.MsgId.{MsgId}
 use Rattle.dm_message.specs.declared.kind.MessageKind.{MessageKind}
-use Rattle.dm_message.specs.declared.kind.MessageKind.TheVariants as kind
 use Rattle.dm_message.specs.Ids.{id_eq}
 use Rattle.dm_rule.specs.declared.line.Load.{Load}
 use Rattle.dm_rule.specs.declared.line.Line.TheVariants as line
 use Rattle.dm_rule.specs.Sets.{at_machine, at_pair, at_record, without_id, without_front}
 use Rattle.dm_rule.specs.View.{View, Pair, Told, handled, queued_for, held_for, dropped_for, forwarded_for, served_told, kills, view_after, after_put, after_taken, taken_id, with_pair, routed_on}
 use Rattle.dm_rule.specs.View as view
-use Rattle.dm_rule.specs.Spots.{Spot, Queue, Held, Inbox, Untaken, times, untaken, ids_at, standing}
+use Rattle.dm_rule.specs.Spots.{Spot, Queue, Held, Inbox, Untaken, times, untaken, standing}
 use Rattle.dm_rule.specs.Phases.{is_between}
 use Rattle.dm_laws.proofs.Equal.{pid_eq-is, id_eq-is, id_eq-same, id_eq-swap}
 use Rattle.dm_rule.proofs.Standing.{times-append}
 use Rattle.dm_rule.proofs.Once.{one_of}
 use Rattle.dm_rule.proofs.Lines.{parts, eq_is, pair_keeps}
-use Rattle.dm_rule.proofs.Hushed.{hushed}
 use Rattle.dm_rule.proofs.States.{PairsFit, put_told_off}
-use Rattle.dm_rule.proofs.PhasesCalm.{Calm, Came, Others, Plain, calm_same, calm_others, calm_still}
+use Rattle.dm_rule.proofs.PhasesCalm.{Calm, Plain, calm_others, calm_still}
 
 -- lists with one message more or less count the others alike
 off_zero : (i j : MsgId) → id_eq i j ≡ false → one_of j i ≡ 0

@@ -1,35 +1,29 @@
 -- A process ends, and one is made.
-use Rattle.std.proofs.Common.{◌≡◌, ◌⊎◌, ℕ, ◌+◌, ◌≤◌, ◌==◌, ◌&&◌, Bool, true, false, not, List, [], ◌∷◌, refl, ap, ◌∙◌, sym, subst, inl, inr, arith}
+use Rattle.std.proofs.Common.{◌≡◌, ℕ, ◌≤◌, ◌==◌, ◌&&◌, Bool, true, false, refl, ap, ◌∙◌, sym, subst, inl, arith}
 use Rattle.std.specs.Prelude.{if◌then◌else◌}
 use Rattle.std.specs.declared.option.Option.{Option}
 use Rattle.std.specs.declared.option.Option.TheVariants.{None, Some}
-use Rattle.std.proofs.lemmas.Bool.{cases_Bool, false≢true}
+use Rattle.std.proofs.lemmas.Bool.{false≢true}
 use Rattle.std.proofs.lemmas.Bool.Decides.{nat_tests}
 use Rattle.dm_link.specs.declared.Pid.{Pid}
-use Rattle.dm_link.specs.Names.{pid_eq}
 use Rattle.dm_message.specs.declared.MsgId.{MsgId}
 use Rattle.dm_message.specs.declared.kind.MessageKind.{MessageKind}
 use Rattle.dm_message.specs.declared.kind.MessageKind.TheVariants as kind
 use Rattle.dm_message.specs.Ids.{id_eq}
-use Rattle.dm_message.specs.Plain.{PlainMessage}
 use Rattle.dm_onekernel.specs.declared.label.Label.TheVariants as label
 use Rattle.dm_onekernel.specs.declared.label.Why.{Why}
-use Rattle.dm_rule.specs.declared.line.Line.{Line}
 use Rattle.dm_rule.specs.declared.line.Line.TheVariants as line
 use Rattle.dm_rule.specs.Sets.{at_record}
 use Rattle.dm_rule.specs.View.{View, Told, Known, Unknown, Here, Frozen, Incoming, Forward, Ended, view_after, handled, served_told, kills}
 use Rattle.dm_rule.specs.View as view
-use Rattle.dm_rule.specs.Point.{Point}
-use Rattle.dm_rule.specs.Spots.{Spot, times, ids_at, standing}
-use Rattle.dm_rule.specs.Phases.{is_between, is_away, is_here, is_over, is_unknown, leaves, comes, is_early, is_restart, Phase, Nowhere, Rests, Over, Moves, knows, token_in}
+use Rattle.dm_rule.specs.Spots.{Spot, times, standing}
+use Rattle.dm_rule.specs.Phases.{is_between, is_away, is_here, is_over, leaves, comes, Phase, Nowhere, Rests, Over, Moves, knows, token_in}
 use Rattle.dm_laws.proofs.Equal.{pid_eq-same, id_eq-is}
-use Rattle.dm_rule.proofs.Lines.{not_true, eq_is}
-use Rattle.dm_rule.proofs.Hushed.{hushed}
+use Rattle.dm_rule.proofs.Lines.{not_true}
 use Rattle.dm_rule.proofs.Turns.{ended_off, created_off}
-use Rattle.dm_rule.proofs.Telling.{Sane}
-use Rattle.dm_rule.proofs.PhasesCalm.{Came, Plain}
+use Rattle.dm_rule.proofs.PhasesCalm.{Plain}
 use Rattle.dm_rule.proofs.PhasesLines.{handled_spots}
-use Rattle.dm_rule.proofs.PhasesStand.{InPhases, Learns, learns_phases, Turned}
+use Rattle.dm_rule.proofs.PhasesStand.{InPhases, Learns, learns_phases}
 use Rattle.dm_rule.proofs.PhasesPieces.{record_off}
 use Rattle.dm_rule.proofs.PhasesRests.{rests_here}
 

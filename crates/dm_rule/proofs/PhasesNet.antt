@@ -1,44 +1,33 @@
 -- Heads, deliveries, ticks and the directive to migrate leave all processes in their phases.
 use Rattle.std.proofs.Common.{◌≡◌, ◌⊎◌, ℕ, zero, suc, ◌+◌, ◌≤◌, ◌==◌, ◌&&◌, Bool, true, false, not, filter, List, [], ◌∷◌, ◌++◌, drop, length, refl, ap, ◌∙◌, sym, subst, inl, inr, arith}
-use Rattle.std.specs.Prelude.{⊤, if◌then◌else◌, slice_get}
+use Rattle.std.specs.Prelude.{if◌then◌else◌, slice_get}
 use Rattle.std.specs.declared.option.Option.{Option}
 use Rattle.std.specs.declared.option.Option.TheVariants.{None, Some}
-use Rattle.std.proofs.lemmas.Bool.{cases_Bool, false≢true}
+use Rattle.std.proofs.lemmas.Bool.{cases_Bool}
 use Rattle.std.proofs.lemmas.Bool.Decides.{nat_tests}
 use Rattle.dm_link.specs.declared.Pid.{Pid}
 use Rattle.dm_link.specs.Names.{pid_eq}
 use Rattle.dm_message.specs.declared.MsgId.{MsgId}
-use Rattle.dm_message.specs.Ids.{id_eq}
-use Rattle.dm_onekernel.specs.declared.boot.Boot.{Boot}
 use Rattle.dm_onekernel.specs.Boot.{switchboard, manager}
-use Rattle.dm_onekernel.specs.Kernel.{OneKernel}
 use Rattle.dm_schedule.specs.declared.Step.{Step}
 use Rattle.dm_schedule.specs.declared.Step.TheVariants as step
 use Rattle.dm_rule.specs.declared.line.Line.{Line}
 use Rattle.dm_rule.specs.declared.line.Line.TheVariants as line
 use Rattle.dm_rule.specs.Sets.{at_machine, at_pair}
-use Rattle.dm_rule.specs.View.{View, Pair, Told, view_after, after_head, taken_id, with_pair, oldest}
-use Rattle.dm_rule.specs.View as view
-use Rattle.dm_rule.specs.Addresses.{Addresses, Child, child_number}
-use Rattle.dm_rule.specs.Point.{Point, label_of, kernel_after, moved}
+use Rattle.dm_rule.specs.View.{View, Pair, view_after, after_head, taken_id, with_pair}
+use Rattle.dm_rule.specs.Addresses.{Addresses, child_number}
+use Rattle.dm_rule.specs.Point.{Point, moved}
 use Rattle.dm_rule.specs.Parts.{Part, Says, Routes, Again, Owns, Transmits, Spelled, packet_line, spelled}
 use Rattle.dm_rule.specs.Migrating.{migrates, migrates_child}
-use Rattle.dm_rule.specs.Rule as rule
-use Rattle.dm_rule.specs.Rule.{group_of}
 use Rattle.dm_rule.specs.Spots.{Spot, Queue, Held, Inbox, Untaken, times, untaken, ids_at, standing}
-use Rattle.dm_rule.specs.Phases.{is_between}
 use Rattle.dm_rule.proofs.Standing.{times-append}
 use Rattle.dm_rule.proofs.Once.{one_of}
-use Rattle.dm_rule.proofs.Lines.{parts, eq_is, at_place, past_place, pair_at, pair_keeps}
-use Rattle.dm_rule.proofs.States.{State, says_next, transmits_next, said}
+use Rattle.dm_rule.proofs.Lines.{parts, eq_is, at_place, past_place, pair_keeps}
+use Rattle.dm_rule.proofs.States.{says_next, transmits_next, said}
 use Rattle.dm_rule.proofs.Groups.{IsNetLine, IsNet, early_off, acked_off, turn_off, tick_off, deliver_off, migrate_off}
-use Rattle.dm_rule.proofs.Telling.{Sane}
 use Rattle.dm_rule.proofs.PhasesCalm.{Came, Calm, calm_same, calm_trans, calm_still}
 use Rattle.dm_rule.proofs.PhasesLines.{packet_calm}
 use Rattle.dm_rule.proofs.PhasesQuiet.{AllQuiet, moves_none}
-use Rattle.dm_rule.proofs.PhasesStand.{InPhases, calm_phases}
-use Rattle.dm_rule.proofs.PhasesAnswers.{Whole}
-use Rattle.dm_rule.proofs.PhasesHears.{quiet_row}
 
 pub head_calm : (v : View) (s : Step) → Calm v (after_head v s)
 head_calm v (step.Turn m) = calm_still v (after_head v (step.Turn m)) (λ n q. refl) (λ i. refl) (λ i z. ap (times i) (turn_off v m z))

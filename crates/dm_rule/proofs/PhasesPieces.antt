@@ -1,26 +1,25 @@
 -- The rows of migration that answer with the next message: a request, the pieces, and that all is taken.
-use Rattle.std.proofs.Common.{◌≡◌, ℕ, ◌==◌, ◌&&◌, Bool, true, false, not, List, [], ◌∷◌, refl, ap, ◌∙◌, sym, subst, inl, inr, arith}
+use Rattle.std.proofs.Common.{◌≡◌, ℕ, ◌==◌, ◌&&◌, Bool, true, false, not, List, [], ◌∷◌, refl, ap, ◌∙◌, sym, subst, arith}
 use Rattle.std.specs.Prelude.{if◌then◌else◌}
 use Rattle.std.specs.declared.option.Option.{Option}
 use Rattle.std.specs.declared.option.Option.TheVariants.{None, Some}
-use Rattle.std.proofs.lemmas.Bool.{cases_Bool, false≢true}
+use Rattle.std.proofs.lemmas.Bool.{false≢true}
 use Rattle.std.proofs.lemmas.Bool.Decides.{nat_tests}
 use Rattle.dm_link.specs.declared.Pid.{Pid}
-use Rattle.dm_link.specs.Names.{pid_of, pid_eq}
+use Rattle.dm_link.specs.Names.{pid_eq}
 use Rattle.dm_message.specs.declared.MsgId.{MsgId}
 use Rattle.dm_message.specs.declared.kind.MessageKind.{MessageKind}
 use Rattle.dm_message.specs.declared.kind.MessageKind.TheVariants as kind
-use Rattle.dm_rule.specs.declared.line.Line.{Line}
 use Rattle.dm_rule.specs.declared.line.Line.TheVariants as line
 use Rattle.dm_rule.specs.declared.line.Stage.TheVariants as stage
 use Rattle.dm_rule.specs.Sets.{at_record}
 use Rattle.dm_rule.specs.View.{View, Told, About, NothingElse, Target, Of, Known, Unknown, Here, Frozen, Incoming, Forward, Ended, view_after, handled, handled_first, front_of, after_proto, follows_up, asks_on, is_kernels}
 use Rattle.dm_rule.specs.View as view
 use Rattle.dm_rule.specs.Point.{Point}
-use Rattle.dm_rule.specs.Parts.{Part, Says, Owns, Spelled, spelled}
+use Rattle.dm_rule.specs.Parts.{Says, Spelled, spelled}
 use Rattle.dm_rule.specs.Migrating.{to_kernel, accepts, takes_chunk, takes_block, gives_piece}
 use Rattle.dm_rule.specs.Spots.{Spot, ids_at}
-use Rattle.dm_rule.specs.Phases.{is_between, is_apart, is_restart, is_early, leaves, comes, is_away, Phase, Moves, knows, sender_in, receiver_in, told_between, IsIn}
+use Rattle.dm_rule.specs.Phases.{is_between, is_apart, is_restart, is_early, leaves, comes, is_away, Phase, Moves, knows, sender_in, receiver_in}
 use Rattle.dm_laws.proofs.Equal.{pid_eq-same}
 use Rattle.dm_rule.proofs.MovesLists.{first_off}
 use Rattle.dm_rule.proofs.MovesRows.{goes_first, goes_front, accepted_off, state_off, memory_off, lacks_off, proto_off}

@@ -1,27 +1,25 @@
 -- The next message about a process that moves is put.
-use Rattle.std.proofs.Common.{◌≡◌, ◌⊎◌, ℕ, ◌+◌, ◌≤◌, ◌==◌, ◌&&◌, Bool, true, false, not, List, [], ◌∷◌, ◌++◌, drop, length, refl, ap, ◌∙◌, sym, subst, inl, inr, arith}
-use Rattle.std.specs.Prelude.{◌≢◌, if◌then◌else◌}
+use Rattle.std.proofs.Common.{◌≡◌, ◌⊎◌, ℕ, ◌+◌, ◌≤◌, ◌==◌, Bool, true, false, List, [], ◌∷◌, ◌++◌, drop, refl, ap, ◌∙◌, sym, subst, inl, inr, arith}
+use Rattle.std.specs.Prelude.{if◌then◌else◌}
 use Rattle.std.specs.declared.option.Option.{Option}
 use Rattle.std.specs.declared.option.Option.TheVariants.{None, Some}
 use Rattle.std.proofs.lemmas.Bool.{cases_Bool, false≢true}
-use Rattle.std.proofs.lemmas.Bool.Decides.{nat_tests}
 use Rattle.std.proofs.lemmas.List.{drop-append-le}
 use Rattle.dm_link.specs.declared.Pid.{Pid}
 use Rattle.dm_link.specs.Names.{pid_of, pid_eq}
 use Rattle.dm_message.specs.declared.MsgId.{MsgId}
 use Rattle.dm_message.specs.declared.kind.MessageKind.{MessageKind}
 use Rattle.dm_message.specs.Ids.{id_eq}
-use Rattle.dm_rule.specs.Sets.{at_machine, at_pair}
+use Rattle.dm_rule.specs.Sets.{at_machine}
 use Rattle.dm_rule.specs.View.{View, Pair, Told, About, Of, Known, own_id, after_put, routed_on}
 use Rattle.dm_rule.specs.View as view
-use Rattle.dm_rule.specs.Spots.{Spot, Queue, Held, Inbox, Untaken, times, untaken, standing, StandsOnce}
-use Rattle.dm_rule.specs.Phases.{is_between, is_apart, Phase, Nowhere, Rests, Over, Moves, knows, token_in, sender_in, receiver_in, told_between, IsToken, HasToken, Alone, IsIn}
-use Rattle.dm_laws.proofs.Equal.{id_eq-is, id_eq-same, pid_eq-is, pid_eq-same}
+use Rattle.dm_rule.specs.Spots.{Spot, Inbox, Untaken, times, untaken, standing, StandsOnce}
+use Rattle.dm_rule.specs.Phases.{Phase, Nowhere, Rests, Over, Moves, knows, sender_in, receiver_in, told_between, IsToken, HasToken, IsIn}
+use Rattle.dm_laws.proofs.Equal.{id_eq-is, id_eq-same, pid_eq-same}
 use Rattle.dm_rule.proofs.Standing.{spot_cases, once_at, times-append}
 use Rattle.dm_rule.proofs.Once.{one_of}
-use Rattle.dm_rule.proofs.Lines.{not_true, at_machine_at, pair_at, eq_is}
+use Rattle.dm_rule.proofs.Lines.{not_true, at_machine_at, pair_at}
 use Rattle.dm_rule.proofs.States.{PairsFit, put_told_off}
-use Rattle.dm_rule.proofs.PhasesCalm.{Came, Calm, between_of}
 use Rattle.dm_rule.proofs.PhasesLines.{put_spots, put_at}
 use Rattle.dm_rule.proofs.PhasesStand.{InPhases, phase_set}
 

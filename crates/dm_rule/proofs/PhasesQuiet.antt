@@ -1,9 +1,9 @@
 -- Parts that leave the migrations of all processes as they are.
-use Rattle.std.proofs.Common.{◌≡◌, ◌⊎◌, ℕ, ◌+◌, ◌≤◌, ◌==◌, ◌&&◌, Bool, true, false, not, filter, List, [], ◌∷◌, ◌++◌, length, refl, ap, ◌∙◌, sym, subst, inl, inr, arith}
-use Rattle.std.specs.Prelude.{⊤, if◌then◌else◌, slice_get}
+use Rattle.std.proofs.Common.{◌≡◌, ℕ, ◌==◌, Bool, true, false, List, [], ◌∷◌, length, refl, ap, ◌∙◌, sym, subst, arith}
+use Rattle.std.specs.Prelude.{⊤, if◌then◌else◌}
 use Rattle.std.specs.declared.option.Option.{Option}
 use Rattle.std.specs.declared.option.Option.TheVariants.{None, Some}
-use Rattle.std.proofs.lemmas.Bool.{cases_Bool, false≢true}
+use Rattle.std.proofs.lemmas.Bool.{false≢true}
 use Rattle.dm_link.specs.declared.Pid.{Pid}
 use Rattle.dm_message.specs.declared.MsgId.{MsgId}
 use Rattle.dm_message.specs.declared.kind.MessageKind.{MessageKind}
@@ -38,7 +38,7 @@ use Rattle.dm_rule.proofs.Said.{fits_as}
 use Rattle.dm_rule.proofs.Turns.{served_keeps}
 use Rattle.dm_rule.proofs.MovesSent.{fits_put, fits_packet}
 use Rattle.dm_rule.proofs.Telling.{Sane, plain_not, Sayable, part_sane}
-use Rattle.dm_rule.proofs.PhasesCalm.{Calm, Others, Plain, calm_same, calm_trans, calm_others, calm_still}
+use Rattle.dm_rule.proofs.PhasesCalm.{Calm, Plain, calm_same, calm_trans, calm_others, calm_still}
 use Rattle.dm_rule.proofs.PhasesLines.{handled_spots, queued_spots, held_spots, dropped_spots, forwarded_spots, queued_known, held_known, dropped_known, forwarded_known, record_times, without_times, put_calm, packet_calm}
 
 -- a message that was told of, and is none of the protocol

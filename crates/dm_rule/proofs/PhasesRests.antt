@@ -1,12 +1,12 @@
 -- The rows of migration that end it, and the one that begins it.
-use Rattle.std.proofs.Common.{◌≡◌, ◌⊎◌, ℕ, zero, suc, ◌+◌, ◌≤◌, ◌==◌, ◌&&◌, Bool, true, false, not, List, [], ◌∷◌, ◌++◌, length, refl, ap, ◌∙◌, sym, subst, inl, inr, arith}
+use Rattle.std.proofs.Common.{◌≡◌, ◌⊎◌, ℕ, zero, suc, ◌+◌, ◌≤◌, ◌==◌, ◌&&◌, Bool, true, false, not, List, [], ◌∷◌, ◌++◌, refl, ap, ◌∙◌, sym, subst, inl, inr, arith}
 use Rattle.std.specs.Prelude.{if◌then◌else◌}
 use Rattle.std.specs.declared.option.Option.{Option}
 use Rattle.std.specs.declared.option.Option.TheVariants.{None, Some}
 use Rattle.std.proofs.lemmas.Bool.{cases_Bool, false≢true}
 use Rattle.std.proofs.lemmas.Bool.Decides.{nat_tests}
 use Rattle.dm_link.specs.declared.Pid.{Pid}
-use Rattle.dm_link.specs.Names.{pid_of, pid_eq}
+use Rattle.dm_link.specs.Names.{pid_eq}
 use Rattle.dm_message.specs.declared.MsgId.{MsgId}
 use Rattle.dm_message.specs.declared.kind.MessageKind.{MessageKind}
 use Rattle.dm_message.specs.declared.kind.MessageKind.TheVariants as kind
@@ -15,13 +15,12 @@ use Rattle.dm_rule.specs.declared.line.Line.{Line}
 use Rattle.dm_rule.specs.declared.line.Line.TheVariants as line
 use Rattle.dm_rule.specs.declared.line.Stage.TheVariants as stage
 use Rattle.dm_rule.specs.Sets.{at_machine, at_record}
-use Rattle.dm_rule.specs.View.{View, Told, About, Of, Known, Unknown, Here, Frozen, Incoming, Forward, Ended, view_after, handled, handled_first, released, is_kernels, target_of, front_told}
-use Rattle.dm_rule.specs.View as view
+use Rattle.dm_rule.specs.View.{View, Told, Of, Known, Unknown, Here, Frozen, Incoming, Forward, Ended, view_after, handled_first, released, is_kernels, target_of, front_told}
 use Rattle.dm_rule.specs.Point.{Point, label_of, moved}
-use Rattle.dm_rule.specs.Parts.{Part, Says, Owns, Spelled, spelled}
-use Rattle.dm_rule.specs.Migrating.{to_kernel, moves_to}
+use Rattle.dm_rule.specs.Parts.{Says, Spelled, spelled}
+use Rattle.dm_rule.specs.Migrating.{to_kernel}
 use Rattle.dm_rule.specs.Spots.{Spot, Queue, Held, Inbox, Untaken, times, ids_at, standing}
-use Rattle.dm_rule.specs.Phases.{is_between, is_apart, is_restart, is_early, leaves, comes, is_away, is_here, is_over, Phase, Nowhere, Rests, Over, Moves, knows, token_in, sender_in, receiver_in, IsIn}
+use Rattle.dm_rule.specs.Phases.{is_between, is_restart, is_early, leaves, comes, is_away, is_here, is_over, Phase, Nowhere, Rests, Over, Moves, knows, token_in, receiver_in}
 use Rattle.dm_laws.proofs.Equal.{id_eq-is, pid_eq-is, pid_eq-same}
 use Rattle.dm_rule.proofs.Standing.{times-append}
 use Rattle.dm_rule.proofs.Lines.{Bag, hidden, Stands, Stands-stays, Stands-handled, parts, eq_is}
@@ -33,11 +32,11 @@ use Rattle.dm_rule.proofs.Said.{fits_as}
 use Rattle.dm_rule.proofs.MovesLists.{Stands-released, first_off}
 use Rattle.dm_rule.proofs.MovesSent.{line_next}
 use Rattle.dm_rule.proofs.MovesRows.{goes_first, comes_back, home_again, home_off, frozen_off, restarted_off}
-use Rattle.dm_rule.proofs.PhasesCalm.{Came, Calm, machine_of}
+use Rattle.dm_rule.proofs.PhasesCalm.{Came}
 use Rattle.dm_rule.proofs.PhasesLines.{handled_spots}
-use Rattle.dm_rule.proofs.PhasesStand.{InPhases, Learns, learns_phases}
-use Rattle.dm_rule.proofs.PhasesAnswers.{Whole, whole_ends, Due, owns_whole, nowhere_of, first_learns, front_gone, token_one}
-use Rattle.dm_rule.proofs.PhasesPieces.{record_off, record_other, record_here, due_known, due_apart}
+use Rattle.dm_rule.proofs.PhasesStand.{Learns, learns_phases}
+use Rattle.dm_rule.proofs.PhasesAnswers.{Whole, whole_ends, Due, owns_whole, nowhere_of, first_learns, token_one}
+use Rattle.dm_rule.proofs.PhasesPieces.{record_off, due_known}
 
 -- held messages come to the inbox
 zero_cases : (n : ℕ) → (n ≡ 0) ⊎ (1 ≤ n)
@@ -202,7 +201,7 @@ home_row pt l i is t at w h u none quiet calm front told mine off learned known 
     let others : (m : ℕ) (q : Pid) → pid_eq u.p q ≡ false → (view_after v l).known m q ≡ v.known m q = λ m q apart. ap (λ (f : ℕ → Pid → Known). f m q) learned ∙ record_off v.known v.acting u.p Here m q apart in
     let learns = back_learns pt l i is t u.p h.state quiet front told (ap (λ (x : Told). x.about) u.told) off others in
     let turned = learns_phases v next.view u.p (Rests at) h.phases learns refl refl (λ m. ap (λ (f : ℕ → Pid → Known). knows (Rests at) m (f m u.p)) learned ∙ known m)
-        (λ j x z. subst (λ (y : MsgId). standing next.view y z ≡ 0) (token_one (h.phases.of u.p) u.k u.s u.d i j u.phase x) (back_gone pt l i is u.p h.state quiet front off z)) in
+    (λ j x z. subst (λ (y : MsgId). standing next.view y z ≡ 0) (token_one (h.phases.of u.p) u.k u.s u.d i j u.phase x) (back_gone pt l i is u.p h.state quiet front off z)) in
     let whole : Whole next = record { state = comes_back pt l i is u.p quiet h.state front mine off; fits = fits_as v next.view (pair_same v l calm) h.fits; phases = turned.phases } in
     subst Whole n.point (whole_ends next n.rest whole n.more)
 
@@ -267,8 +266,8 @@ frozen_row pt i is t p to w h plain front told mine here target apart e =
     let learns = first_learns pt l i is t p h.state refl front told (λ b. absurd (false≢true (sym plain ∙ b))) (λ z. frozen_off v p z) (λ m q off. record_off v.known a p (Frozen (target_of (front_told v (v.inbox a)))) m q off) in
     let rested : (m : ℕ) → knows (Rests a) m (v.known m p) ≡ true = λ m. subst (λ (x : Phase). knows x m (v.known m p) ≡ true) phase ((h.phases.each p).known m) in
     let turned = learns_phases v next.view p (Moves kind.Ask a to None) h.phases learns refl (ap not apart)
-        (λ m. ap (knows (Moves kind.Ask a to None) m) (at_acting v a m p (Frozen (target_of (front_told v (v.inbox a)))) refl) ∙ ap (λ (x : ℕ). knows (Moves kind.Ask a to None) m (if a == m then Frozen x else v.known m p)) aim ∙ frozen_if a to m (a == m) (v.known m p) refl apart (rested m))
-        (λ j x z. absurd (let f : None ≡ Some j = sym (ap token_in phase) ∙ x in cc)) in
+    (λ m. ap (knows (Moves kind.Ask a to None) m) (at_acting v a m p (Frozen (target_of (front_told v (v.inbox a)))) refl) ∙ ap (λ (x : ℕ). knows (Moves kind.Ask a to None) m (if a == m then Frozen x else v.known m p)) aim ∙ frozen_if a to m (a == m) (v.known m p) refl apart (rested m))
+    (λ j x z. absurd (let f : None ≡ Some j = sym (ap token_in phase) ∙ x in cc)) in
     let whole : Whole next = record { state = goes_first pt l i is refl h.state front mine (λ z. frozen_off v p z); fits = fits_as v next.view (pair_same v l refl) h.fits; phases = turned.phases } in
     let asked = line.Migration stage.Asked p in
     let k = line_next next asked (to_kernel kind.Ask to ∷ []) n.rest refl n.more in

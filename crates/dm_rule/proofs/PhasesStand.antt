@@ -1,21 +1,19 @@
 -- Each process is in a phase; what handles the one message about a process, and what puts the next.
-use Rattle.std.proofs.Common.{◌≡◌, ◌⊎◌, ℕ, ◌+◌, ◌≤◌, ◌==◌, ◌&&◌, Bool, true, false, not, refl, ap, ◌∙◌, sym, subst, inl, inr, arith}
-use Rattle.std.specs.Prelude.{◌≢◌, if◌then◌else◌}
+use Rattle.std.proofs.Common.{◌≡◌, ◌⊎◌, ℕ, ◌≤◌, Bool, true, false, refl, ap, ◌∙◌, sym, subst, inl, inr, arith}
+use Rattle.std.specs.Prelude.{if◌then◌else◌}
 use Rattle.std.specs.declared.option.Option.{Option}
 use Rattle.std.specs.declared.option.Option.TheVariants.{None, Some}
 use Rattle.std.proofs.lemmas.Bool.{cases_Bool, false≢true}
 use Rattle.dm_link.specs.declared.Pid.{Pid}
-use Rattle.dm_link.specs.Names.{pid_of, pid_eq}
+use Rattle.dm_link.specs.Names.{pid_eq}
 use Rattle.dm_message.specs.declared.MsgId.{MsgId}
 use Rattle.dm_message.specs.declared.kind.MessageKind.{MessageKind}
-use Rattle.dm_message.specs.Ids.{id_eq}
 use Rattle.dm_rule.specs.Sets.{at_pid}
-use Rattle.dm_rule.specs.View.{View, Told, About, NothingElse, Target, Of, Place, Known}
+use Rattle.dm_rule.specs.View.{View, Told, Of}
 use Rattle.dm_rule.specs.Spots.{Spot, Queue, Held, Inbox, Untaken, standing}
 use Rattle.dm_rule.specs.Phases.{is_between, is_apart, Phase, Nowhere, Rests, Over, Moves, knows, token_in, sender_in, receiver_in, told_between, IsToken, HasToken, Alone, IsIn}
-use Rattle.dm_laws.proofs.Equal.{id_eq-is, id_eq-same, pid_eq-is, pid_eq-same}
-use Rattle.dm_rule.proofs.Lines.{not_true}
-use Rattle.dm_rule.proofs.PhasesCalm.{Came, Calm, calm_in, machine_of, between_of, stands_where}
+use Rattle.dm_laws.proofs.Equal.{pid_eq-is, pid_eq-same}
+use Rattle.dm_rule.proofs.PhasesCalm.{Came, Calm, calm_in, between_of, stands_where}
 
 pub record InPhases (v : View) : Type 0 where
   pub of : Pid → Phase
@@ -158,7 +156,7 @@ pub learns_phases : (v w : View) (p : Pid) (next : Phase) (h : InPhases v) → L
 unfolding phase_set
 learns_phases v w p next h c none apart known gone = record {
   phases = phase_set v w p next h (λ q off. learns_in v w p q (h.of q) off c (h.each q))
-    (record { known = known; token = rests_token w p next none; alone = subst (λ (o : Option MsgId). Alone w p o) (sym none) (none_left v w p (token_in (h.of p)) c (h.each p).alone gone); apart = apart })
-    (λ i t told b. h.about i t (c.fresh i t told b) b);
+      (record { known = known; token = rests_token w p next none; alone = subst (λ (o : Option MsgId). Alone w p o) (sym none) (none_left v w p (token_in (h.of p)) c (h.each p).alone gone); apart = apart })
+      (λ i t told b. h.about i t (c.fresh i t told b) b);
   now = ap (λ (x : Bool). if x then next else h.of p) (pid_eq-same p);
 }

@@ -1,12 +1,11 @@
 -- A turn that handles a message of the bag, or serves a process: each process stays in a phase.
-use Rattle.std.proofs.Common.{◌≡◌, ℕ, ◌+◌, ◌==◌, Bool, true, false, List, [], ◌∷◌, ◌++◌, refl, ap, ◌∙◌, sym, subst, length}
-use Rattle.std.specs.Prelude.{⊤, if◌then◌else◌, slice_get}
+use Rattle.std.proofs.Common.{◌≡◌, ℕ, ◌+◌, ◌==◌, Bool, true, false, List, [], ◌∷◌, refl, ap, ◌∙◌, subst, length}
+use Rattle.std.specs.Prelude.{if◌then◌else◌, slice_get}
 use Rattle.std.specs.declared.option.Option.{Option}
 use Rattle.std.specs.declared.option.Option.TheVariants.{None, Some}
 use Rattle.dm_link.specs.declared.Pid.{Pid}
 use Rattle.dm_link.specs.Names.{pid_of, pid_eq}
 use Rattle.dm_message.specs.declared.MsgId.{MsgId}
-use Rattle.dm_message.specs.declared.kind.MessageKind.{MessageKind}
 use Rattle.dm_message.specs.declared.kind.MessageKind.TheVariants as kind
 use Rattle.dm_message.specs.Kinds.{plain_kind}
 use Rattle.dm_message.specs.Plain as what
@@ -14,7 +13,6 @@ use Rattle.dm_message.specs.Plain.{PlainMessage, PlainWhat}
 use Rattle.dm_regs.specs.Instructions.{instruction}
 use Rattle.dm_onekernel.specs.declared.boot.BootImage.{BootImage}
 use Rattle.dm_onekernel.specs.declared.boot.Boot.{Boot}
-use Rattle.dm_onekernel.specs.declared.label.Label.{Label}
 use Rattle.dm_onekernel.specs.declared.label.Label.TheVariants as label
 use Rattle.dm_onekernel.specs.declared.label.Why.{Why}
 use Rattle.dm_onekernel.specs.declared.label.Why.TheVariants as why
@@ -32,20 +30,19 @@ use Rattle.dm_onekernel.specs.Step as kernel
 use Rattle.dm_onekernel.specs.Step.{machine_of, with_machine}
 use Rattle.dm_rule.specs.declared.line.Line.{Line}
 use Rattle.dm_rule.specs.declared.line.Line.TheVariants as line
-use Rattle.dm_rule.specs.View.{View, Told, Known, Unknown, Here, Frozen, Incoming, Forward, Ended, view_after, receiver_of}
-use Rattle.dm_rule.specs.Point.{Point, label_of, kernel_after, moved, after_line}
+use Rattle.dm_rule.specs.View.{View, Told, Known, Unknown, Here, Frozen, Incoming, Forward, Ended, view_after}
+use Rattle.dm_rule.specs.Point.{Point, label_of, kernel_after, moved}
 use Rattle.dm_rule.specs.Parts.{Part, Says, Routes, Spelled, spelled}
 use Rattle.dm_rule.specs.Migrating.{forwards_on}
 use Rattle.dm_rule.specs.Rule as rule
-use Rattle.dm_rule.specs.Phases.{is_between}
 use Rattle.dm_laws.proofs.Steps.{bind-is}
 use Rattle.dm_rule.proofs.Hushed.{is_put}
 use Rattle.dm_rule.proofs.PairsLines.{touches, pair_same}
-use Rattle.dm_rule.proofs.States.{State, PairsFit, says_next}
+use Rattle.dm_rule.proofs.States.{PairsFit, says_next}
 use Rattle.dm_rule.proofs.Said.{fits_as}
 use Rattle.dm_rule.proofs.Telling.{Sane, sane_line}
-use Rattle.dm_rule.proofs.PhasesCalm.{Calm, Plain, calm_same}
-use Rattle.dm_rule.proofs.PhasesQuiet.{Tame, Mild, is_kill, QuietLine, Quiet, AllQuiet, Settled, parts_settle, plain_in_bag, line_calm}
+use Rattle.dm_rule.proofs.PhasesCalm.{calm_same}
+use Rattle.dm_rule.proofs.PhasesQuiet.{Tame, Mild, is_kill, AllQuiet, parts_settle, plain_in_bag, line_calm}
 use Rattle.dm_rule.proofs.PhasesStand.{InPhases, calm_phases}
 use Rattle.dm_rule.proofs.PhasesHears.{forwards_quiet}
 use Rattle.dm_rule.proofs.PhasesLives.{end_line_phases, created_phases, killed_phases}
