@@ -53,3 +53,5 @@ pub mod PhasesLives
 pub mod PhasesTurns
 pub mod PhasesGroups
 pub mod PhasesStart
+pub mod Rings
+pub mod Lives
