@@ -55,3 +55,4 @@ pub mod PhasesGroups
 pub mod PhasesStart
 pub mod Rings
 pub mod Lives
+pub mod RootedLines
