@@ -56,3 +56,4 @@ pub mod PhasesStart
 pub mod Rings
 pub mod Lives
 pub mod RootedLines
+pub mod RootedRows
