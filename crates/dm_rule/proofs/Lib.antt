@@ -57,3 +57,6 @@ pub mod Rings
 pub mod Lives
 pub mod RootedLines
 pub mod RootedRows
+pub mod RootedTurns
+pub mod RootedGroups
+pub mod PhasesAlways

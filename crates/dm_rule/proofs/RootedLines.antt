@@ -1,5 +1,5 @@
 -- Rings list what is here, and nothing is known of what was never made: a line after the other.
-use Rattle.std.proofs.Common.{◌≡◌, ℕ, ◌+◌, ◌≤◌, ◌==◌, Bool, not, filter, List, [], ◌∷◌, ◌++◌, refl, ap, ◌∙◌, sym, subst}
+use Rattle.std.proofs.Common.{◌≡◌, ℕ, ◌+◌, ◌≤◌, ◌==◌, Bool, not, filter, [], ◌∷◌, ◌++◌, refl, ap, ◌∙◌, sym, subst}
 use Rattle.std.specs.Prelude.{⊤, if◌then◌else◌, slice_get}
 use Rattle.std.specs.declared.option.Option.{Option}
 use Rattle.std.specs.declared.option.Option.TheVariants.{None, Some}
@@ -9,7 +9,6 @@ use Rattle.dm_message.specs.declared.kind.MessageKind.{MessageKind}
 use Rattle.dm_message.specs.declared.kind.MessageKind.TheVariants as kind
 use Rattle.dm_message.specs.Plain as what
 use Rattle.dm_message.specs.Plain.{PlainMessage, PlainWhat}
-use Rattle.dm_onekernel.specs.declared.boot.BootImage.{BootImage}
 use Rattle.dm_onekernel.specs.declared.label.Label.{Label}
 use Rattle.dm_onekernel.specs.declared.label.Label.TheVariants as label
 use Rattle.dm_onekernel.specs.declared.label.Why.{Why}
@@ -32,7 +31,7 @@ use Rattle.dm_laws.proofs.Equal.{pid_eq-same}
 use Rattle.dm_laws.proofs.Steps.{bind-is, when-is, nexts}
 use Rattle.dm_laws.proofs.Runs.{after_step}
 use Rattle.dm_rule.proofs.Telling.{Sane}
-use Rattle.dm_rule.proofs.Rings.{AllHere, Rings, all_moved, learnt, learnt_without, learnt_last, rings_same, rings_ring, rings_learn, rings_known}
+use Rattle.dm_rule.proofs.Rings.{Rings, all_moved, learnt_without, learnt_last, rings_same, rings_ring, rings_learn, rings_known}
 use Rattle.dm_rule.proofs.Lives.{Lives, Lived, Kept, lived_alive, grown_none, lives_same, lives_learn}
 
 pub record Roots (s : OneKernel) (v : View) : Type 0 where

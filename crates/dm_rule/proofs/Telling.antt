@@ -371,7 +371,7 @@ net_sayable (Again i b ∷ ps) h = absurd h.0
 net_sayable (Owns k q b ∷ ps) h = absurd h.0
 net_sayable (Transmits a b l ∷ ps) h = (tt, net_sayable ps h.1)
 
-outcome_sayable : (b : Boot) (pt : Point) (d : Step) (ps : List Part) → outcome b pt d ≡ Some ps → AllSayable ps
+pub outcome_sayable : (b : Boot) (pt : Point) (d : Step) (ps : List Part) → outcome b pt d ≡ Some ps → AllSayable ps
 outcome_sayable b pt (step.Turn m) ps is = fit_sayable pt.view.pair ps (turns_fit pt.view.pair b pt m (pt.view.inbox m) ps is)
 outcome_sayable b pt (step.Tick m) ps is =
     let qs = Says (line.Resent m (rule.outstanding pt.view m pt.kernel.machines)) ∷ rule.resends pt.view m pt.kernel.machines in

@@ -1,6 +1,7 @@
 -- What holds wherever the rule leads.
 use Rattle.std.specs.Prelude.{◌≡◌, ◌≢◌, ⊤, ℕ, ◌<◌, List, [], ◌∷◌}
 use Rattle.std.specs.declared.option.Option.TheVariants.{Some}
+use Rattle.dm_link.specs.declared.Pid.{Pid}
 use Rattle.dm_message.specs.declared.MsgId.{MsgId}
 use Rattle.dm_onekernel.specs.declared.boot.Boot.{Boot}
 use Rattle.dm_onekernel.specs.Boot.{IsValid}
@@ -13,6 +14,7 @@ use Rattle.dm_rule.specs.Spots.{StandsRight, standing}
 use Rattle.dm_rule.specs.Pairs.{PairStands, HomeStands}
 use Rattle.dm_rule.specs.Homes.{Homes}
 use Rattle.dm_rule.specs.Tells.{TellsRight}
+use Rattle.dm_rule.specs.Phases.{Phase, IsIn}
 
 -- a directive for so many machines
 abbrev pub IsStep : ℕ → Step → Type 0
@@ -55,3 +57,8 @@ LeadHomeAlways = (b : Boot) (es : List Step) (pt : Point) → IsValid b → AreS
 -- wherever the rule leads, the first put of each message told what it is
 abbrev pub TellsRightAlways : Type 0
 TellsRightAlways = (b : Boot) (es : List Step) (pt : Point) → IsValid b → Leads b (first_point b) es pt → TellsRight pt
+
+-- wherever the rule leads, each process has a phase: what every machine knows of it, and which one message of its migration is
+-- under way and where
+abbrev pub PhasesAlways : Type 0
+PhasesAlways = (b : Boot) (es : List Step) (pt : Point) (p : Pid) → IsValid b → Leads b (first_point b) es pt → (phase : Phase) × IsIn pt.view p phase

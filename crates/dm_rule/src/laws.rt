@@ -1,5 +1,5 @@
 //! What holds wherever the rule leads, whoever ran by it.
-ghost use Rattle.dm_rule.specs.Laws.{StandsOnceAlways, PairsStandAlways, LeadHomeAlways, TellsRightAlways};
+ghost use Rattle.dm_rule.specs.Laws.{StandsOnceAlways, PairsStandAlways, LeadHomeAlways, TellsRightAlways, PhasesAlways};
 
 /// Wherever the rule leads from a boot file, each message that the kernel without machines holds stands exactly once
 /// among the queues, held lists, inboxes and streams of the printed lines, a kernel's own message at most once, and no other
@@ -24,4 +24,11 @@ pub fn lead_home_always()
 /// was put, its kind and its receiver; and what kernels tell each other of migrations is named as their own.
 pub fn tells_right_always()
     ensures { TellsRightAlways }
+{}
+
+/// Wherever the rule leads from a boot file, migrations included, each process has a phase: it was never made, it rests on one
+/// machine, it has ended on one, or it moves from one to another. The phase says what every machine knows of the process, and
+/// which one message of its migration is under way, from whom, and where it stands; no other message of it stands anywhere.
+pub fn phases_always()
+    ensures { PhasesAlways }
 {}
