@@ -18,7 +18,9 @@ use Rattle.dm_onekernel.specs.Start.{begun, first_life, life_at}
 use Rattle.dm_schedule.specs.declared.Step.{Step}
 use Rattle.dm_rule.specs.View.{Known, Unknown, Here, known_at, ring_at}
 use Rattle.dm_rule.specs.Point.{Point, first_point}
+use Rattle.dm_rule.specs.Phases.{is_due}
 use Rattle.dm_rule.specs.Laws.{Leads, PhasesAlways}
+use Rattle.dm_rule.proofs.Lines.{not_true}
 use Rattle.dm_rule.proofs.Pairs.{Pairs, Pairs-start, Pairs-group}
 use Rattle.dm_rule.proofs.States.{State}
 use Rattle.dm_rule.proofs.Groups.{fits, State-start, State-group}
@@ -106,4 +108,4 @@ phased_on b (d ∷ es) pt end (w, fit, is, rest) h =
 
 -- wherever the rule leads
 pub phases_always : PhasesAlways
-phases_always b es pt p valid leads = let h = phased_on b es (first_point b) pt leads (phased_start b valid) in (h.phases.of p, h.phases.each p)
+phases_always b es pt p valid leads = let h = phased_on b es (first_point b) pt leads (phased_start b valid) in (h.phases.of p, h.phases.each p, not_true (is_due (h.phases.of p)) (λ e. let f : None ≡ Some p = h.phases.put p e in cc))

@@ -30,14 +30,17 @@ use Rattle.dm_rule.proofs.MovesLists.{first_off}
 use Rattle.dm_rule.proofs.MovesStates.{by_own_put}
 use Rattle.dm_rule.proofs.MovesSent.{line_next, fits_put, fits_packet}
 use Rattle.dm_rule.proofs.PhasesLines.{handled_spots, packet_calm}
-use Rattle.dm_rule.proofs.PhasesStand.{InPhases, calm_phases, token_is, token_at, Learns, learns_phases}
+use Rattle.dm_rule.proofs.PhasesStand.{PhasesBut, InPhases, none_only, calm_phases, token_is, token_at, Learns, learns_phases}
 use Rattle.dm_rule.proofs.PhasesPut.{own_put_phases, put_there, put_spot}
 
 -- what stands between the lines of a group
-pub record Whole (pt : Point) : Type 0 where
+pub record WholeBut (o : Option Pid) (pt : Point) : Type 0 where
   pub state : State None pt
   pub fits : PairsFit pt.view
-  pub phases : InPhases pt.view
+  pub phases : PhasesBut o pt.view
+
+abbrev pub Whole : Point → Type 0
+Whole pt = WholeBut None pt
 
 pub whole_packet : (q : Point) (a b k : ℕ) (l : Load) → Whole q → Whole (moved q (line.Packet a b k l) q.kernel)
 whole_packet q a b k l h = record { state = by_packet None q a b k l h.state; fits = fits_packet q.view a b k l h.fits; phases = calm_phases q.view (view_after q.view (line.Packet a b k l)) (packet_calm q.view a b k l) h.phases }
@@ -46,7 +49,7 @@ pub whole_ends : (pt : Point) (w : Spelled) → Whole pt → spelled pt [] ≡ S
 whole_ends pt w h e = subst Whole (said pt w e) h
 
 -- the next message is put at the group's end
-pub owns_whole : (pt : Point) (p : Pid) (k : MessageKind) (s d b : ℕ) (w : Spelled) (h : Whole pt) → h.phases.of p ≡ Moves k s d None → pt.view.topic ≡ Of p → pt.view.acting ≡ sender_in k s d → b ≡ receiver_in k s d
+pub owns_whole : (pt : Point) (p : Pid) (k : MessageKind) (s d b : ℕ) (w : Spelled) (h : WholeBut (Some p) pt) → h.phases.of p ≡ Moves k s d None → pt.view.topic ≡ Of p → pt.view.acting ≡ sender_in k s d → b ≡ receiver_in k s d
     → spelled pt (Owns k (pid_of b 0) b ∷ []) ≡ Some w → Whole w.point
 owns_whole pt p k s d b w h phase topic acting to e =
     let v = pt.view in
@@ -160,7 +163,7 @@ answer_row pt l i is t k b w h u none quiet calm front told there off others kno
     let next = moved pt l pt.kernel in
     let learns = first_learns pt l i is t u.p h.state quiet front told (λ x. ap (λ (y : Told). y.about) u.told) off others in
     let apart : is_apart (Moves k u.s u.d None) ≡ true = still_apart v h.phases u.p u.k k u.s u.d i u.phase between in
-    let turned = learns_phases v next.view u.p (Moves k u.s u.d None) h.phases learns refl apart known
+    let turned = learns_phases v next.view u.p (Moves k u.s u.d None) h.phases (none_only u.p) learns refl apart known
     (λ j x z. subst (λ (y : MsgId). standing next.view y z ≡ 0) (token_one (h.phases.of u.p) u.k u.s u.d i j u.phase x) (front_gone pt l i is h.state quiet front off z)) in
-    let whole : Whole next = record { state = there; fits = fits_as v next.view (pair_same v l calm) h.fits; phases = turned.phases } in
+    let whole : WholeBut (Some u.p) next = record { state = there; fits = fits_as v next.view (pair_same v l calm) h.fits; phases = turned.phases } in
     subst Whole n.point (owns_whole next u.p k u.s u.d b n.rest whole turned.now topic (acting ∙ u.acting ∙ turn) to n.more)

@@ -39,14 +39,14 @@ use Rattle.dm_rule.proofs.MovesRows.{left_off}
 use Rattle.dm_rule.proofs.PhasesCalm.{Calm}
 use Rattle.dm_rule.proofs.PhasesLines.{handled_spots, put_calm, packet_calm}
 use Rattle.dm_rule.proofs.PhasesQuiet.{Tame}
-use Rattle.dm_rule.proofs.PhasesStand.{InPhases, calm_phases, queued_plain, held_plain, Learns, learns_phases}
-use Rattle.dm_rule.proofs.PhasesAnswers.{Whole, Due, owns_whole, nowhere_of, token_one}
+use Rattle.dm_rule.proofs.PhasesStand.{PhasesBut, none_only, some_only, InPhases, calm_phases, queued_plain, held_plain, Learns, learns_phases}
+use Rattle.dm_rule.proofs.PhasesAnswers.{WholeBut, Whole, Due, owns_whole, nowhere_of, token_one}
 use Rattle.dm_rule.proofs.PhasesPieces.{record_off, same_row, due_apart, to_sender}
 
 -- where messages are on the way, in the phase of a process
 pub record WayIn (p : Pid) (ph : Phase) (a : ℕ) (gone : List MsgId) (pt : Point) : Type 0 where
   pub way : Way gone pt
-  pub phases : InPhases pt.view
+  pub phases : PhasesBut (Some p) pt.view
   pub now : phases.of p ≡ ph
   pub acting : pt.view.acting ≡ a
   pub tame : (i : MsgId) → 1 ≤ times i gone → Tame pt.view i
@@ -232,10 +232,10 @@ left_row pt p s d b w h apart to e =
     let n = line_next pt l (to_kernel kind.Restart b ∷ []) w refl e in
     let steady = steadied pt h.way in
     let was : (m : ℕ) → knows (Moves kind.AllTaken s d None) m (v.known m p) ≡ true = λ m. subst (λ (x : Phase). knows x m (v.known m p) ≡ true) h.now ((h.phases.each p).known m) in
-    let turned = learns_phases v next.view p (Moves kind.Restart s d None) h.phases (left_calm v p) refl apart
+    let turned = learns_phases v next.view p (Moves kind.Restart s d None) h.phases (some_only p) (left_calm v p) refl apart
     (λ m. ap (knows (Moves kind.Restart s d None) m) (left_at v s m p (v.moves p + 1) h.acting) ∙ left_known s d m (v.moves p + 1) (s == m) (v.known m p) refl (was m))
     (λ j x z. absurd (let f : None ≡ Some j = sym (ap token_in h.now) ∙ x in cc)) in
-    let whole : Whole next = record {
+    let whole : WholeBut (Some p) next = record {
       state = by_line None pt l refl steady.state (Stands-stays (letters steady.state.own pt.kernel.bag) v next.view (λ z. left_off v p z) (λ j. refl) steady.state.stands) (λ j. refl);
       fits = fits_as v next.view (pair_same v l refl) h.way.fits;
       phases = turned.phases;
@@ -260,7 +260,7 @@ leaves_row pt i is t ids (Frozen to) parts w h u e front told mine same f n =
     let at : v.acting ≡ u.s = u.acting ∙ ap (λ (k : MessageKind). receiver_in k u.s u.d) e in
     let from : i.from.home ≡ u.d = to_sender pt i t h.phases u ∙ ap (λ (k : MessageKind). sender_in k u.s u.d) e in
     let apart : (is_between kind.AllTaken && not (u.s == u.d)) ≡ true = ap (λ (k : MessageKind). is_between k && not (u.s == u.d)) (sym e) ∙ due_apart pt i t h.phases u in
-    let turned = learns_phases v next.view u.p ph h.phases (sent_learns pt (length ids) i is t h u front told) refl apart
+    let turned = learns_phases v next.view u.p ph h.phases (none_only u.p) (sent_learns pt (length ids) i is t h u front told) refl apart
     (same_row pt i t h.phases u kind.AllTaken next.view (λ m. refl) (ap phase.is_restart e) (ap phase.is_early e))
     (λ j x z. subst (λ (y : MsgId). standing next.view y z ≡ 0) (token_one (h.phases.of u.p) u.k u.s u.d i j u.phase x) (sent_gone pt u.p (length ids) i is h.state front z)) in
     let sent : Between ids next = subst (λ (js : List MsgId). Between js next) same (sent_way pt u.p (length ids) i is h.state front mine) in

@@ -23,7 +23,7 @@ use Rattle.dm_rule.proofs.Lines.{not_true}
 use Rattle.dm_rule.proofs.Turns.{ended_off, created_off}
 use Rattle.dm_rule.proofs.PhasesCalm.{Plain}
 use Rattle.dm_rule.proofs.PhasesLines.{handled_spots}
-use Rattle.dm_rule.proofs.PhasesStand.{InPhases, Learns, learns_phases}
+use Rattle.dm_rule.proofs.PhasesStand.{none_only, InPhases, Learns, learns_phases}
 use Rattle.dm_rule.proofs.PhasesPieces.{record_off}
 use Rattle.dm_rule.proofs.PhasesRests.{rests_here}
 
@@ -54,7 +54,7 @@ ends_phases v w p h here known told spots =
     let a = v.acting in
     let phase : h.of p ≡ Rests a = rests_here (h.of p) a (sym (ap (knows (h.of p) a) here) ∙ (h.each p).known a) in
     let rested : (m : ℕ) → knows (Rests a) m (v.known m p) ≡ true = λ m. subst (λ (x : Phase). knows x m (v.known m p) ≡ true) phase ((h.each p).known m) in
-    (learns_phases v w p (Over a) h (still_learns v w p Ended known told spots) refl refl
+    (learns_phases v w p (Over a) h (none_only p) (still_learns v w p Ended known told spots) refl refl
     (λ m. ap (λ (f : ℕ → Pid → Known). knows (Over a) m (f m p)) known ∙ ap (knows (Over a) m) (record_at v p Ended m) ∙ over_of a m (a == m) (v.known m p) refl (rested m))
     (λ j x z. absurd (let f : None ≡ Some j = sym (ap token_in phase) ∙ x in cc))).phases
 
@@ -87,7 +87,7 @@ pub made_phases : (v w : View) (p : Pid) → InPhases v → ((m : ℕ) → v.kno
 made_phases v w p h unknown known told spots =
     let a = v.acting in
     let phase : h.of p ≡ Nowhere = nowhere_known (h.of p) (λ m. sym (ap (knows (h.of p) m) (unknown m)) ∙ (h.each p).known m) in
-    (learns_phases v w p (Rests a) h (still_learns v w p Here known told spots) refl refl
+    (learns_phases v w p (Rests a) h (none_only p) (still_learns v w p Here known told spots) refl refl
     (λ m. ap (λ (f : ℕ → Pid → Known). knows (Rests a) m (f m p)) known ∙ ap (knows (Rests a) m) (record_at v p Here m ∙ ap (λ (y : Known). if a == m then Here else y) (unknown m)) ∙ made_of a m (a == m) refl)
     (λ j x z. absurd (let f : None ≡ Some j = sym (ap token_in phase) ∙ x in cc))).phases
 

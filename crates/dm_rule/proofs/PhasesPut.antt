@@ -21,7 +21,7 @@ use Rattle.dm_rule.proofs.Once.{one_of}
 use Rattle.dm_rule.proofs.Lines.{not_true, at_machine_at, pair_at}
 use Rattle.dm_rule.proofs.States.{PairsFit, put_told_off}
 use Rattle.dm_rule.proofs.PhasesLines.{put_spots, put_at}
-use Rattle.dm_rule.proofs.PhasesStand.{InPhases, phase_set}
+use Rattle.dm_rule.proofs.PhasesStand.{PhasesBut, InPhases, some_only, phase_set}
 
 -- where it stands then
 abbrev pub put_spot : ℕ → ℕ → Spot
@@ -107,7 +107,7 @@ put_others v w p q phase i u off same told_i about told spots kept h = record {
   apart = h.apart;
 }
 
-pub own_put_phases : (v : View) (p : Pid) (k : MessageKind) (s d : ℕ) (h : InPhases v) → PairsFit v → h.of p ≡ Moves k s d None → v.topic ≡ Of p → v.acting ≡ sender_in k s d → v.told (own_id v) ≡ None
+pub own_put_phases : (v : View) (p : Pid) (k : MessageKind) (s d : ℕ) (h : PhasesBut (Some p) v) → PairsFit v → h.of p ≡ Moves k s d None → v.topic ≡ Of p → v.acting ≡ sender_in k s d → v.told (own_id v) ≡ None
     → StandsOnce (standing (after_put v v.acting (receiver_in k s d) (own_id v) k (pid_of (receiver_in k s d) 0)) (own_id v))
     → InPhases (after_put v v.acting (receiver_in k s d) (own_id v) k (pid_of (receiver_in k s d) 0))
 own_put_phases v p k s d h fits phase topic acting untold once =
@@ -120,7 +120,7 @@ own_put_phases v p k s d h fits phase topic acting untold once =
     let spots : (j : MsgId) → id_eq i j ≡ false → (z : Spot) → standing w j z ≡ standing v j z = λ j apart z. put_spots v v.acting b i j k (pid_of b 0) fits apart z in
     let kept : (j : MsgId) (t : Told) → v.told j ≡ Some t → id_eq i j ≡ false = λ j t e. not_true (id_eq i j) (λ x. let is : i ≡ j = id_eq-is i j x in let f : None ≡ Some t = sym untold ∙ ap v.told is ∙ e in cc) in
     let mine : IsIn v p (Moves k s d None) = subst (λ (x : Phase). IsIn v p x) phase (h.each p) in
-    phase_set v w p (Moves k s d (Some i)) h
+    phase_set v w p (Moves k s d (Some i)) None h (some_only p) (λ e. absurd (false≢true e))
     (λ q off. put_others v w p q (h.of q) i u off (λ m. refl) told_i topic told_off spots kept (h.each q))
     (record {
       known = mine.known;

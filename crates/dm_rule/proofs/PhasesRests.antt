@@ -34,8 +34,8 @@ use Rattle.dm_rule.proofs.MovesSent.{line_next}
 use Rattle.dm_rule.proofs.MovesRows.{goes_first, comes_back, home_again, home_off, frozen_off, restarted_off}
 use Rattle.dm_rule.proofs.PhasesCalm.{Came}
 use Rattle.dm_rule.proofs.PhasesLines.{handled_spots}
-use Rattle.dm_rule.proofs.PhasesStand.{Learns, learns_phases}
-use Rattle.dm_rule.proofs.PhasesAnswers.{Whole, whole_ends, Due, owns_whole, nowhere_of, first_learns, token_one}
+use Rattle.dm_rule.proofs.PhasesStand.{none_only, Learns, learns_phases}
+use Rattle.dm_rule.proofs.PhasesAnswers.{WholeBut, Whole, whole_ends, Due, owns_whole, nowhere_of, first_learns, token_one}
 use Rattle.dm_rule.proofs.PhasesPieces.{record_off, due_known}
 
 -- held messages come to the inbox
@@ -200,7 +200,7 @@ home_row pt l i is t at w h u none quiet calm front told mine off learned known 
     let n = line_next pt l [] w none e in
     let others : (m : ℕ) (q : Pid) → pid_eq u.p q ≡ false → (view_after v l).known m q ≡ v.known m q = λ m q apart. ap (λ (f : ℕ → Pid → Known). f m q) learned ∙ record_off v.known v.acting u.p Here m q apart in
     let learns = back_learns pt l i is t u.p h.state quiet front told (ap (λ (x : Told). x.about) u.told) off others in
-    let turned = learns_phases v next.view u.p (Rests at) h.phases learns refl refl (λ m. ap (λ (f : ℕ → Pid → Known). knows (Rests at) m (f m u.p)) learned ∙ known m)
+    let turned = learns_phases v next.view u.p (Rests at) h.phases (none_only u.p) learns refl refl (λ m. ap (λ (f : ℕ → Pid → Known). knows (Rests at) m (f m u.p)) learned ∙ known m)
     (λ j x z. subst (λ (y : MsgId). standing next.view y z ≡ 0) (token_one (h.phases.of u.p) u.k u.s u.d i j u.phase x) (back_gone pt l i is u.p h.state quiet front off z)) in
     let whole : Whole next = record { state = comes_back pt l i is u.p quiet h.state front mine off; fits = fits_as v next.view (pair_same v l calm) h.fits; phases = turned.phases } in
     subst Whole n.point (whole_ends next n.rest whole n.more)
@@ -265,11 +265,11 @@ frozen_row pt i is t p to w h plain front told mine here target apart e =
     let aim : target_of (front_told v (v.inbox a)) ≡ to = ap (λ (is : List MsgId). target_of (front_told v is)) front ∙ ap target_of told ∙ target in
     let learns = first_learns pt l i is t p h.state refl front told (λ b. absurd (false≢true (sym plain ∙ b))) (λ z. frozen_off v p z) (λ m q off. record_off v.known a p (Frozen (target_of (front_told v (v.inbox a)))) m q off) in
     let rested : (m : ℕ) → knows (Rests a) m (v.known m p) ≡ true = λ m. subst (λ (x : Phase). knows x m (v.known m p) ≡ true) phase ((h.phases.each p).known m) in
-    let turned = learns_phases v next.view p (Moves kind.Ask a to None) h.phases learns refl (ap not apart)
+    let turned = learns_phases v next.view p (Moves kind.Ask a to None) h.phases (none_only p) learns refl (ap not apart)
     (λ m. ap (knows (Moves kind.Ask a to None) m) (at_acting v a m p (Frozen (target_of (front_told v (v.inbox a)))) refl) ∙ ap (λ (x : ℕ). knows (Moves kind.Ask a to None) m (if a == m then Frozen x else v.known m p)) aim ∙ frozen_if a to m (a == m) (v.known m p) refl apart (rested m))
     (λ j x z. absurd (let f : None ≡ Some j = sym (ap token_in phase) ∙ x in cc)) in
-    let whole : Whole next = record { state = goes_first pt l i is refl h.state front mine (λ z. frozen_off v p z); fits = fits_as v next.view (pair_same v l refl) h.fits; phases = turned.phases } in
+    let whole : WholeBut (Some p) next = record { state = goes_first pt l i is refl h.state front mine (λ z. frozen_off v p z); fits = fits_as v next.view (pair_same v l refl) h.fits; phases = turned.phases } in
     let asked = line.Migration stage.Asked p in
     let k = line_next next asked (to_kernel kind.Ask to ∷ []) n.rest refl n.more in
-    let then_ : Whole (moved next asked next.kernel) = record { state = by_line None next asked refl whole.state whole.state.stands (λ j. refl); fits = whole.fits; phases = turned.phases } in
+    let then_ : WholeBut (Some p) (moved next asked next.kernel) = record { state = by_line None next asked refl whole.state whole.state.stands (λ j. refl); fits = whole.fits; phases = turned.phases } in
     subst Whole n.point (subst Whole k.point (owns_whole (moved next asked next.kernel) p kind.Ask a to to k.rest then_ turned.now refl refl refl k.more))

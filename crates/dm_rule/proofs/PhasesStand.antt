@@ -11,21 +11,40 @@ use Rattle.dm_message.specs.declared.kind.MessageKind.{MessageKind}
 use Rattle.dm_rule.specs.Sets.{at_pid}
 use Rattle.dm_rule.specs.View.{View, Told, Of}
 use Rattle.dm_rule.specs.Spots.{Spot, Queue, Held, Inbox, Untaken, standing}
-use Rattle.dm_rule.specs.Phases.{is_between, is_apart, Phase, Nowhere, Rests, Over, Moves, knows, token_in, sender_in, receiver_in, told_between, IsToken, HasToken, Alone, IsIn}
+use Rattle.dm_rule.specs.Phases.{is_between, is_apart, Phase, Nowhere, Rests, Over, Moves, knows, is_due, token_in, sender_in, receiver_in, told_between, IsToken, HasToken, Alone, IsIn}
 use Rattle.dm_laws.proofs.Equal.{pid_eq-is, pid_eq-same}
 use Rattle.dm_rule.proofs.PhasesCalm.{Came, Calm, calm_in, between_of, stands_where}
 
-pub record InPhases (v : View) : Type 0 where
+-- all processes, where the next message about at most this one isn't put yet
+pub record PhasesBut (o : Option Pid) (v : View) : Type 0 where
   pub of : Pid → Phase
   pub each : (p : Pid) → IsIn v p (of p)
   -- what kernels tell each other of migrations is about a process
   pub about : (i : MsgId) (t : Told) → v.told i ≡ Some t → is_between t.kind ≡ true → (p : Pid) × (t.about ≡ Of p)
+  pub put : (p : Pid) → is_due (of p) ≡ true → o ≡ Some p
 
-abbrev pub calm_phases : (v w : View) → Calm v w → InPhases v → InPhases w
+abbrev pub InPhases : View → Type 0
+InPhases v = PhasesBut None v
+
+-- no other is due
+abbrev pub OnlyDue : Option Pid → Pid → Type 0
+OnlyDue o p = (q : Pid) → pid_eq p q ≡ false → o ≡ Some q → ⊥
+
+pub none_only : (p : Pid) → OnlyDue None p
+none_only p q off e = cc
+
+pub some_only : (p : Pid) → OnlyDue (Some p) p
+some_only p q off e = let f : p ≡ q = cc in false≢true (sym off ∙ ap (pid_eq p) (sym f) ∙ pid_eq-same p)
+
+abbrev pub due_of : Phase → Pid → Option Pid
+due_of phase p = if is_due phase then Some p else None
+
+abbrev pub calm_phases : {o : Option Pid} (v w : View) → Calm v w → PhasesBut o v → PhasesBut o w
 calm_phases v w c h = record {
   of = h.of;
   each = λ p. calm_in v w p (h.of p) c (h.each p);
   about = λ i t told b. h.about i t (c.fresh i t told b) b;
+  put = h.put;
 }
 
 -- a message of the protocol that stands somewhere is the token of the process that it is about
@@ -73,15 +92,19 @@ pub held_plain : (v : View) (m : ℕ) (p : Pid) (i : MsgId) (t : Told) → InPha
 held_plain v m p i t h told st = listed_free v h i t (Held m p) refl told st (is_between t.kind) refl
 
 -- the phase of one process changes
-pub phase_set : (v w : View) (p : Pid) (next : Phase) (h : InPhases v) → ((q : Pid) → pid_eq p q ≡ false → IsIn w q (h.of q)) → IsIn w p next
-    → ((i : MsgId) (t : Told) → w.told i ≡ Some t → is_between t.kind ≡ true → (q : Pid) × (t.about ≡ Of q)) → InPhases w
-phase_set v w p next h others mine about = record {
+pub phase_set : {o : Option Pid} (v w : View) (p : Pid) (next : Phase) (u : Option Pid) (h : PhasesBut o v) → OnlyDue o p → (is_due next ≡ true → u ≡ Some p) → ((q : Pid) → pid_eq p q ≡ false → IsIn w q (h.of q)) → IsIn w p next
+    → ((i : MsgId) (t : Told) → w.told i ≡ Some t → is_between t.kind ≡ true → (q : Pid) × (t.about ≡ Of q)) → PhasesBut u w
+phase_set v w p next u h only now others mine about = record {
   of = at_pid h.of p next;
   each = λ q. elim (cases_Bool (pid_eq p q)) [
     | inl same ↦ subst (λ (x : Phase). IsIn w q x) (sym (ap (λ (c : Bool). if c then next else h.of q) same)) (subst (λ (x : Pid). IsIn w x next) (pid_eq-is p q same) mine)
     | inr apart ↦ subst (λ (x : Phase). IsIn w q x) (sym (ap (λ (c : Bool). if c then next else h.of q) apart)) (others q apart)
   ];
   about = about;
+  put = λ q due. elim (cases_Bool (pid_eq p q)) [
+    | inl same ↦ now (sym (ap (λ (c : Bool). is_due (if c then next else h.of q)) same) ∙ due) ∙ ap Some (pid_eq-is p q same)
+    | inr apart ↦ absurd (only q apart (h.put q (sym (ap (λ (c : Bool). is_due (if c then next else h.of q)) apart) ∙ due)))
+  ];
 }
 
 -- a machine knows something else of a process about which nothing is under way: it ends, it is made
@@ -148,14 +171,14 @@ rests_token w p (Moves k s d (Some i)) e = cc
 
 -- the phases behind, and the one that changed
 pub record Turned (w : View) (p : Pid) (next : Phase) : Type 0 where
-  pub phases : InPhases w
+  pub phases : PhasesBut (due_of next p) w
   pub now : phases.of p ≡ next
 
-pub learns_phases : (v w : View) (p : Pid) (next : Phase) (h : InPhases v) → Learns v w p → token_in next ≡ None → is_apart next ≡ true → ((m : ℕ) → knows next m (w.known m p) ≡ true)
+pub learns_phases : {o : Option Pid} (v w : View) (p : Pid) (next : Phase) (h : PhasesBut o v) → OnlyDue o p → Learns v w p → token_in next ≡ None → is_apart next ≡ true → ((m : ℕ) → knows next m (w.known m p) ≡ true)
     → ((i : MsgId) → token_in (h.of p) ≡ Some i → (z : Spot) → standing w i z ≡ 0) → Turned w p next
 unfolding phase_set
-learns_phases v w p next h c none apart known gone = record {
-  phases = phase_set v w p next h (λ q off. learns_in v w p q (h.of q) off c (h.each q))
+learns_phases v w p next h only c none apart known gone = record {
+  phases = phase_set v w p next (due_of next p) h only (λ (e : is_due next ≡ true). ap (λ (x : Bool). if x then Some p else None) e) (λ q off. learns_in v w p q (h.of q) off c (h.each q))
       (record { known = known; token = rests_token w p next none; alone = subst (λ (o : Option MsgId). Alone w p o) (sym none) (none_left v w p (token_in (h.of p)) c (h.each p).alone gone); apart = apart })
       (λ i t told b. h.about i t (c.fresh i t told b) b);
   now = ap (λ (x : Bool). if x then next else h.of p) (pid_eq-same p);

@@ -2,6 +2,7 @@
 use Rattle.std.proofs.Common.{◌≡◌, ℕ, ◌==◌, ◌&&◌, ◌||◌, Bool, true, false, List, [], ◌∷◌, refl, ap, ◌∙◌, arith}
 use Rattle.std.specs.Prelude.{if◌then◌else◌}
 use Rattle.std.specs.declared.option.Option.TheVariants.{None, Some}
+use Rattle.std.proofs.lemmas.Bool.{false≢true}
 use Rattle.std.proofs.lemmas.Bool.Decides.{nat_tests}
 use Rattle.dm_link.specs.declared.Pid.{Pid}
 use Rattle.dm_link.specs.Names.{pid_eq}
@@ -9,7 +10,7 @@ use Rattle.dm_onekernel.specs.declared.boot.BootProcess.{BootProcess}
 use Rattle.dm_onekernel.specs.declared.boot.Boot.{Boot}
 use Rattle.dm_onekernel.specs.Boot.{switchboard, manager}
 use Rattle.dm_rule.specs.View.{View, Known, Unknown, Here, known_at, first_view}
-use Rattle.dm_rule.specs.Phases.{Phase, Nowhere, Rests, knows, is_here, is_away, HasToken, is_apart}
+use Rattle.dm_rule.specs.Phases.{Phase, Nowhere, Rests, knows, is_here, is_away, HasToken, is_apart, is_due}
 use Rattle.dm_laws.proofs.Equal.{pid_eq-is}
 use Rattle.dm_rule.proofs.PhasesStand.{InPhases}
 
@@ -56,6 +57,10 @@ start_apart : (b : Bool) (q : Pid) → is_apart (start_phase b q) ≡ true
 start_apart true q = refl
 start_apart false q = refl
 
+start_put : (b : Bool) (q : Pid) → is_due (start_phase b q) ≡ true → ⊥
+start_put true q e = false≢true e
+start_put false q e = false≢true e
+
 pub phases_start : (b : Boot) → InPhases (first_view b)
 phases_start b = record {
   of = λ q. start_phase (starts b.processes q) q;
@@ -65,5 +70,6 @@ phases_start b = record {
     alone = λ i t z told bt about st. cc;
     apart = start_apart (starts b.processes q) q;
   };
+  put = λ q e. absurd (start_put (starts b.processes q) q e);
   about = λ i t told bt. absurd (let f : None ≡ Some t = told in cc);
 }

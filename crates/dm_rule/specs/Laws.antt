@@ -1,5 +1,5 @@
 -- What holds wherever the rule leads.
-use Rattle.std.specs.Prelude.{◌≡◌, ◌≢◌, ⊤, ℕ, ◌<◌, List, [], ◌∷◌}
+use Rattle.std.specs.Prelude.{false, ◌≡◌, ◌≢◌, ⊤, ℕ, ◌<◌, List, [], ◌∷◌}
 use Rattle.std.specs.declared.option.Option.TheVariants.{Some}
 use Rattle.dm_link.specs.declared.Pid.{Pid}
 use Rattle.dm_message.specs.declared.MsgId.{MsgId}
@@ -14,7 +14,7 @@ use Rattle.dm_rule.specs.Spots.{StandsRight, standing}
 use Rattle.dm_rule.specs.Pairs.{PairStands, HomeStands}
 use Rattle.dm_rule.specs.Homes.{Homes}
 use Rattle.dm_rule.specs.Tells.{TellsRight}
-use Rattle.dm_rule.specs.Phases.{Phase, IsIn}
+use Rattle.dm_rule.specs.Phases.{Phase, IsIn, is_due}
 
 -- a directive for so many machines
 abbrev pub IsStep : ℕ → Step → Type 0
@@ -61,4 +61,4 @@ TellsRightAlways = (b : Boot) (es : List Step) (pt : Point) → IsValid b → Le
 -- wherever the rule leads, each process has a phase: what every machine knows of it, and which one message of its migration is
 -- under way and where
 abbrev pub PhasesAlways : Type 0
-PhasesAlways = (b : Boot) (es : List Step) (pt : Point) (p : Pid) → IsValid b → Leads b (first_point b) es pt → (phase : Phase) × IsIn pt.view p phase
+PhasesAlways = (b : Boot) (es : List Step) (pt : Point) (p : Pid) → IsValid b → Leads b (first_point b) es pt → (phase : Phase) × IsIn pt.view p phase × (is_due phase ≡ false)

@@ -117,6 +117,14 @@ sender_in k s d = if is_of_source k then s else d
 abbrev pub receiver_in : MessageKind → ℕ → ℕ → ℕ
 receiver_in k s d = if is_of_source k then d else s
 
+-- the next message about the process isn't put yet: so only between the lines of a group
+abbrev pub is_due : Phase → Bool
+is_due Nowhere = false
+is_due (Rests at) = false
+is_due (Over at) = false
+is_due (Moves kind s d None) = true
+is_due (Moves kind s d (Some id)) = false
+
 abbrev pub token_in : Phase → Option MsgId
 token_in Nowhere = None
 token_in (Rests at) = None
