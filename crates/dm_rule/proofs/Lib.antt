@@ -60,3 +60,7 @@ pub mod RootedRows
 pub mod RootedTurns
 pub mod RootedGroups
 pub mod PhasesAlways
+pub mod ApartSteps
+pub mod ApartRows
+pub mod ApartTurns
+pub mod ApartGroups

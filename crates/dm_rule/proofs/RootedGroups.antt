@@ -100,7 +100,7 @@ parts_ground (p ∷ ps) pt w ok need sane is h =
     subst (λ (x : Spelled). Grounded x.point) f (parts_ground ps next z ok.1 (loose_first next ps need.1) (part_sane pt next p ls ok.0 lines leads sane) more (part_ground pt next p ls need.0 sane lines leads h))
 
 -- what the phases say: a process that is asked for is here nowhere
-moves_away : (k : MessageKind) (s d m : ℕ) (o : Option MsgId) (b c : Bool) → (s == m) ≡ b → (d == m) ≡ c → knows (Moves k s d o) m Here ≡ false
+pub moves_away : (k : MessageKind) (s d m : ℕ) (o : Option MsgId) (b c : Bool) → (s == m) ≡ b → (d == m) ≡ c → knows (Moves k s d o) m Here ≡ false
 moves_away k s d m o true c e f = ap (λ (x : Bool). if x then false else if d == m then false else false) e
 moves_away k s d m o false true e f = ap (λ (x : Bool). if x then false else if d == m then false else false) e ∙ ap (λ (x : Bool). if x then false else false) f
 moves_away k s d m o false false e f = ap (λ (x : Bool). if x then false else if d == m then false else false) e ∙ ap (λ (x : Bool). if x then false else false) f

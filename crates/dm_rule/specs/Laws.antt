@@ -1,8 +1,10 @@
 -- What holds wherever the rule leads.
 use Rattle.std.specs.Prelude.{false, ◌≡◌, ◌≢◌, ⊤, ℕ, ◌<◌, List, [], ◌∷◌}
+use Rattle.std.specs.declared.option.Option.{Option}
 use Rattle.std.specs.declared.option.Option.TheVariants.{Some}
 use Rattle.dm_link.specs.declared.Pid.{Pid}
 use Rattle.dm_message.specs.declared.MsgId.{MsgId}
+use Rattle.dm_message.specs.declared.kind.MessageKind.{MessageKind}
 use Rattle.dm_onekernel.specs.declared.boot.Boot.{Boot}
 use Rattle.dm_onekernel.specs.Boot.{IsValid}
 use Rattle.dm_schedule.specs.declared.Step.{Step}
@@ -14,7 +16,8 @@ use Rattle.dm_rule.specs.Spots.{StandsRight, standing}
 use Rattle.dm_rule.specs.Pairs.{PairStands, HomeStands}
 use Rattle.dm_rule.specs.Homes.{Homes}
 use Rattle.dm_rule.specs.Tells.{TellsRight}
-use Rattle.dm_rule.specs.Phases.{Phase, IsIn, is_due}
+use Rattle.dm_rule.specs.Phases.{Phase, Moves, IsIn, is_due}
+use Rattle.dm_rule.specs.Apart.{AllSpare}
 
 -- a directive for so many machines
 abbrev pub IsStep : ℕ → Step → Type 0
@@ -62,3 +65,9 @@ TellsRightAlways = (b : Boot) (es : List Step) (pt : Point) → IsValid b → Le
 -- under way and where
 abbrev pub PhasesAlways : Type 0
 PhasesAlways = (b : Boot) (es : List Step) (pt : Point) (p : Pid) → IsValid b → Leads b (first_point b) es pt → (phase : Phase) × IsIn pt.view p phase × (is_due phase ≡ false)
+
+-- wherever the rule leads, the next group has no label of a process that moves, and leaves its plain value
+abbrev pub MovingStaysAlways : Type 0
+MovingStaysAlways =
+    (b : Boot) (es : List Step) (pt : Point) (d : Step) (w : Spelled) (p : Pid) (k : MessageKind) (source destination : ℕ) (id : Option MsgId) → IsValid b → Leads b (first_point b) es pt → group_of b pt d ≡ Some w
+    → IsIn pt.view p (Moves k source destination id) → AllSpare pt.kernel p w.lines × (w.point.kernel.processes p ≡ pt.kernel.processes p)

@@ -14,3 +14,4 @@ pub mod Good
 pub mod Worn
 pub mod Ends
 pub mod Laws
+pub mod Apart

@@ -1,5 +1,5 @@
 //! What holds wherever the rule leads, whoever ran by it.
-ghost use Rattle.dm_rule.specs.Laws.{StandsOnceAlways, PairsStandAlways, LeadHomeAlways, TellsRightAlways, PhasesAlways};
+ghost use Rattle.dm_rule.specs.Laws.{StandsOnceAlways, PairsStandAlways, LeadHomeAlways, TellsRightAlways, PhasesAlways, MovingStaysAlways};
 
 /// Wherever the rule leads from a boot file, each message that the kernel without machines holds stands exactly once
 /// among the queues, held lists, inboxes and streams of the printed lines, a kernel's own message at most once, and no other
@@ -31,4 +31,10 @@ pub fn tells_right_always()
 /// which one message of its migration is under way, from whom, and where it stands; no other message of it stands anywhere.
 pub fn phases_always()
     ensures { PhasesAlways }
+{}
+
+/// Wherever the rule leads from a boot file, while a process moves no group has a label of it: it doesn't run, call, send, wait,
+/// print, end or receive, no message for it is served, and its plain value stays as it is.
+pub fn moving_stays_always()
+    ensures { MovingStaysAlways }
 {}
