@@ -13,19 +13,19 @@ use Rattle.dm_onekernel.specs.declared.boot.Boot.{Boot}
 use Rattle.dm_onekernel.specs.declared.label.Label.{Label}
 use Rattle.dm_onekernel.specs.Boot.{first_number}
 use Rattle.dm_onekernel.specs.Options.{bind}
-use Rattle.dm_onekernel.specs.Kernel.{Life, OneKernel}
+use Rattle.dm_onekernel.specs.Kernel.{OneKernel}
 use Rattle.dm_onekernel.specs.Step as kernel
 use Rattle.dm_schedule.specs.declared.Step.{Step}
 use Rattle.dm_schedule.specs.declared.Step.TheVariants as step
 use Rattle.dm_rule.specs.declared.line.Line.{Line}
 use Rattle.dm_rule.specs.declared.line.Line.TheVariants as line
 use Rattle.dm_rule.specs.declared.line.Load.TheVariants as load
-use Rattle.dm_rule.specs.View.{Unknown, Here, own_id}
+use Rattle.dm_rule.specs.View.{Here, own_id}
 use Rattle.dm_rule.specs.Addresses.{Receiver}
 use Rattle.dm_rule.specs.Point.{Point, label_of, kernel_after, moved, after_line, after, first_point}
 use Rattle.dm_rule.specs.Parts.{Part, Says, Routes, Again, Owns, Transmits, Spelled, lines_of, puts, goes_out, packet_line, behind, spelled}
 use Rattle.dm_rule.specs.Migrating.{migrates}
-use Rattle.dm_rule.specs.Phases.{Phase, Nowhere, Moves, knows, IsIn}
+use Rattle.dm_rule.specs.Phases.{Nowhere, Moves, knows, IsIn}
 use Rattle.dm_rule.specs.Apart.{Spares, AllSpare}
 use Rattle.dm_rule.specs.Rule as rule
 use Rattle.dm_rule.specs.Rule.{group_of}
@@ -37,7 +37,7 @@ use Rattle.dm_rule.proofs.PhasesGroups.{Rooted}
 use Rattle.dm_rule.proofs.PhasesAlways.{phased_start, phased_on}
 use Rattle.dm_rule.proofs.RootedGroups.{moves_away, rooted}
 use Rattle.dm_rule.proofs.ApartSteps.{Keeps, keeps_step}
-use Rattle.dm_rule.proofs.ApartRows.{SparesPart, AllApart, FirstApart, ApartOf, apart_first}
+use Rattle.dm_rule.proofs.ApartRows.{SparesPart, FirstApart, ApartOf, apart_first}
 use Rattle.dm_rule.proofs.ApartTurns.{turns_apart, net_apart, migrates_apart}
 
 -- what lines say, seen from a kernel, and where they lead

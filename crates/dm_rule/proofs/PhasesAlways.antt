@@ -18,14 +18,17 @@ use Rattle.dm_onekernel.specs.Start.{begun, first_life, life_at}
 use Rattle.dm_schedule.specs.declared.Step.{Step}
 use Rattle.dm_rule.specs.View.{Known, Unknown, Here, known_at, ring_at}
 use Rattle.dm_rule.specs.Point.{Point, first_point}
-use Rattle.dm_rule.specs.Phases.{is_due}
-use Rattle.dm_rule.specs.Laws.{Leads, PhasesAlways}
+use Rattle.dm_rule.specs.Phases.{Rests, knows, is_due}
+use Rattle.dm_rule.specs.Laws.{IsStep, Leads, PhasesAlways}
+use Rattle.dm_rule.specs.Parts.{Spelled}
+use Rattle.dm_rule.specs.Rule.{group_of}
 use Rattle.dm_rule.proofs.Lines.{not_true}
 use Rattle.dm_rule.proofs.Pairs.{Pairs, Pairs-start, Pairs-group}
 use Rattle.dm_rule.proofs.States.{State}
 use Rattle.dm_rule.proofs.Groups.{fits, State-start, State-group}
 use Rattle.dm_rule.proofs.Telling.{Sane, sane_start, sane_group}
 use Rattle.dm_rule.proofs.PhasesStand.{InPhases}
+use Rattle.dm_rule.proofs.PhasesRests.{rests_here}
 use Rattle.dm_rule.proofs.PhasesStart.{phases_start}
 use Rattle.dm_rule.proofs.PhasesGroups.{phases_group}
 use Rattle.dm_rule.proofs.Rings.{AllHere}
@@ -93,18 +96,32 @@ pub record Phased (pt : Point) : Type 0 where
 pub phased_start : (b : Boot) → IsValid b → Phased (first_point b)
 phased_start b valid = record { pairs = Pairs-start b; state = State-start b valid; sane = sane_start b valid; ground = ground_first b valid; phases = phases_start b }
 
-pub phased_on : (b : Boot) (es : List Step) (pt end : Point) → Leads b pt es end → Phased pt → Phased end
-phased_on b [] pt end leads h = subst Phased leads h
-phased_on b (d ∷ es) pt end (w, fit, is, rest) h =
+pub phased_group : (b : Boot) (pt : Point) (d : Step) (w : Spelled) → IsStep pt.kernel.machines d → group_of b pt d ≡ Some w → Phased pt → Phased w.point
+phased_group b pt d w fit is h =
     let f = fits pt.view h.pairs in
-    let next : Phased w.point = record {
+    record {
       pairs = Pairs-group b pt d w fit is h.pairs;
       state = State-group b pt d w is f h.state;
       sane = sane_group b pt d w is h.sane;
       ground = roots_group b pt d w is h.phases h.sane h.ground;
       phases = phases_group b pt d w is h.phases h.state h.sane f (rooted pt h.sane h.ground);
-    } in
-    phased_on b es w.point end rest next
+    }
+
+pub phased_on : (b : Boot) (es : List Step) (pt end : Point) → Leads b pt es end → Phased pt → Phased end
+phased_on b [] pt end leads h = subst Phased leads h
+phased_on b (d ∷ es) pt end (w, fit, is, rest) h = phased_on b es w.point end rest (phased_group b pt d w fit is h)
+
+-- a process is here on one machine at most
+rests_at : (m n : ℕ) → Rests m ≡ Rests n → m ≡ n
+rests_at m n e = cc
+
+pub here_once : (pt : Point) (p : Pid) (m n : ℕ) → InPhases pt.view → pt.view.known m p ≡ Here → pt.view.known n p ≡ Here → m ≡ n
+here_once pt p m n h at_m at_n =
+    let phase = h.of p in
+    let known = (h.each p).known in
+    let first : phase ≡ Rests m = rests_here phase m (sym (ap (knows phase m) at_m) ∙ known m) in
+    let other : phase ≡ Rests n = rests_here phase n (sym (ap (knows phase n) at_n) ∙ known n) in
+    rests_at m n (sym first ∙ other)
 
 -- wherever the rule leads
 pub phases_always : PhasesAlways

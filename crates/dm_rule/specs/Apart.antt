@@ -10,7 +10,7 @@ use Rattle.dm_onekernel.specs.Kernel.{OneKernel}
 use Rattle.dm_rule.specs.declared.line.Line.{Line}
 use Rattle.dm_rule.specs.Point.{label_of}
 
--- a row a label
+-- a row a label; what is served is in the bag as its group begins, and this kernel is the one there
 abbrev pub IsOthers : OneKernel → Pid → Label → Type 0
 IsOthers s p (label.Ran q k) = q ≢ p
 IsOthers s p (label.Call q n c) = q ≢ p
