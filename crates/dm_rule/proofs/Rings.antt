@@ -76,21 +76,21 @@ rings_same v w known ring h = record {
 pub rings_ring : (v w : View) (ring : List Pid) → w.known ≡ v.known → w.ring ≡ at_machine v.ring v.acting ring → AllHere (v.known v.acting) ring → Rings v → Rings w
 rings_ring v w ring known is here h = record {
   each = λ m. subst (λ (f : ℕ → Pid → Known). AllHere (f m) (w.ring m)) (sym known) (subst (λ (r : ℕ → List Pid). AllHere (v.known m) (r m)) (sym is)
-  (ring_if (v.known m) (v.acting == m) ring (v.ring m) (λ same. subst (λ (n : ℕ). AllHere (v.known n) ring) (eq_is v.acting m same) here) (λ off. h.each m)));
+      (ring_if (v.known m) (v.acting == m) ring (v.ring m) (λ same. subst (λ (n : ℕ). AllHere (v.known n) ring) (eq_is v.acting m same) here) (λ off. h.each m)));
 }
 
 pub rings_learn : (v w : View) (p : Pid) (k : Known) (ring : List Pid) → w.known ≡ at_record v.known v.acting p k → w.ring ≡ at_machine v.ring v.acting ring → AllHere (learnt (v.known v.acting) p k) ring → Rings v → Rings w
 rings_learn v w p k ring known is here h = record {
   each = λ m. subst (λ (f : ℕ → Pid → Known). AllHere (f m) (w.ring m)) (sym known) (subst (λ (r : ℕ → List Pid). AllHere (at_record v.known v.acting p k m) (r m)) (sym is)
-  (ring_if (at_record v.known v.acting p k m) (v.acting == m) ring (v.ring m)
-  (λ same. known_if v p k m ring (v.acting == m) refl (λ e. here) (λ off. absurd (false≢true (sym off ∙ same))))
-  (λ off. known_if v p k m (v.ring m) (v.acting == m) refl (λ same. absurd (false≢true (sym off ∙ same))) (λ e. h.each m))));
+      (ring_if (at_record v.known v.acting p k m) (v.acting == m) ring (v.ring m)
+      (λ same. known_if v p k m ring (v.acting == m) refl (λ e. here) (λ off. absurd (false≢true (sym off ∙ same))))
+      (λ off. known_if v p k m (v.ring m) (v.acting == m) refl (λ same. absurd (false≢true (sym off ∙ same))) (λ e. h.each m))));
 }
 
 pub rings_known : (v w : View) (p : Pid) (k : Known) → w.known ≡ at_record v.known v.acting p k → w.ring ≡ v.ring → (v.known v.acting p ≡ Here → k ≡ Here) → Rings v → Rings w
 rings_known v w p k known is keeps h = record {
   each = λ m. subst (λ (f : ℕ → Pid → Known). AllHere (f m) (w.ring m)) (sym known) (subst (λ (r : ℕ → List Pid). AllHere (at_record v.known v.acting p k m) (r m)) (sym is)
-  (known_if v p k m (v.ring m) (v.acting == m) refl
-  (λ same. subst (λ (n : ℕ). AllHere (learnt (v.known v.acting) p k) (v.ring n)) (eq_is v.acting m same) (all_learnt (v.known v.acting) p k (v.ring v.acting) keeps (h.each v.acting)))
-  (λ off. h.each m)));
+      (known_if v p k m (v.ring m) (v.acting == m) refl
+      (λ same. subst (λ (n : ℕ). AllHere (learnt (v.known v.acting) p k) (v.ring n)) (eq_is v.acting m same) (all_learnt (v.known v.acting) p k (v.ring v.acting) keeps (h.each v.acting)))
+      (λ off. h.each m)));
 }
