@@ -53,3 +53,6 @@ pub mod PhasesLives
 pub mod PhasesTurns
 pub mod PhasesGroups
 pub mod PhasesStart
+pub mod TrailsWorked
+pub mod TrailsKnown
+pub mod TrailsLeads

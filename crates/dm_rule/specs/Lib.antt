@@ -9,6 +9,7 @@ pub mod Rule
 pub mod Pairs
 pub mod Phases
 pub mod Tells
+pub mod Trails
 pub mod Homes
 pub mod Good
 pub mod Worn
