@@ -56,3 +56,7 @@ pub mod PhasesStart
 pub mod TrailsWorked
 pub mod TrailsKnown
 pub mod TrailsLeads
+pub mod TrailsPlaces
+pub mod TrailsLines
+pub mod TrailsPuts
+pub mod TrailsStart
