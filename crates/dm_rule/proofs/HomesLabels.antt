@@ -6,7 +6,7 @@ use Rattle.std.specs.declared.option.Option.TheVariants.{None, Some}
 use Rattle.std.proofs.lemmas.Bool.{cases_Bool}
 use Rattle.std.proofs.lemmas.Bool.Decides.{nat_tests}
 use Rattle.dm_link.specs.declared.Pid.{Pid}
-use Rattle.dm_link.specs.Names.{pid_eq}
+use Rattle.dm_link.specs.Names.{Place, pid_eq}
 use Rattle.dm_message.specs.declared.MsgId.{MsgId}
 use Rattle.dm_message.specs.declared.kind.MessageKind.{MessageKind}
 use Rattle.dm_message.specs.declared.kind.MessageKind.TheVariants as kind
@@ -19,10 +19,10 @@ use Rattle.dm_rule.specs.View as view
 use Rattle.dm_rule.specs.View.{View, Told, Known, Unknown, Here, Frozen, Incoming, Forward, after_label, served_told, kills, ended, serving, handled}
 use Rattle.dm_rule.specs.Addresses.{Addresses, given, gives, unmoved, here}
 use Rattle.dm_rule.specs.Homes.{are_home}
-use Rattle.dm_rule.proofs.Homes.{AtHome}
+use Rattle.dm_rule.proofs.Homes.{IsHome, AtHome}
 use Rattle.dm_rule.proofs.HomesSteps.{ran_home, call_home, send_home, wait_home, out_home, end_home}
 use Rattle.dm_rule.proofs.HomesReceives.{receive_home, refuse_home}
-use Rattle.dm_rule.proofs.HomesServes.{Named, ReceivedAt, dropped_home, gone_home, no_space_home, served_home, created_home}
+use Rattle.dm_rule.proofs.HomesServes.{Named, ReceivedAt, ServedAt, EndedAt, dropped_home, gone_home, no_space_home, served_home, created_home}
 use Rattle.dm_rule.proofs.HomesManager.{took_home}
 
 -- a label is said where its process is at home, or where its message's receiver is
@@ -45,21 +45,60 @@ SaidAt s m (label.NoSpace id f b) = ReceivedAt s m id
 here_home : (v : View) (p : Pid) → ((q : Pid) → v.moves q ≡ 0) → p.home ≡ v.acting → here v p ≡ unmoved p.home
 here_home v p still at = ap (λ (n : ℕ). record { at = v.acting; moves = n }) (still p) ∙ ap unmoved (sym at)
 
-pub label_home : (s t : OneKernel) (v : View) (a : Addresses) (l : Label) → kernel.step s l ≡ Some t → Named s → ((q : Pid) → v.moves q ≡ 0) → SaidAt s v.acting l → AtHome s a → AtHome t (given a (gives s v a l))
-label_home s t v a (label.Ran p k) is named still at h = ran_home s t v a p k is h
-label_home s t v a (label.Call p n c) is named still at h = call_home s t v a p n c is (here_home v p still at) h
-label_home s t v a (label.Send p id) is named still at h = send_home s t v a p id is (here_home v p still at) h
-label_home s t v a (label.Wait p) is named still at h = wait_home s t v a p is (here_home v p still at) h
-label_home s t v a (label.Out p w) is named still at h = out_home s t v a p w is (here_home v p still at) h
-label_home s t v a (label.End p y) is named still at h = end_home s t a p y is h
-label_home s t v a (label.Receive p id) is named still at h = receive_home s t v a p id is h
-label_home s t v a (label.Refuse p id c) is named still at h = refuse_home s t a p id c is h
-label_home s t v a (label.Dropped id) is named still at h = dropped_home s t a id is h
-label_home s t v a (label.Served id) is named still at h = served_home s t v a id is named still at h
-label_home s t v a (label.Gone id) is named still at h = gone_home s t v a id is named at h
-label_home s t v a (label.Took id) is named still at h = took_home s t v a id is named at h
-label_home s t v a (label.Created id child) is named still at h = created_home s t v a id child is named at.0 h
-label_home s t v a (label.NoSpace id f b) is named still at h = no_space_home s t v a id f b is named at h
+-- a label is said where its process is, where its message's receiver is or has ended, or at a server's or a kernel's home
+abbrev pub SaidOn : (Pid → Place → Type 0) → OneKernel → View → Addresses → Label → Type 0
+SaidOn P s v a (label.Ran p k) = ⊤
+SaidOn P s v a (label.Call p n c) = P p (here v p)
+SaidOn P s v a (label.Send p id) = P p (here v p)
+SaidOn P s v a (label.Wait p) = P p (here v p)
+SaidOn P s v a (label.Out p w) = P p (here v p)
+SaidOn P s v a (label.End p y) = ⊤
+SaidOn P s v a (label.Receive p id) = ⊤
+SaidOn P s v a (label.Refuse p id c) = ⊤
+SaidOn P s v a (label.Dropped id) = ⊤
+SaidOn P s v a (label.Served id) = ServedAt P s v id
+SaidOn P s v a (label.Gone id) = EndedAt P s v a id
+SaidOn P s v a (label.Took id) = ReceivedAt s v.acting id
+SaidOn P s v a (label.Created id child) = ReceivedAt s v.acting id
+SaidOn P s v a (label.NoSpace id f b) = ReceivedAt s v.acting id
+
+-- each label keeps addresses where they may be
+pub label_on : (P : Pid → Place → Type 0) (s t : OneKernel) (v : View) (a : Addresses) (l : Label) → kernel.step s l ≡ Some t → Named s → SaidOn P s v a l → AtHome P s a → AtHome P t (given a (gives s v a l))
+label_on P s t v a (label.Ran p k) is named at h = ran_home P s t v a p k is h
+label_on P s t v a (label.Call p n c) is named at h = call_home P s t v a p n c is at h
+label_on P s t v a (label.Send p id) is named at h = send_home P s t v a p id is at h
+label_on P s t v a (label.Wait p) is named at h = wait_home P s t v a p is at h
+label_on P s t v a (label.Out p w) is named at h = out_home P s t v a p w is at h
+label_on P s t v a (label.End p y) is named at h = end_home P s t a p y is h
+label_on P s t v a (label.Receive p id) is named at h = receive_home P s t v a p id is h
+label_on P s t v a (label.Refuse p id c) is named at h = refuse_home P s t a p id c is h
+label_on P s t v a (label.Dropped id) is named at h = dropped_home P s t a id is h
+label_on P s t v a (label.Served id) is named at h = served_home P s t v a id is named at h
+label_on P s t v a (label.Gone id) is named at h = gone_home P s t v a id is named at h
+label_on P s t v a (label.Took id) is named at h = took_home P s t v a id is named at h
+label_on P s t v a (label.Created id child) is named at h = created_home P s t v a id child is named at h
+label_on P s t v a (label.NoSpace id f b) is named at h = no_space_home P s t v a id f b is named at h
+
+-- as long as nothing moves
+said_home : (s : OneKernel) (v : View) (a : Addresses) (l : Label) → ((q : Pid) → v.moves q ≡ 0) → SaidAt s v.acting l → AtHome IsHome s a → SaidOn IsHome s v a l
+said_home s v a (label.Ran p k) still at h = tt
+said_home s v a (label.Call p n c) still at h = here_home v p still at
+said_home s v a (label.Send p id) still at h = here_home v p still at
+said_home s v a (label.Wait p) still at h = here_home v p still at
+said_home s v a (label.Out p w) still at h = here_home v p still at
+said_home s v a (label.End p y) still at h = tt
+said_home s v a (label.Receive p id) still at h = tt
+said_home s v a (label.Refuse p id c) still at h = tt
+said_home s v a (label.Dropped id) still at h = tt
+said_home s v a (label.Served id) still at h = λ m there. here_home v m.to still (at m there)
+said_home s v a (label.Gone id) still at h = λ m there.
+    ap (λ (n : ℕ). record { at = v.acting; moves = n }) (ap (λ (p : Place). p.moves) (h.messages id m there).receiver) ∙ ap unmoved (sym (at m there))
+said_home s v a (label.Took id) still at h = at
+said_home s v a (label.Created id child) still at h = at.0
+said_home s v a (label.NoSpace id f b) still at h = at
+
+pub label_home : (s t : OneKernel) (v : View) (a : Addresses) (l : Label) → kernel.step s l ≡ Some t → Named s → ((q : Pid) → v.moves q ≡ 0) → SaidAt s v.acting l → AtHome IsHome s a → AtHome IsHome t (given a (gives s v a l))
+label_home s t v a l is named still at h = label_on IsHome s t v a l is named (said_home s v a l still at h) h
 
 -- rings
 both : (b c : Bool) → (b && c) ≡ true → (b ≡ true) × (c ≡ true)

@@ -39,7 +39,7 @@ use Rattle.dm_rule.specs.Addresses.{Addresses, Receiver, Gets, given, own_gives,
 use Rattle.dm_rule.specs.Point.{Point, first_point, after, after_line, moved}
 use Rattle.dm_rule.specs.Parts.{Routes, lines_of, puts, packet_line, goes_out}
 use Rattle.dm_rule.specs.Homes.{Homes, is_for_home}
-use Rattle.dm_rule.proofs.Homes.{AtHome, homes_are}
+use Rattle.dm_rule.proofs.Homes.{IsHome, AtHome, homes_are}
 use Rattle.dm_rule.proofs.HomesStart.{start_at_home, Homes-start}
 use Rattle.dm_rule.proofs.HomesLabels.{SaidAt, label_home, RingsHome, is_still, rings_same, label_rings}
 use Rattle.dm_rule.proofs.HomesLists.{stands, all_stand, ListsHome, Old, lists_on, label_lists, put_lists, pair_set, are_for}
@@ -51,13 +51,13 @@ NoneReplaced = (r e : MsgId → ℕ) (s t : OneKernel) (l : Label) → kernel.st
 -- all that holds as long as nothing moves, with the receptions and entries so far
 pub record Home (r e : MsgId → ℕ) (pt : Point) : Type 0 where
   pub sound : Sound r e pt.kernel
-  pub at : AtHome pt.kernel pt.addresses
+  pub at : AtHome IsHome pt.kernel pt.addresses
   pub rings : RingsHome pt.view
   pub lists : ListsHome pt.kernel e pt.view
 
 pub homes_of : (r e : MsgId → ℕ) (pt : Point) → Home r e pt → Homes pt
 homes_of r e pt h = record {
-  home = homes_are pt.kernel pt.addresses h.at;
+  home = homes_are IsHome pt.kernel pt.addresses h.at;
   moves = h.rings.moves;
   ring = h.rings.ring;
   inbox = λ m. are_for pt.kernel e m (pt.view.inbox m) (h.lists.inbox m);
@@ -198,8 +198,8 @@ first_none (Some t) gs e = refl
 pub put_places : (s : OneKernel) (v : View) (a : Addresses) (from b : ℕ) (id : MsgId) (w : PlainWhat) (q : Pid) → addresses_after s v a (line.Put from b id (plain_kind w) q) ≡ a
 put_places s v a from b id w q = ap (given a) (first_none (v.told id) (own_gives s v a id q (plain_kind w)) (own_none s v a id q w))
 
-put_at_home : (s : OneKernel) (v : View) (a : Addresses) (from b : ℕ) (id : MsgId) (w : PlainWhat) (q : Pid) → AtHome s a → AtHome s (addresses_after s v a (line.Put from b id (plain_kind w) q))
-put_at_home s v a from b id w q h = subst (AtHome s) (sym (put_places s v a from b id w q)) h
+put_at_home : (s : OneKernel) (v : View) (a : Addresses) (from b : ℕ) (id : MsgId) (w : PlainWhat) (q : Pid) → AtHome IsHome s a → AtHome IsHome s (addresses_after s v a (line.Put from b id (plain_kind w) q))
+put_at_home s v a from b id w q h = subst (AtHome IsHome s) (sym (put_places s v a from b id w q)) h
 
 -- a routed message
 routed_home : (r e : MsgId → ℕ) (pt : Point) (id : MsgId) (m : PlainMessage) (b : ℕ) → pt.kernel.bag id ≡ Some m → b ≡ m.to.home → Home r e pt → Home r e (moved pt (line.Put pt.view.acting b id (plain_kind m.what) m.to) pt.kernel)
