@@ -60,3 +60,4 @@ pub mod TrailsPlaces
 pub mod TrailsLines
 pub mod TrailsPuts
 pub mod TrailsStart
+pub mod TrailsSteps
