@@ -61,3 +61,4 @@ pub mod TrailsLines
 pub mod TrailsPuts
 pub mod TrailsStart
 pub mod TrailsSteps
+pub mod TrailsSpares
