@@ -62,3 +62,4 @@ pub mod TrailsPuts
 pub mod TrailsStart
 pub mod TrailsSteps
 pub mod TrailsSpares
+pub mod TrailsLabels

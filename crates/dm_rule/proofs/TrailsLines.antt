@@ -30,7 +30,7 @@ use Rattle.dm_rule.proofs.TrailsPlaces.{Owned, Goes, Comes, Named, Links, Owns, 
 pub all_are : (s : OneKernel) (v : View) (a : Addresses) (t : Trails) → AddressesOn s a t → OwnOn v a t → AllAre s v a t
 all_are s v a t links own h q (Links e) = links h q e
 all_are s v a t links own h q (Owns (Goes i u is k told r)) = subst (λ (g : Holder). IsOn t q (a g)) (sym is) (subst (λ (p : Pid). IsOn t p (a (Receiver i))) r (own.receiver i u k told))
-all_are s v a t links own h q (Owns (Comes i u is told k r)) = subst (λ (g : Holder). IsOn t q (a g)) (sym is) (subst (λ (p : Pid). IsOn t p (a (Sender i))) r (own.sender i u told k))
+all_are s v a t links own h q (Owns (Comes i u is mine told k r)) = subst (λ (g : Holder). IsOn t q (a g)) (sym is) (subst (λ (p : Pid). IsOn t p (a (Sender i))) r (own.sender i u mine told k))
 
 pub links_are : (s : OneKernel) (v : View) (a : Addresses) (t : Trails) → AllAre s v a t → AddressesOn s a t
 links_are s v a t h g q e = h g q (Links e)
@@ -38,14 +38,14 @@ links_are s v a t h g q e = h g q (Links e)
 pub receivers_are : (s : OneKernel) (v : View) (a : Addresses) (t : Trails) → AllAre s v a t → (i : MsgId) (u : Told) → is_kernels i ≡ true → v.told i ≡ Some u → IsOn t u.receiver (a (Receiver i))
 receivers_are s v a t h i u k told = h (Receiver i) u.receiver (Owns (Goes i u refl k told refl))
 
-pub senders_are : (s : OneKernel) (v : View) (a : Addresses) (t : Trails) → AllAre s v a t → (i : MsgId) (u : Told) → v.told i ≡ Some u → u.kind ≡ kind.Migrate → IsOn t manager (a (Sender i))
-senders_are s v a t h i u told k = h (Sender i) manager (Owns (Comes i u refl told k refl))
+pub senders_are : (s : OneKernel) (v : View) (a : Addresses) (t : Trails) → AllAre s v a t → (i : MsgId) (u : Told) → is_kernels i ≡ true → v.told i ≡ Some u → u.kind ≡ kind.Migrate → IsOn t manager (a (Sender i))
+senders_are s v a t h i u mine told k = h (Sender i) manager (Owns (Comes i u refl mine told k refl))
 
 -- what was told stays
 told_back : (s : OneKernel) (v w : View) (h : Holder) (q : Pid) → ((i : MsgId) → w.told i ≡ v.told i) → Named s w h q → Named s v h q
 told_back s v w h q same (Links e) = Links e
 told_back s v w h q same (Owns (Goes i u is k told r)) = Owns (Goes i u is k (sym (same i) ∙ told) r)
-told_back s v w h q same (Owns (Comes i u is told k r)) = Owns (Comes i u is (sym (same i) ∙ told) k r)
+told_back s v w h q same (Owns (Comes i u is mine told k r)) = Owns (Comes i u is mine (sym (same i) ∙ told) k r)
 
 pub all_as : (s : OneKernel) (v w : View) (a : Addresses) (t : Trails) → ((i : MsgId) → w.told i ≡ v.told i) → AllAre s v a t → AllAre s w a t
 all_as s v w a t same h g q e = h g q (told_back s v w g q same e)
@@ -58,12 +58,12 @@ receiver_of_holder _ = None
 pub unnamed_receiver : (s : OneKernel) (v : View) (i : MsgId) (q : Pid) → s.bag i ≡ None → v.told i ≡ None → Named s v (Receiver i) q → ⊥
 unnamed_receiver s v i q bag told (Links e) = let f : None ≡ Some q = sym (ap to_of bag) ∙ e in cc
 unnamed_receiver s v i q bag told (Owns (Goes j u is k was r)) = let ij : i ≡ j = cc in let f : None ≡ Some u = sym told ∙ ap v.told ij ∙ was in cc
-unnamed_receiver s v i q bag told (Owns (Comes j u is was k r)) = cc
+unnamed_receiver s v i q bag told (Owns (Comes j u is mine was k r)) = cc
 
 pub unnamed_sender : (s : OneKernel) (v : View) (i : MsgId) (q : Pid) → s.bag i ≡ None → v.told i ≡ None → Named s v (Sender i) q → ⊥
 unnamed_sender s v i q bag told (Links e) = let f : None ≡ Some q = sym (ap sender_of bag) ∙ e in cc
 unnamed_sender s v i q bag told (Owns (Goes j u is k was r)) = cc
-unnamed_sender s v i q bag told (Owns (Comes j u is was k r)) = let ij : i ≡ j = cc in let f : None ≡ Some u = sym told ∙ ap v.told ij ∙ was in cc
+unnamed_sender s v i q bag told (Owns (Comes j u is mine was k r)) = let ij : i ≡ j = cc in let f : None ≡ Some u = sym told ∙ ap v.told ij ∙ was in cc
 
 -- a message that is forwarded, and the update for its sender
 back_gets : (s : OneKernel) (v : View) (a : Addresses) (t : Trails) (id : MsgId) (b : Bool) → s.bag (own_id v) ≡ None → v.told (own_id v) ≡ None → AllGet s v t (tells_back v a id b)
@@ -123,7 +123,7 @@ leads_names s (Answer n) p e = e
 leads_where : (s : OneKernel) (v : View) (h : Holder) (p q : Pid) → leads_to s h ≡ Some p → Named s v h q → p ≡ q
 leads_where s v h p q e (Links f) = let g : Some p ≡ Some q = sym (leads_names s h p e) ∙ f in cc
 leads_where s v h p q e (Owns (Goes i u is k told r)) = absurd (let f : None ≡ Some p = sym (ap (leads_to s) is) ∙ e in cc)
-leads_where s v h p q e (Owns (Comes i u is told k r)) = absurd (let f : None ≡ Some p = sym (ap (leads_to s) is) ∙ e in cc)
+leads_where s v h p q e (Owns (Comes i u is mine told k r)) = absurd (let f : None ≡ Some p = sym (ap (leads_to s) is) ∙ e in cc)
 
 behind_where : (s : OneKernel) (a : Addresses) (q p : Pid) (n : ℕ) (h : Holder) → is_behind s a q p n h ≡ true → leads_to s h ≡ Some p
 behind_where s a q p n h e =

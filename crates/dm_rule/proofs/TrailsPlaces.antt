@@ -89,7 +89,7 @@ holder_is (Answer n) (Answer m) e = ap Answer (eq_is n m e)
 -- whose address a holder has, of the kernel without machines and of kernels' own messages
 pub data Owned (v : View) (h : Holder) (q : Pid) : Type 0 where
   Goes : (i : MsgId) (u : Told) → h ≡ Receiver i → is_kernels i ≡ true → v.told i ≡ Some u → u.receiver ≡ q → Owned v h q
-  Comes : (i : MsgId) (u : Told) → h ≡ Sender i → v.told i ≡ Some u → u.kind ≡ kind.Migrate → manager ≡ q → Owned v h q
+  Comes : (i : MsgId) (u : Told) → h ≡ Sender i → is_kernels i ≡ true → v.told i ≡ Some u → u.kind ≡ kind.Migrate → manager ≡ q → Owned v h q
 
 pub data Named (s : OneKernel) (v : View) (h : Holder) (q : Pid) : Type 0 where
   Links : names s h ≡ Some q → Named s v h q

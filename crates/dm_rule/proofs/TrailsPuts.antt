@@ -37,14 +37,14 @@ put_named s v x y id k q h r none (Owns (Goes i u is own told to)) = elim (cases
       inr (inl (is ∙ ap Receiver (sym at), ap (λ (z : Told). z.receiver) f ∙ to))
   | inr apart ↦ inl (Owns (Goes i u is own (sym (put_told_off v x y id i k q apart) ∙ told) to))
 ]
-put_named s v x y id k q h r none (Owns (Comes i u is told move to)) = elim (cases_Bool (id_eq id i)) [
+put_named s v x y id k q h r none (Owns (Comes i u is mine told move to)) = elim (cases_Bool (id_eq id i)) [
   | inl same ↦
       let at : id ≡ i = id_eq-is id i same in
       let w : Told = record { kind = k; receiver = q; about = v.topic } in
       let e : Some w ≡ Some u = sym (put_at v x y id k q ∙ ap (λ (o : Option Told). Some (view.first_told o w)) none) ∙ ap (λ (j : MsgId). (after_put v x y id k q).told j) at ∙ told in
       let f : w ≡ u = cc in
       inr (inr (is ∙ ap Sender (sym at), ap (λ (z : Told). z.kind) f ∙ move, to))
-  | inr apart ↦ inl (Owns (Comes i u is (sym (put_told_off v x y id i k q apart) ∙ told) move to))
+  | inr apart ↦ inl (Owns (Comes i u is mine (sym (put_told_off v x y id i k q apart) ∙ told) move to))
 ]
 
 -- what a kernel's own message gets counts for nothing before
@@ -241,7 +241,7 @@ routed_named s v x y id k q h r other plain none (Owns (Goes i u is own told to)
   | inl same ↦ absurd (false≢true (sym other ∙ ap is_kernels (id_eq-is id i same) ∙ own))
   | inr apart ↦ Owns (Goes i u is own (sym (put_told_off v x y id i k q apart) ∙ told) to)
 ]
-routed_named s v x y id k q h r other plain none (Owns (Comes i u is told move to)) = elim (put_named s v x y id k q h r none (Owns (Comes i u is told move to))) [
+routed_named s v x y id k q h r other plain none (Owns (Comes i u is mine told move to)) = elim (put_named s v x y id k q h r none (Owns (Comes i u is mine told move to))) [
   | inl old ↦ old
   | inr new ↦ elim new [
       | inl way ↦ absurd (let f : Receiver id ≡ Sender i = sym way.0 ∙ is in cc)

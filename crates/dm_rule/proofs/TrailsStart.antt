@@ -63,7 +63,7 @@ trailed_start b valid = record {
   links = λ h q e. home_on q ((first_point b).addresses h) ((Homes-start b valid).home h q e);
   own = record {
     receiver = λ i u k e. absurd (let f : None ≡ Some u = e in cc);
-    sender = λ i u e k. absurd (let f : None ≡ Some u = e in cc);
+    sender = λ i u m e k. absurd (let f : None ≡ Some u = e in cc);
     about = λ i u p m c e f. absurd (let g : None ≡ Some u = e in cc);
     topic = λ p m c e. cc;
   };

@@ -132,7 +132,7 @@ AddressesOn s a t = (h : Holder) (q : Pid) → names s h ≡ Some q → IsOn t q
 -- so are those of a kernel's own messages: where one goes, for a request to move a process who is told, and what an update says
 pub record OwnOn (v : View) (a : Addresses) (t : Trails) : Type 0 where
   pub receiver : (i : MsgId) (u : Told) → is_kernels i ≡ true → v.told i ≡ Some u → IsOn t u.receiver (a (Receiver i))
-  pub sender : (i : MsgId) (u : Told) → v.told i ≡ Some u → u.kind ≡ kind.Migrate → IsOn t manager (a (Sender i))
+  pub sender : (i : MsgId) (u : Told) → is_kernels i ≡ true → v.told i ≡ Some u → u.kind ≡ kind.Migrate → IsOn t manager (a (Sender i))
   pub about : (i : MsgId) (u : Told) (p : Pid) (m c : ℕ) → v.told i ≡ Some u → u.about ≡ view.Place p m c → slice_get (t p) c ≡ Some m
   pub topic : (p : Pid) (m c : ℕ) → v.topic ≡ view.Place p m c → slice_get (t p) c ≡ Some m
 
