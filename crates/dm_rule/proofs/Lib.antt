@@ -63,3 +63,4 @@ pub mod TrailsStart
 pub mod TrailsSteps
 pub mod TrailsSpares
 pub mod TrailsLabels
+pub mod TrailsTreads

@@ -205,7 +205,7 @@ follows_acting v a kind.Moved = refl
 follows_acting v a kind.CallOff = refl
 follows_acting v a kind.Bury = refl
 
-proto_known : (v : View) (o : Option Told) (m : ℕ) (p : Pid) → (after_proto v o).known m p ≡ v.known m p
+pub proto_known : (v : View) (o : Option Told) (m : ℕ) (p : Pid) → (after_proto v o).known m p ≡ v.known m p
 proto_known v None m p = refl
 proto_known v (Some t) m p = follows_known v t.about t.kind m p
 

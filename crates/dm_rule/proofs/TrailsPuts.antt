@@ -176,7 +176,7 @@ told_again v x y id k q u told i = elim (cases_Bool (id_eq id i)) [
 ]
 
 -- a message of the bag
-abbrev is_own : MessageKind → Bool
+abbrev pub is_own : MessageKind → Bool
 is_own kind.User = false
 is_own kind.Stop = false
 is_own kind.Resume = false
@@ -253,3 +253,17 @@ pub put_routed : (s : OneKernel) (v : View) (a : Addresses) (t : Trails) (x y : 
     → AllAre s (after_put v x y id k q) (given a (first_gives (v.told id) (own_gives s v a id q k))) t
 put_routed s v a t x y id k q other plain none h g r e =
     subst (λ (gs : List Gets). IsOn t r (given a gs g)) (sym (ap (λ (o : Option Told). first_gives o (own_gives s v a id q k)) none ∙ plain_gives s v a id q k plain)) (h g r (routed_named s v x y id k q g r other plain none e))
+
+-- what is told of places, with a put
+about_by : (t : Trails) (o : Option Told) (w u : Told) (p : Pid) (m c : ℕ) → Some (view.first_told o w) ≡ Some u → u.about ≡ view.Place p m c → (o ≡ Some u → slice_get (t p) c ≡ Some m) → (w.about ≡ view.Place p m c → slice_get (t p) c ≡ Some m) → slice_get (t p) c ≡ Some m
+about_by t None w u p m c e f was now = let g : w ≡ u = cc in now (ap (λ (x : Told). x.about) g ∙ f)
+about_by t (Some x) w u p m c e f was now = was e
+
+pub about_put : (v : View) (t : Trails) (x y : ℕ) (id : MsgId) (k : MessageKind) (q : Pid) → ((i : MsgId) (u : Told) (p : Pid) (m c : ℕ) → v.told i ≡ Some u → u.about ≡ view.Place p m c → slice_get (t p) c ≡ Some m)
+    → ((p : Pid) (m c : ℕ) → v.topic ≡ view.Place p m c → slice_get (t p) c ≡ Some m) → (i : MsgId) (u : Told) (p : Pid) (m c : ℕ) → (after_put v x y id k q).told i ≡ Some u → u.about ≡ view.Place p m c → slice_get (t p) c ≡ Some m
+about_put v t x y id k q about topic i u p m c told e = elim (cases_Bool (id_eq id i)) [
+  | inl same ↦
+      let at : id ≡ i = id_eq-is id i same in
+      about_by t (v.told id) (record { kind = k; receiver = q; about = v.topic }) u p m c (sym (put_at v x y id k q) ∙ ap (λ (j : MsgId). (after_put v x y id k q).told j) at ∙ told) e (λ was. about id u p m c was e) (λ now. topic p m c now)
+  | inr apart ↦ about i u p m c (sym (put_told_off v x y id i k q apart) ∙ told) e
+]

@@ -110,7 +110,7 @@ born_trail v w t p q known unknown home stood h =
     set_trail v w t p q Here known (λ at on. trail_made v w t p at unknown (λ c m e. home_alone v t p on stood c m e ∙ home) on) h
 
 -- step 6: what came for it is sent on, and its trail is longer by its destination
-sent_on_at : (v : View) (t : Trails) (p : Pid) (n d : ℕ) → v.known v.acting p ≡ Frozen d → trails_after v t (line.SentOn p n) p ≡ t p ++ d ∷ []
+pub sent_on_at : (v : View) (t : Trails) (p : Pid) (n d : ℕ) → v.known v.acting p ≡ Frozen d → trails_after v t (line.SentOn p n) p ≡ t p ++ d ∷ []
 sent_on_at v t p n d holds = ap (λ (c : Bool). if c then t p ++ destination (v.known v.acting p) else t p) (pid_eq-same p) ∙ ap (λ (x : Known). t p ++ destination x) holds
 
 pub sent_on_grows : (v : View) (t : Trails) (p : Pid) (n d : ℕ) → v.known v.acting p ≡ Frozen d → (q : Pid) → (ds : List ℕ) × (trails_after v t (line.SentOn p n) q ≡ t q ++ ds)
