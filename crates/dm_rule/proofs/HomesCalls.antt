@@ -31,9 +31,9 @@ use Rattle.dm_onekernel.specs.Step as kernel
 use Rattle.dm_laws.proofs.Equal.{pid_eq-same, id_eq-same}
 use Rattle.dm_laws.proofs.Steps.{bind-is}
 use Rattle.dm_rule.specs.View.{View}
-use Rattle.dm_rule.specs.Addresses.{Addresses, Gets, gets, given, Slot, Owner, Receiver, Sender, unmoved, here, encloses, fills, fills_by, sends_what, owner_in}
+use Rattle.dm_rule.specs.Addresses.{Addresses, Gets, gets, given, Slot, Owner, Receiver, Sender, here, encloses, fills, fills_by, sends_what, owner_in}
 use Rattle.dm_rule.specs.Homes.{links_in}
-use Rattle.dm_rule.proofs.Homes.{place_as, pid_as, acts_at, HomeProcess, HomeMessage, AtHome}
+use Rattle.dm_rule.proofs.Homes.{place_as, pid_as, HomeProcess, HomeMessage, AtHome}
 use Rattle.dm_rule.proofs.HomesSlots.{set_link, emptied_link, without_replies_link, past_call}
 use Rattle.dm_rule.proofs.HomesRows.{SameProcess, SameMessage, SameServers, running_home, encloses_servers, encloses_process, encloses_message, encloses_at}
 

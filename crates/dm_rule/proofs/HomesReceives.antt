@@ -32,7 +32,7 @@ use Rattle.dm_rule.specs.View.{View}
 use Rattle.dm_rule.specs.Addresses as addresses
 use Rattle.dm_rule.specs.Addresses.{Addresses, Gets, gets, given, gives, Slot, Owner, Receiver, Sender, Enclosed, unmoved, here, fills, fills_by, made, sends_what, receives_links, receives_what, slot_after, owner_in}
 use Rattle.dm_rule.specs.Homes.{links_in}
-use Rattle.dm_rule.proofs.Homes.{place_as, pid_as, acts_at, HomeProcess, AtHome}
+use Rattle.dm_rule.proofs.Homes.{place_as, pid_as, HomeProcess, AtHome}
 use Rattle.dm_rule.proofs.HomesRows.{at_home_process, at_home_out, home_goes, alive_on}
 use Rattle.dm_rule.proofs.HomesSteps.{OnlySlots, only_none}
 

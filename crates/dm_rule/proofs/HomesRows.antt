@@ -17,7 +17,7 @@ use Rattle.dm_laws.proofs.Equal.{pid_eq-is, id_eq-is, id_eq-same}
 use Rattle.dm_laws.proofs.Movers.{sent_at, sent_off, stayed}
 use Rattle.dm_laws.proofs.Steps.{bind-is}
 use Rattle.dm_rule.specs.Addresses.{Addresses, given, Slot, Owner, Receiver, Sender, Enclosed, Child, Name, Answer, encloses}
-use Rattle.dm_rule.proofs.Homes.{place_as, pid_as, acts_at, HomeProcess, HomeMessage, AtHome}
+use Rattle.dm_rule.proofs.Homes.{place_as, HomeProcess, HomeMessage, AtHome}
 
 -- a process's addresses stay, and a message's
 pub record SameProcess (a b : Addresses) (p : Pid) : Type 0 where

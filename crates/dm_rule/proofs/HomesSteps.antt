@@ -26,7 +26,7 @@ use Rattle.dm_laws.proofs.Steps.{bind-is, when-is}
 use Rattle.dm_rule.specs.View.{View}
 use Rattle.dm_rule.specs.Addresses as addresses
 use Rattle.dm_rule.specs.Addresses.{Addresses, Gets, gets, given, gives, Slot, Owner, Receiver, Sender, Enclosed, unmoved, here, fills, fills_by, made, sends_what, receives_links, receives_what, slot_after, owner_in}
-use Rattle.dm_rule.proofs.Homes.{place_as, pid_as, acts_at, AtHome}
+use Rattle.dm_rule.proofs.Homes.{AtHome}
 use Rattle.dm_rule.proofs.HomesRows.{SameProcess, SameMessage, SameServers, running_home, at_home_process, at_home_sends, home_goes, at_home_goes, alive_on}
 use Rattle.dm_rule.proofs.HomesCalls.{Nexts, next_home, gives_by}
 

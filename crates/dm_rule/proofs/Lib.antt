@@ -64,3 +64,4 @@ pub mod TrailsSteps
 pub mod TrailsSpares
 pub mod TrailsLabels
 pub mod TrailsTreads
+pub mod TrailsFound

@@ -1,6 +1,5 @@
 -- Each label keeps each address on its trail.
-use Rattle.std.proofs.Common.{◌≡◌, ℕ, ◌+◌, Bool, true, false, List, refl, ap, ◌∙◌, sym, subst}
-use Rattle.std.specs.Prelude.{⊤, slice_get}
+use Rattle.std.proofs.Common.{◌≡◌, true, refl, ap, ◌∙◌, sym, subst}
 use Rattle.std.specs.declared.option.Option.{Option}
 use Rattle.std.specs.declared.option.Option.TheVariants.{None, Some}
 use Rattle.dm_link.specs.declared.Pid.{Pid}
@@ -8,14 +7,12 @@ use Rattle.dm_link.specs.Names.{Place}
 use Rattle.dm_message.specs.declared.MsgId.{MsgId}
 use Rattle.dm_message.specs.declared.kind.MessageKind.{MessageKind}
 use Rattle.dm_message.specs.declared.kind.MessageKind.TheVariants as kind
-use Rattle.dm_message.specs.Plain.{PlainMessage}
 use Rattle.dm_onekernel.specs.Boot.{manager}
 use Rattle.dm_onekernel.specs.declared.label.Label.{Label}
 use Rattle.dm_onekernel.specs.declared.label.Label.TheVariants as label
 use Rattle.dm_onekernel.specs.Kernel.{OneKernel}
 use Rattle.dm_onekernel.specs.Step as kernel
-use Rattle.dm_rule.specs.View as view
-use Rattle.dm_rule.specs.View.{View, Told, About, Here, is_kernels, after_label, served_told, kills, handled, dropped_for, receiver_of}
+use Rattle.dm_rule.specs.View.{View, Told, Here, is_kernels, after_label, served_told, kills, handled, dropped_for, receiver_of}
 use Rattle.dm_rule.specs.Addresses.{Addresses, Receiver, Sender, given, gives, here}
 use Rattle.dm_rule.specs.Homes.{ascends, to_of}
 use Rattle.dm_rule.specs.Phases.{Phase, Rests, IsIn, knows}

@@ -1,30 +1,27 @@
 -- Lines that give addresses beside the kernel keep each on its trail: a message that is forwarded, messages that are sent on, an
 -- update, and the first put of a kernel's own message.
-use Rattle.std.proofs.Common.{◌≡◌, ◌≢◌, ◌⊎◌, ℕ, zero, suc, ◌+◌, ◌≤◌, ◌==◌, ◌&&◌, Bool, true, false, List, [], ◌∷◌, ◌++◌, length, refl, ap, ◌∙◌, sym, subst, inl, inr, arith, nat_lt}
-use Rattle.std.specs.Prelude.{⊤, if◌then◌else◌, slice_get}
+use Rattle.std.proofs.Common.{◌≡◌, ℕ, ◌+◌, ◌≤◌, ◌&&◌, Bool, true, false, List, [], ◌∷◌, ◌++◌, refl, ap, ◌∙◌, sym, subst, inl, inr, arith, nat_lt}
+use Rattle.std.specs.Prelude.{if◌then◌else◌, slice_get}
 use Rattle.std.specs.declared.option.Option.{Option}
 use Rattle.std.specs.declared.option.Option.TheVariants.{None, Some}
 use Rattle.std.proofs.lemmas.Bool.{cases_Bool, false≢true}
 use Rattle.dm_link.specs.declared.Pid.{Pid}
-use Rattle.dm_link.specs.Names.{Place, pid_eq, pid_of}
+use Rattle.dm_link.specs.Names.{Place}
 use Rattle.dm_message.specs.declared.MsgId.{MsgId}
 use Rattle.dm_message.specs.Ids.{id_eq}
-use Rattle.dm_message.specs.declared.kind.MessageKind.{MessageKind}
 use Rattle.dm_message.specs.declared.kind.MessageKind.TheVariants as kind
 use Rattle.dm_onekernel.specs.Boot.{manager}
 use Rattle.dm_onekernel.specs.Kernel.{OneKernel}
-use Rattle.dm_laws.proofs.Equal.{pid_eq-is, id_eq-is, id_eq-same}
+use Rattle.dm_laws.proofs.Equal.{pid_eq-is, id_eq-same}
 use Rattle.dm_rule.specs.View as view
 use Rattle.dm_rule.specs.View.{View, Told, About, NothingElse, Target, Of, Known, Unknown, Here, Frozen, Incoming, Forward, Ended, is_kernels, own_id, after_put}
-use Rattle.dm_rule.specs.Addresses.{Addresses, Holder, Slot, Owner, Receiver, Sender, Enclosed, Child, Name, Answer, Gets, gets, given, unmoved, place_known, follows, all_follow, is_told_back, tells_back, forwards, place_told, belongs_to, leads_to, is_pid, is_behind, updated_to, updated, own_gives, first_gives}
+use Rattle.dm_rule.specs.Addresses.{Addresses, Holder, Slot, Owner, Receiver, Sender, Enclosed, Child, Name, Answer, given, place_known, all_follow, is_told_back, tells_back, forwards, place_told, belongs_to, leads_to, is_pid, is_behind, updated_to, updated}
 use Rattle.dm_rule.specs.Homes.{names, to_of, sender_of}
 use Rattle.dm_rule.specs.Spots.{times}
 use Rattle.dm_rule.specs.Trails.{Trails, Trail, IsOn, AddressesOn, OwnOn}
 use Rattle.dm_rule.proofs.Once.{one_of}
 use Rattle.dm_rule.proofs.Lines.{parts}
-use Rattle.dm_rule.proofs.States.{put_told_off}
-use Rattle.dm_rule.proofs.PhasesLines.{put_at}
-use Rattle.dm_rule.proofs.TrailsPlaces.{Owned, Goes, Comes, Named, Links, Owns, AllAre, AllGet, given_on, all_both, all_grown, on_grown, known_on}
+use Rattle.dm_rule.proofs.TrailsPlaces.{Goes, Comes, Named, Links, Owns, AllAre, AllGet, given_on, all_grown}
 
 -- all of them are on their trails, and each kind of holder's are
 pub all_are : (s : OneKernel) (v : View) (a : Addresses) (t : Trails) → AddressesOn s a t → OwnOn v a t → AllAre s v a t

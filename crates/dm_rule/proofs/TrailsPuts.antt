@@ -1,6 +1,6 @@
 -- Puts keep each address on its trail.
-use Rattle.std.proofs.Common.{◌≡◌, ◌⊎◌, ℕ, zero, suc, ◌+◌, Bool, true, false, List, [], ◌∷◌, refl, ap, ◌∙◌, sym, subst, inl, inr, arith}
-use Rattle.std.specs.Prelude.{⊤, if◌then◌else◌, slice_get}
+use Rattle.std.proofs.Common.{◌≡◌, ◌⊎◌, ℕ, suc, ◌+◌, Bool, true, false, List, [], ◌∷◌, refl, ap, ◌∙◌, sym, subst, inl, inr, arith}
+use Rattle.std.specs.Prelude.{if◌then◌else◌, slice_get}
 use Rattle.std.specs.declared.option.Option.{Option}
 use Rattle.std.specs.declared.option.Option.TheVariants.{None, Some}
 use Rattle.std.proofs.lemmas.Bool.{cases_Bool, false≢true}
@@ -21,7 +21,7 @@ use Rattle.dm_rule.specs.Phases.{is_between}
 use Rattle.dm_rule.specs.Trails.{Trails, Trail, IsOn}
 use Rattle.dm_rule.proofs.States.{put_told_off}
 use Rattle.dm_rule.proofs.PhasesLines.{put_at}
-use Rattle.dm_rule.proofs.TrailsPlaces.{Owned, Goes, Comes, Named, Links, Owns, AllAre, AllGet, given_on}
+use Rattle.dm_rule.proofs.TrailsPlaces.{Goes, Comes, Named, Links, Owns, AllAre, AllGet, given_on}
 use Rattle.dm_rule.proofs.TrailsLines.{unnamed_receiver, unnamed_sender}
 
 -- the first put of a kernel's own message

@@ -1,5 +1,5 @@
 -- Before the first line each process's trail is its home, and each address names it.
-use Rattle.std.proofs.Common.{◌≡◌, ◌≢◌, ℕ, zero, suc, ◌+◌, ◌==◌, ◌&&◌, Bool, true, false, List, [], ◌∷◌, refl, ap, ◌∙◌, sym, subst, arith}
+use Rattle.std.proofs.Common.{◌≡◌, ◌≢◌, ℕ, zero, suc, ◌==◌, ◌&&◌, Bool, true, false, [], ◌∷◌, refl, ap, ◌∙◌, sym, subst, arith}
 use Rattle.std.specs.Prelude.{if◌then◌else◌, slice_get}
 use Rattle.std.specs.declared.option.Option.TheVariants.{None, Some}
 use Rattle.std.proofs.lemmas.Bool.Decides.{nat_tests}
@@ -10,8 +10,7 @@ use Rattle.dm_onekernel.specs.Boot.{IsValid}
 use Rattle.dm_rule.specs.View.{Known, Unknown, Here, Forward, first_view}
 use Rattle.dm_rule.specs.Addresses.{unmoved}
 use Rattle.dm_rule.specs.Point.{first_point}
-use Rattle.dm_rule.specs.Phases.{Phase, Nowhere, Rests}
-use Rattle.dm_rule.specs.Trails.{Trail, Stood, IsOn, Trailed, first_trails, place_in, next_in, rest_of}
+use Rattle.dm_rule.specs.Trails.{Trail, Stood, IsOn, Trailed, first_trails}
 use Rattle.dm_rule.proofs.HomesStart.{Homes-start}
 use Rattle.dm_rule.proofs.PhasesStart.{starts, start_known, start_phase}
 

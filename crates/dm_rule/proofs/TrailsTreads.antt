@@ -1,10 +1,9 @@
 -- Each line keeps the trails, what machines know, and all addresses in agreement, where it fits.
-use Rattle.std.proofs.Common.{◌≡◌, ◌≢◌, ℕ, ◌+◌, ◌≤◌, Bool, true, false, List, [], ◌∷◌, ◌++◌, length, refl, ap, ◌∙◌, sym, subst}
+use Rattle.std.proofs.Common.{◌≡◌, ◌≢◌, ℕ, ◌+◌, ◌≤◌, Bool, true, false, List, ◌++◌, length, refl, ap, ◌∙◌, sym, subst}
 use Rattle.std.specs.Prelude.{⊤, ◌==◌, not, filter, slice_get}
 use Rattle.std.specs.declared.option.Option.{Option}
 use Rattle.std.specs.declared.option.Option.TheVariants.{None, Some}
 use Rattle.dm_link.specs.declared.Pid.{Pid}
-use Rattle.dm_link.specs.Names.{Place}
 use Rattle.dm_message.specs.declared.MsgId.{MsgId}
 use Rattle.dm_message.specs.declared.kind.MessageKind.{MessageKind}
 use Rattle.dm_message.specs.declared.kind.MessageKind.TheVariants as kind
@@ -22,7 +21,7 @@ use Rattle.dm_rule.specs.declared.line.Stage.{Stage}
 use Rattle.dm_rule.specs.declared.line.Stage.TheVariants as stage
 use Rattle.dm_rule.specs.View as view
 use Rattle.dm_rule.specs.View.{View, Told, About, Known, Unknown, Here, Frozen, Forward, is_kernels, own_id, view_after, after_label, after_head, after_put, after_proto, handled, taken_id, queued_for, held_for, forwarded_for, forward_about, served_told, kills, receiver_of}
-use Rattle.dm_rule.specs.Addresses.{Addresses, Receiver, Sender, given, gives, forwards, all_follow, own_gives, first_gives, addresses_after}
+use Rattle.dm_rule.specs.Addresses.{Addresses, Receiver, Sender, given, forwards, all_follow, own_gives, first_gives, addresses_after}
 use Rattle.dm_rule.specs.Homes.{ascends}
 use Rattle.dm_rule.specs.Phases.{Nowhere, Moves, IsIn, is_restart, is_early}
 use Rattle.dm_rule.specs.Point.{Point, moved, after_line}
