@@ -144,7 +144,7 @@ acting_dropped : (v : View) (id : MsgId) (o : Option Pid) → (view.dropped_for 
 acting_dropped v id None = refl
 acting_dropped v id (Some p) = refl
 
-acting_label : (v : View) (l : Label) → (after_label v l).acting ≡ v.acting
+pub acting_label : (v : View) (l : Label) → (after_label v l).acting ≡ v.acting
 acting_label v (label.Dropped id) = acting_dropped (handled v id) id (view.receiver_of (v.told id))
 acting_label v (label.Served id) = acting_told (handled v id) (v.told id)
 acting_label v (label.Ran p k) = refl

@@ -64,4 +64,5 @@ pub mod TrailsSteps
 pub mod TrailsSpares
 pub mod TrailsLabels
 pub mod TrailsTreads
+pub mod TrailsWithin
 pub mod TrailsFound

@@ -209,7 +209,7 @@ pub proto_known : (v : View) (o : Option Told) (m : ℕ) (p : Pid) → (after_pr
 proto_known v None m p = refl
 proto_known v (Some t) m p = follows_known v t.about t.kind m p
 
-proto_acting : (v : View) (o : Option Told) → (after_proto v o).acting ≡ v.acting
+pub proto_acting : (v : View) (o : Option Told) → (after_proto v o).acting ≡ v.acting
 proto_acting v None = refl
 proto_acting v (Some t) = follows_acting v t.about t.kind
 
