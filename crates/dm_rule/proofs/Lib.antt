@@ -66,3 +66,4 @@ pub mod TrailsLabels
 pub mod TrailsTreads
 pub mod TrailsWithin
 pub mod TrailsFound
+pub mod TrailsAlong

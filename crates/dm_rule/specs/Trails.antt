@@ -22,6 +22,7 @@ use Rattle.dm_rule.specs.Homes.{names}
 use Rattle.dm_rule.specs.Point.{Point, first_point, after_line}
 use Rattle.dm_rule.specs.Parts.{Spelled}
 use Rattle.dm_rule.specs.Rule.{group_of}
+use Rattle.dm_rule.specs.Laws.{IsStep}
 use Rattle.dm_rule.specs.Phases.{Phase, Nowhere, Rests, Over, Moves, is_restart}
 
 -- the machines that a process has been on, in order: at place c the one where it was after c moves. From the moment that its
@@ -159,7 +160,7 @@ leads v p (suc n) c m = leads_on (v.known m p) c (leads v p n)
 -- the rule leads from a point and its trails to others, group by group
 abbrev pub LeadsAlong : Boot → Trodden → List Step → Trodden → Type 0
 LeadsAlong b x [] end = x ≡ end
-LeadsAlong b x (e ∷ es) end = (w : Spelled) × (y : Trodden) × (group_of b x.point e ≡ Some w) × (along x w.lines ≡ Some y) × LeadsAlong b y es end
+LeadsAlong b x (e ∷ es) end = (w : Spelled) × (y : Trodden) × IsStep x.point.kernel.machines e × (group_of b x.point e ≡ Some w) × (along x w.lines ≡ Some y) × LeadsAlong b y es end
 
 -- wherever the rule leads, each address names a machine at its place of the trail of its process, and from there the forwards
 -- lead to the process in fewer steps than there are machines
