@@ -67,3 +67,4 @@ pub mod TrailsTreads
 pub mod TrailsWithin
 pub mod TrailsFound
 pub mod TrailsAlong
+pub mod TrailsNet
