@@ -68,3 +68,4 @@ pub mod TrailsWithin
 pub mod TrailsFound
 pub mod TrailsAlong
 pub mod TrailsNet
+pub mod TrailsAsked

@@ -125,7 +125,7 @@ free_lines pt (Again i b) ls h is = absurd h
 free_lines pt (Owns k q b) ls h is = absurd h
 free_lines pt (Transmits a b l) ls h is = let f : packet_line pt.view a b l ∷ [] ≡ ls = cc in subst (λ (x : List Line). are_free x ≡ true) f refl
 
-free_both : (xs ys : List Line) → are_free xs ≡ true → are_free ys ≡ true → are_free (xs ++ ys) ≡ true
+pub free_both : (xs ys : List Line) → are_free xs ≡ true → are_free ys ≡ true → are_free (xs ++ ys) ≡ true
 free_both [] ys e f = f
 free_both (x ∷ xs) ys e f = let z = both (is_free x) (are_free xs) e in and_true (is_free x) (are_free (xs ++ ys)) z.0 (free_both xs ys z.1 f)
 

@@ -267,3 +267,10 @@ about_put v t x y id k q about topic i u p m c told e = elim (cases_Bool (id_eq 
       about_by t (v.told id) (record { kind = k; receiver = q; about = v.topic }) u p m c (sym (put_at v x y id k q) ∙ ap (λ (j : MsgId). (after_put v x y id k q).told j) at ∙ told) e (λ was. about id u p m c was e) (λ now. topic p m c now)
   | inr apart ↦ about i u p m c (sym (put_told_off v x y id i k q apart) ∙ told) e
 ]
+
+-- the places of a request to move a child
+pub migrate_to : (s : OneKernel) (v : View) (a : Addresses) (t : Trails) (id : MsgId) (q : Pid) (n : ℕ) → child_number s q ≡ Some n → IsOn t q (a (Child n)) → IsOn t q (given a (own_gives s v a id q kind.Migrate) (Receiver id))
+migrate_to s v a t id q n child on = subst (IsOn t q) (sym (ap (λ (c : Bool). if c then place_of_child a (child_number s q) else a (Receiver id)) (id_eq-same id) ∙ ap (place_of_child a) child)) on
+
+pub migrate_from : (s : OneKernel) (v : View) (a : Addresses) (t : Trails) (id : MsgId) (q : Pid) → v.acting ≡ 0 → Trail v t manager → IsOn t manager (given a (own_gives s v a id q kind.Migrate) (Sender id))
+migrate_from s v a t id q first trail = subst (IsOn t manager) (sym (ap (λ (c : Bool). if c then unmoved v.acting else a (Sender id)) (id_eq-same id) ∙ ap unmoved first)) trail.begins
