@@ -1,21 +1,17 @@
 -- Along lines that fit, and along runs whose groups' lines do.
-use Rattle.std.proofs.Common.{◌≡◌, ◌≢◌, ℕ, suc, ◌<◌, true, List, [], ◌∷◌, refl, ap, subst}
+use Rattle.std.proofs.Common.{◌≡◌, ℕ, List, [], ◌∷◌, subst}
 use Rattle.std.specs.Prelude.{⊤}
 use Rattle.std.specs.declared.option.Option.TheVariants.{Some}
-use Rattle.dm_link.specs.declared.Pid.{Pid}
 use Rattle.dm_onekernel.specs.declared.boot.Boot.{Boot}
 use Rattle.dm_onekernel.specs.Boot.{IsValid}
 use Rattle.dm_schedule.specs.declared.Step.{Step}
 use Rattle.dm_laws.proofs.Steps.{bind-is}
 use Rattle.dm_rule.specs.declared.line.Line.{Line}
-use Rattle.dm_rule.specs.View.{Unknown}
-use Rattle.dm_rule.specs.Addresses.{Holder}
-use Rattle.dm_rule.specs.Homes.{names}
 use Rattle.dm_rule.specs.Laws.{IsStep}
 use Rattle.dm_rule.specs.Parts.{Spelled}
 use Rattle.dm_rule.specs.Point.{Point, after_line}
 use Rattle.dm_rule.specs.Rule.{group_of}
-use Rattle.dm_rule.specs.Trails.{Trails, IsOn, Trodden, first_trodden, along, trails_after, leads, LeadsAlong, TrailsAlways}
+use Rattle.dm_rule.specs.Trails.{Trails, Trodden, first_trodden, along, trails_after, LeadsAlong, TrailsAlways}
 use Rattle.dm_rule.proofs.TrailsTreads.{Treads, LineFits, line_treads}
 use Rattle.dm_rule.proofs.TrailsWithin.{Within}
 use Rattle.dm_rule.proofs.TrailsFound.{treads_start, address_leads}

@@ -1,10 +1,10 @@
 -- A directive to move a process keeps trails.
-use Rattle.std.proofs.Common.{◌≡◌, ℕ, ◌==◌, Bool, true, false, List, [], ◌∷◌, ◌++◌, length, refl, ap, ◌∙◌, sym, subst}
+use Rattle.std.proofs.Common.{◌≡◌, ℕ, ◌==◌, Bool, true, false, [], ◌∷◌, length, refl, subst}
 use Rattle.std.specs.Prelude.{if◌then◌else◌}
 use Rattle.std.specs.declared.option.Option.{Option}
 use Rattle.std.specs.declared.option.Option.TheVariants.{None, Some}
 use Rattle.dm_link.specs.declared.Pid.{Pid}
-use Rattle.dm_link.specs.Names.{Place, pid_of, pid_eq}
+use Rattle.dm_link.specs.Names.{pid_of, pid_eq}
 use Rattle.dm_message.specs.Ids.{id_of}
 use Rattle.dm_message.specs.declared.kind.MessageKind.TheVariants as kind
 use Rattle.dm_onekernel.specs.declared.boot.Boot.{Boot}
@@ -17,8 +17,8 @@ use Rattle.dm_rule.specs.declared.line.Line.TheVariants as line
 use Rattle.dm_rule.specs.declared.line.Load.TheVariants as load
 use Rattle.dm_rule.specs.View.{own_id}
 use Rattle.dm_rule.specs.Addresses.{Child, child_number}
-use Rattle.dm_rule.specs.Point.{Point, moved, after, after_line}
-use Rattle.dm_rule.specs.Parts.{Part, Says, Owns, Spelled, spelled, lines_of, puts, packet_line, goes_out, behind}
+use Rattle.dm_rule.specs.Point.{Point, moved, after}
+use Rattle.dm_rule.specs.Parts.{Says, Owns, Spelled, spelled, puts, packet_line, goes_out, behind}
 use Rattle.dm_rule.specs.Migrating.{migrates, migrates_child}
 use Rattle.dm_rule.specs.Rule as rule
 use Rattle.dm_rule.specs.Rule.{group_of}

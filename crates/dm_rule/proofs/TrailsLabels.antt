@@ -12,11 +12,13 @@ use Rattle.dm_onekernel.specs.declared.label.Label.{Label}
 use Rattle.dm_onekernel.specs.declared.label.Label.TheVariants as label
 use Rattle.dm_onekernel.specs.Kernel.{OneKernel}
 use Rattle.dm_onekernel.specs.Step as kernel
+use Rattle.dm_rule.specs.declared.line.Line.TheVariants as line
 use Rattle.dm_rule.specs.View.{View, Told, Here, is_kernels, after_label, served_told, kills, handled, dropped_for, receiver_of}
 use Rattle.dm_rule.specs.Addresses.{Addresses, Receiver, Sender, given, gives, here}
 use Rattle.dm_rule.specs.Homes.{ascends, to_of}
 use Rattle.dm_rule.specs.Phases.{Phase, Rests, IsIn, knows}
 use Rattle.dm_rule.specs.Trails.{Trails, Trail, Stood, IsOn, AddressesOn, OwnOn}
+use Rattle.dm_rule.proofs.Hushed.{hushed}
 use Rattle.dm_rule.proofs.Homes.{homes_are, at_home}
 use Rattle.dm_rule.proofs.HomesServes.{Named, EndedAt}
 use Rattle.dm_rule.proofs.HomesLabels.{SaidOn, label_on}
@@ -43,36 +45,7 @@ pub label_pending : (s t : OneKernel) (v : View) (a : Addresses) (tr : Trails) (
     → ascends 0 t.manager.pending t.manager.sent ≡ true
 label_pending s t v a tr l is named said trail pending links = (label_on (IsOn tr) s t v a l is named said (at_home (IsOn tr) s a (λ q. (trail q).begins) links pending)).pending
 
--- what a label tells of messages, and what it is about
-kills_told : (v : View) (k : MessageKind) (o : Option Pid) → (kills k v o).told ≡ v.told
-kills_told v kind.Kill (Some p) = refl
-kills_told v kind.Kill None = refl
-kills_told v kind.User o = refl
-kills_told v kind.Stop o = refl
-kills_told v kind.Resume o = refl
-kills_told v kind.Read o = refl
-kills_told v kind.Write o = refl
-kills_told v kind.Block o = refl
-kills_told v kind.Written o = refl
-kills_told v kind.Gone o = refl
-kills_told v kind.Create o = refl
-kills_told v kind.Created o = refl
-kills_told v kind.NoRoom o = refl
-kills_told v kind.Migrate o = refl
-kills_told v kind.Update o = refl
-kills_told v kind.Ask o = refl
-kills_told v kind.Refuse o = refl
-kills_told v kind.PullState o = refl
-kills_told v kind.State o = refl
-kills_told v kind.PullBlock o = refl
-kills_told v kind.Memory o = refl
-kills_told v kind.AllTaken o = refl
-kills_told v kind.Restart o = refl
-kills_told v kind.Move o = refl
-kills_told v kind.Moved o = refl
-kills_told v kind.CallOff o = refl
-kills_told v kind.Bury o = refl
-
+-- a label tells nothing of messages, and isn't about a place
 kills_topic : (v : View) (k : MessageKind) (o : Option Pid) → (kills k v o).topic ≡ v.topic
 kills_topic v kind.Kill (Some p) = refl
 kills_topic v kind.Kill None = refl
@@ -102,37 +75,16 @@ kills_topic v kind.Moved o = refl
 kills_topic v kind.CallOff o = refl
 kills_topic v kind.Bury o = refl
 
-served_told_same : (v : View) (o : Option Told) → (served_told v o).told ≡ v.told
-served_told_same v None = refl
-served_told_same v (Some u) = kills_told v u.kind (Some u.receiver)
-
 served_topic : (v : View) (o : Option Told) → (served_told v o).topic ≡ v.topic
 served_topic v None = refl
 served_topic v (Some u) = kills_topic v u.kind (Some u.receiver)
-
-dropped_told_same : (v : View) (i : MsgId) (o : Option Pid) → (dropped_for v i o).told ≡ v.told
-dropped_told_same v i None = refl
-dropped_told_same v i (Some p) = refl
 
 dropped_topic : (v : View) (i : MsgId) (o : Option Pid) → (dropped_for v i o).topic ≡ v.topic
 dropped_topic v i None = refl
 dropped_topic v i (Some p) = refl
 
 pub label_told : (v : View) (l : Label) → (after_label v l).told ≡ v.told
-label_told v (label.Served id) = served_told_same (handled v id) (v.told id)
-label_told v (label.Dropped id) = dropped_told_same (handled v id) id (receiver_of (v.told id))
-label_told v (label.Ran p k) = refl
-label_told v (label.Call p n c) = refl
-label_told v (label.Send p id) = refl
-label_told v (label.Wait p) = refl
-label_told v (label.Out p w) = refl
-label_told v (label.End p y) = refl
-label_told v (label.Receive p id) = refl
-label_told v (label.Refuse p id c) = refl
-label_told v (label.Gone id) = refl
-label_told v (label.Took id) = refl
-label_told v (label.Created id p) = refl
-label_told v (label.NoSpace id f b) = refl
+label_told v l = (hushed v (line.Label l) refl).told
 
 pub label_topic : (v : View) (l : Label) → (after_label v l).topic ≡ v.topic
 label_topic v (label.Served id) = served_topic (handled v id) (v.told id)
