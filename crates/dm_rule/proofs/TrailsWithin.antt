@@ -1,5 +1,6 @@
 -- Only machines that act know processes, and so all machines of a trail are among those of the boot file.
-use Rattle.std.proofs.Common.{◌≡◌, ◌≢◌, ℕ, ◌+◌, ◌<◌, ◌==◌, ◌&&◌, Bool, refl, ap, ◌∙◌, sym, subst, inl, inr}
+use Rattle.std.proofs.Common.{◌≡◌, ◌≢◌, ℕ, ◌+◌, ◌<◌, ◌≤◌, ◌==◌, ◌&&◌, ◌||◌, Bool, true, false, List, [], ◌∷◌, ◌++◌, length, refl, ap, ◌∙◌, sym, subst, inl, inr, arith, nat_le, nat_lt}
+use Rattle.std.proofs.lemmas.Bool.Decides.{nat_tests}
 use Rattle.std.specs.Prelude.{⊤, not, filter, if◌then◌else◌, slice_get}
 use Rattle.std.specs.declared.option.Option.{Option}
 use Rattle.std.specs.declared.option.Option.TheVariants.{None, Some}
@@ -17,9 +18,12 @@ use Rattle.dm_rule.specs.declared.line.Line.{Line}
 use Rattle.dm_rule.specs.declared.line.Line.TheVariants as line
 use Rattle.dm_rule.specs.declared.line.Stage.{Stage}
 use Rattle.dm_rule.specs.declared.line.Stage.TheVariants as stage
+use Rattle.dm_onekernel.specs.declared.boot.BootProcess.{BootProcess}
+use Rattle.dm_onekernel.specs.declared.boot.Boot.{Boot}
+use Rattle.dm_onekernel.specs.Boot.{IsValid, switchboard, manager, process_is_valid, processes_are_valid, starting_at}
 use Rattle.dm_rule.specs.Sets.{at_record}
 use Rattle.dm_rule.specs.View as view
-use Rattle.dm_rule.specs.View.{View, Told, Known, Unknown, Here, Frozen, Incoming, Ended, actor, view_after, after_label, after_head, handled, taken_id, queued_for, held_for, dropped_for, forwarded_for, served_told, kills, receiver_of, front_of, front_told, target_of, gone_to}
+use Rattle.dm_rule.specs.View.{known_at, first_view, View, Told, Known, Unknown, Here, Frozen, Incoming, Ended, actor, view_after, after_label, after_head, handled, taken_id, queued_for, held_for, dropped_for, forwarded_for, served_told, kills, receiver_of, front_of, front_told, target_of, gone_to}
 use Rattle.dm_rule.specs.Trails.{Trails, Trail}
 use Rattle.dm_rule.proofs.Lines.{eq_is, parts}
 use Rattle.dm_rule.proofs.HomesLines.{acting_label}
@@ -157,3 +161,30 @@ line_within n v (line.Lacks p a b) e h = record { known = h.known; acting = h.ac
 -- each machine of the trail of a process that some machine knows
 pub trail_within : (n : ℕ) (v : View) (t : Trails) (q : Pid) (i : ℕ) → Within n v → Trail v t q → v.known i q ≢ Unknown → (c m : ℕ) → slice_get (t q) c ≡ Some m → m < n
 trail_within n v t q i h trail there c m e = h.known m q (trail.kept m i c there e)
+
+-- where a run begins
+and_parts : (b c : Bool) → (b && c) ≡ true → (b ≡ true) × (c ≡ true)
+and_parts true c e = (refl, e)
+and_parts false c e = cc
+
+server_in : (m k : ℕ) (b c : Bool) → (m == 0) ≡ b → nat_le 1 k ≡ true → (if b && c then Here else Unknown) ≢ Unknown → m < k
+server_in m k true c is some there = let z : m ≡ 0 = eq_is m 0 is in omega (arith, z, let f : 1 ≤ k = grind (arith, nat_tests) in f)
+server_in m k false c is some there = absurd (there refl)
+
+known_in : (b : Boot) (earlier ps : List BootProcess) (m : ℕ) (q : Pid) → processes_are_valid b earlier ps ≡ true → nat_le 1 (length b.machines) ≡ true → known_at ps m q ≢ Unknown → m < length b.machines
+known_in b earlier [] m q valid some there = server_in m (length b.machines) (m == 0) (pid_eq q switchboard || pid_eq q manager) refl some there
+known_in b earlier (p ∷ ps) m q valid some there =
+    let both = and_parts (process_is_valid b (starting_at p.pid.home earlier) p) (processes_are_valid b (earlier ++ p ∷ []) ps) valid in
+    elim (cases_Bool (pid_eq p.pid q && (p.pid.home == m))) [
+      | inl same ↦
+          let at : p.pid.home ≡ m = eq_is p.pid.home m (and_parts (pid_eq p.pid q) (p.pid.home == m) same).1 in
+          let fits : nat_lt p.pid.home (length b.machines) ≡ true = (and_parts (nat_lt p.pid.home (length b.machines)) _ both.0).0 in
+          subst (λ (k : ℕ). k < length b.machines) at (let f : p.pid.home < length b.machines = grind (arith, nat_tests) in f)
+      | inr apart ↦ known_in b (earlier ++ p ∷ []) ps m q both.1 some (λ e. there (ap (λ (c : Bool). if c then Here else known_at ps m q) apart ∙ e))
+    ]
+
+pub within_start : (b : Boot) → IsValid b → Within (length b.machines) (first_view b)
+within_start b valid = record {
+  known = λ m q there. known_in b [] b.processes m q valid.processes valid.some_machines there;
+  acting = (let some = valid.some_machines in let f : 1 ≤ length b.machines = grind (arith, nat_tests) in omega (arith, f));
+}
