@@ -31,7 +31,7 @@ acts_at P q n h e = place_as P (ap unmoved e) h
 abbrev pub IsHome : Pid → Place → Type 0
 IsHome q place = place ≡ unmoved q.home
 
--- the same, one kind of holder after the other: a process's slots and the owner of its data move
+-- the same, one kind of holder after the other, where P says which places an address of a process may name: a process's slots and the owner of its data move
 pub record HomeProcess (P : Pid → Place → Type 0) (a : Addresses) (p : Pid) (x : PlainProcess) : Type 0 where
   pub slots : (k : ℕ) (l : PlainLink) → link_at x.links k ≡ Some l → P l.to (a (Slot p k))
   pub owner : (q : Pid) → owner_in x.status ≡ Some q → P q (a (Owner p))

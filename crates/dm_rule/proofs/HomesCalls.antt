@@ -1,4 +1,4 @@
--- What a call gives: each address that it gives is the home of the process that it is of.
+-- What a call gives: each address that it gives is one that the process that it is of may have.
 use Rattle.std.proofs.Common.{◌≡◌, ℕ, zero, suc, ◌+◌, ◌==◌, ◌&&◌, ◌||◌, Bool, true, false, List, [], ◌∷◌, refl, ap, ◌∙◌, sym, subst, inl, inr, arith, nat_lt}
 use Rattle.std.specs.Prelude.{⊤, if◌then◌else◌, map, slice_get, slice_set, filter_map}
 use Rattle.std.specs.List.{cons_option}

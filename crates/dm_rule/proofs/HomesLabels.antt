@@ -1,4 +1,4 @@
--- Each label keeps addresses at homes, and what it does to the rings too.
+-- Each label keeps addresses where they may be, as at homes, and what it does to the rings too.
 use Rattle.std.proofs.Common.{◌≡◌, ℕ, ◌==◌, ◌&&◌, Bool, true, false, not, List, [], ◌∷◌, ◌++◌, refl, ap, ◌∙◌, sym, inl, inr, arith}
 use Rattle.std.specs.Prelude.{⊤, if◌then◌else◌, filter}
 use Rattle.std.specs.declared.option.Option.{Option}

@@ -1,4 +1,4 @@
--- Receives keep addresses at homes.
+-- Receives keep addresses where they may be.
 use Rattle.std.proofs.Common.{◌≡◌, ℕ, zero, suc, ◌+◌, ◌==◌, ◌&&◌, Bool, true, false, List, [], ◌∷◌, ◌++◌, refl, ap, ◌∙◌, sym, subst, inl, inr, arith, nat_lt, length}
 use Rattle.std.specs.Prelude.{if◌then◌else◌, cond, slice_get, slice_set}
 use Rattle.std.specs.Option.{is_none}

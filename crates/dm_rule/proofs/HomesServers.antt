@@ -1,4 +1,4 @@
--- What servers do keeps addresses at homes.
+-- What servers do keeps addresses where they may be.
 use Rattle.std.proofs.Common.{◌≡◌, ℕ, zero, suc, ◌+◌, ◌==◌, ◌&&◌, Bool, true, false, List, [], ◌∷◌, ◌++◌, refl, ap, ◌∙◌, sym, subst, ◌⊎◌, inl, inr, arith, nat_lt, nat_le, length}
 use Rattle.std.specs.Prelude.{if◌then◌else◌, slice_get}
 use Rattle.std.specs.declared.option.Option.{Option}

@@ -1,4 +1,4 @@
--- What kernels do with messages keeps addresses at homes.
+-- What kernels do with messages keeps addresses where they may be.
 use Rattle.std.proofs.Common.{◌≡◌, ℕ, zero, suc, ◌+◌, ◌==◌, ◌&&◌, Bool, true, false, List, [], ◌∷◌, ◌++◌, refl, ap, ◌∙◌, sym, subst, arith, nat_le, length}
 use Rattle.std.specs.Prelude.{⊤, if◌then◌else◌, map, slice_get}
 use Rattle.std.specs.declared.option.Option.{Option}
