@@ -50,11 +50,12 @@ asks_fits pt t p m n rest child bag none trail h e =
     let ls = puts v to (own_id v) kind.Migrate p in
     let (next, comes, last) = bind-is (after start ls) (λ next. bind (spelled next []) (λ rest. Some (behind ls rest))) rest e in
     let f : behind ls (record { lines = []; point = next }) ≡ rest = cc in
-    subst (λ (x : Spelled). AllFit start t x.lines) f
-    (Own bag none (migrate_to pt.kernel v pt.addresses t (own_id v) p n child (h.links (Child n) p (child_is pt.kernel p n child))) (λ k. migrate_from pt.kernel v pt.addresses t (own_id v) p refl trail),
-    (λ after_put is. all_free _ after_put t
-      (free_both (if v.acting == to then [] else if goes_out (v.pair v.acting to) then packet_line v v.acting to (load.Data (length (v.pair v.acting to).ids)) ∷ [] else []) []
-      (packet_free (v.acting == to) (goes_out (v.pair v.acting to)) (packet_line v v.acting to (load.Data (length (v.pair v.acting to).ids))) refl) refl)))
+    subst (λ (x : Spelled). AllFit start t x.lines) f (
+      Own bag none (migrate_to pt.kernel v pt.addresses t (own_id v) p n child (h.links (Child n) p (child_is pt.kernel p n child))) (λ k. migrate_from pt.kernel v pt.addresses t (own_id v) p refl trail),
+      (λ after_put is. all_free _ after_put t
+          (free_both (if v.acting == to then [] else if goes_out (v.pair v.acting to) then packet_line v v.acting to (load.Data (length (v.pair v.acting to).ids)) ∷ [] else []) []
+          (packet_free (v.acting == to) (goes_out (v.pair v.acting to)) (packet_line v v.acting to (load.Data (length (v.pair v.acting to).ids))) refl) refl)),
+    )
 
 child_fits : (pt : Point) (t : Trails) (p : Pid) (m : ℕ) (rest : Spelled) (o : Option ℕ) → child_number pt.kernel p ≡ o → pt.kernel.bag (id_of (pid_of 0 0) (pt.view.count 0)) ≡ None → pt.view.told (id_of (pid_of 0 0) (pt.view.count 0)) ≡ None → Trail (begun pt p m).view t manager → Treads pt t
     → spelled (begun pt p m) (migrates_child pt.addresses p o) ≡ Some rest → AllFit (begun pt p m) t rest.lines

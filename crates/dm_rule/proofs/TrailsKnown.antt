@@ -116,6 +116,7 @@ trail_left v w t p d known there at long apart h = record {
   where
     before : (c a l j : ℕ) → c < l → l ≡ a + 2 → (c == a + 1) ≡ false → a + 1 ≡ j → c < j
     before c a l j x y z n = grind (arith, nat_tests)
+
     less : (m c j : ℕ) → slice_get (t p) c ≡ Some m → (v.acting == m) ≡ true → v.moves p + 1 ≡ j → c < j
     less m c j f s n =
         let within = slice_get_within (t p) c m f in

@@ -123,16 +123,16 @@ walk : (v : View) (t : Trails) (p : Pid) (machines n c m : ℕ) → Trail v t p 
 walk v t p machines zero c m h there most at le =
     goes_on (v.known m p) c (λ d k. false) (there c m at)
     (λ k j e.
-      let less = fewer v t p machines c m k j h (most c m at) at e in
-      let next = h.named m k j e in
-      let some = left_some (t p) machines j k (most j k next) next in
-      absurd (omega (arith, le, less, some)))
+    let less = fewer v t p machines c m k j h (most c m at) at e in
+    let next = h.named m k j e in
+    let some = left_some (t p) machines j k (most j k next) next in
+    absurd (omega (arith, le, less, some)))
 walk v t p machines (suc n) c m h there most at le =
     goes_on (v.known m p) c (leads v p n) (there c m at)
     (λ k j e.
-      let less = fewer v t p machines c m k j h (most c m at) at e in
-      let next = h.named m k j e in
-      (h.behind m k j c e at, walk v t p machines n j k h there most next (omega (arith, le, less))))
+    let less = fewer v t p machines c m k j h (most c m at) at e in
+    let next = h.named m k j e in
+    (h.behind m k j c e at, walk v t p machines n j k h there most next (omega (arith, le, less))))
 
 left_most : (xs : List ℕ) (machines c : ℕ) → left_at xs machines c ≤ machines
 unfolding left_at

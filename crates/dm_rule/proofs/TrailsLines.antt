@@ -71,10 +71,12 @@ pub forwarded_all : (s : OneKernel) (v : View) (a : Addresses) (t : Trails) (id 
     → s.bag (own_id v) ≡ None → v.told (own_id v) ≡ None → Trail v t u.receiver → AllAre s v a t → AllAre s v (given a (forwards v a id (v.told id))) t
 forwarded_all s v a t id u d n told at for bag fresh trail h =
     subst (λ (o : Option Told). AllAre s v (given a (forwards v a id o)) t) (sym told)
-    (given_on s v a t (forwards v a id (Some u)) h
-    ((λ q e. let is : q ≡ u.receiver = for q e in
-    subst (λ (x : Known). IsOn t q (place_known x (v.moves u.receiver) (a (Receiver id)))) (sym at)
-    (subst (λ (p : Pid). slice_get (t p) n ≡ Some d) (sym is) (trail.named v.acting d n at))), back_gets s v a t id (is_told_back u.kind) bag fresh))
+    (given_on s v a t (forwards v a id (Some u)) h (
+      (λ q e. let is : q ≡ u.receiver = for q e in
+          subst (λ (x : Known). IsOn t q (place_known x (v.moves u.receiver) (a (Receiver id)))) (sym at)
+          (subst (λ (p : Pid). slice_get (t p) n ≡ Some d) (sym is) (trail.named v.acting d n at))),
+      back_gets s v a t id (is_told_back u.kind) bag fresh,
+    ))
 
 -- the update goes to where the message came from
 pub forwarded_back : (v : View) (a : Addresses) (id : MsgId) (u : Told) → v.told id ≡ Some u → id_eq id (own_id v) ≡ false → is_told_back u.kind ≡ true → given a (forwards v a id (v.told id)) (Receiver (own_id v)) ≡ a (Sender id)
@@ -88,13 +90,15 @@ forwarded_back v a id u told other back =
 follow_gets : (s : OneKernel) (v : View) (a : Addresses) (t : Trails) (p : Pid) (d : ℕ) (ids : List MsgId) → v.known v.acting p ≡ Frozen d → slice_get (t p) (v.moves p + 1) ≡ Some d
     → ((i : MsgId) (q : Pid) → 1 ≤ times i ids → Named s v (Receiver i) q → q ≡ p) → AllGet s v t (all_follow v a p ids)
 follow_gets s v a t p d [] at last for = tt
-follow_gets s v a t p d (i ∷ is) at last for =
-    ((λ q e. let same : q ≡ p = for i q first e in
-    subst (λ (x : Known). IsOn t q (place_known x (v.moves p) (a (Receiver i)))) (sym at) (subst (λ (r : Pid). slice_get (t r) (v.moves p + 1) ≡ Some d) (sym same) last)),
-    follow_gets s v a t p d is at last (λ j q least. for j q (more j least)))
+follow_gets s v a t p d (i ∷ is) at last for = (
+  (λ q e. let same : q ≡ p = for i q first e in
+      subst (λ (x : Known). IsOn t q (place_known x (v.moves p) (a (Receiver i)))) (sym at) (subst (λ (r : Pid). slice_get (t r) (v.moves p + 1) ≡ Some d) (sym same) last)),
+  follow_gets s v a t p d is at last (λ j q least. for j q (more j least)),
+)
   where
     first : 1 ≤ times i (i ∷ is)
     first = let e : one_of i i ≡ 1 = ap (λ (c : Bool). if c then 1 else 0) (id_eq-same i) in omega (arith, e)
+
     more : (j : MsgId) → 1 ≤ times j is → 1 ≤ times j (i ∷ is)
     more j least = omega (arith, least)
 

@@ -86,9 +86,9 @@ put_all s v a t x y id k q bag none to from h g r e =
     (elim (put_named s v x y id k q g r none e) [
       | inl old ↦ given_on s v a t (own_gives s v a id q k) h (own_gets s v a t id q k bag none) g r old
       | inr new ↦ elim new [
-          | inl way ↦ subst (λ (i : Holder). IsOn t r (given a (own_gives s v a id q k) i)) (sym way.0) (subst (λ (p : Pid). IsOn t p (given a (own_gives s v a id q k) (Receiver id))) way.1 to)
-          | inr way ↦ subst (λ (i : Holder). IsOn t r (given a (own_gives s v a id q k) i)) (sym way.0) (subst (λ (p : Pid). IsOn t p (given a (own_gives s v a id q k) (Sender id))) way.2 (from way.1))
-        ]
+        | inl way ↦ subst (λ (i : Holder). IsOn t r (given a (own_gives s v a id q k) i)) (sym way.0) (subst (λ (p : Pid). IsOn t p (given a (own_gives s v a id q k) (Receiver id))) way.1 to)
+        | inr way ↦ subst (λ (i : Holder). IsOn t r (given a (own_gives s v a id q k) i)) (sym way.0) (subst (λ (p : Pid). IsOn t p (given a (own_gives s v a id q k) (Sender id))) way.2 (from way.1))
+      ]
     ])
 
 -- from kernel to kernel
@@ -244,9 +244,9 @@ routed_named s v x y id k q h r other plain none (Owns (Goes i u is own told to)
 routed_named s v x y id k q h r other plain none (Owns (Comes i u is mine told move to)) = elim (put_named s v x y id k q h r none (Owns (Comes i u is mine told move to))) [
   | inl old ↦ old
   | inr new ↦ elim new [
-      | inl way ↦ absurd (let f : Receiver id ≡ Sender i = sym way.0 ∙ is in cc)
-      | inr way ↦ absurd (not_own k plain way.1)
-    ]
+    | inl way ↦ absurd (let f : Receiver id ≡ Sender i = sym way.0 ∙ is in cc)
+    | inr way ↦ absurd (not_own k plain way.1)
+  ]
 ]
 
 pub put_routed : (s : OneKernel) (v : View) (a : Addresses) (t : Trails) (x y : ℕ) (id : MsgId) (k : MessageKind) (q : Pid) → is_kernels id ≡ false → is_own k ≡ false → v.told id ≡ None → AllAre s v a t
