@@ -8,4 +8,3 @@ pub mod Ending
 pub mod Passing
 pub mod Falling
 pub mod Rounds
-pub mod Runs

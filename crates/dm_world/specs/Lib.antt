@@ -5,5 +5,4 @@ pub mod Ends
 pub mod Meets
 pub mod Local
 pub mod Cursor
-pub mod Running
 pub mod Readable

@@ -6,7 +6,6 @@ mod end_lines;
 mod end_messages;
 mod end_process;
 mod end_servers;
-mod run;
 mod speak;
 mod step;
 pub mod world;
