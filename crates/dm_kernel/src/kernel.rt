@@ -14,28 +14,28 @@ use std::alloc::Global;
 /// The kernel of a machine.
 #[derive(Drop)]
 pub struct Kernel {
-    pub alloc: Global,
+    pub(crate) alloc: Global,
     /// The machine's number, 0 to 15.
-    pub here: u8,
+    pub(crate) here: u8,
     /// What is known of each process.
-    pub records: Records<Process, Leaving, Arriving, Why>,
+    pub(crate) records: Records<Process, Leaving, Arriving, Why>,
     /// The processes that are here, in the order in which they are served.
-    pub ring: Queue<Pid>,
+    pub(crate) ring: Queue<Pid>,
     /// The messages that have come and wait to be handled.
-    pub inbox: Queue<Message>,
+    pub(crate) inbox: Queue<Message>,
     /// How many processes were made here.
-    pub made: u32,
+    pub(crate) made: u32,
     /// How many messages of its own the kernel has sent.
-    pub sent: u32,
+    pub(crate) sent: u32,
     /// The slots and blocks.
-    pub room: Room,
+    pub(crate) room: Room,
     /// The servers, on machine 0.
-    pub servers: Option<Servers>,
+    pub(crate) servers: Option<Servers>,
 }
 
 /// The switchboard and the process manager (1977).
 #[derive(Drop)]
 pub struct Servers {
-    pub board: Switchboard,
-    pub manager: ProcMan,
+    pub(crate) board: Switchboard,
+    pub(crate) manager: ProcMan,
 }

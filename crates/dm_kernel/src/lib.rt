@@ -14,6 +14,7 @@ mod leave;
 mod make;
 mod own;
 pub mod part;
+mod read;
 mod ring;
 pub mod run;
 mod serve;

@@ -124,7 +124,3 @@ pub message_came : (n m : NodeState) (after : Node) (from seq : ℕ) (x y : Arri
     → new ≡ mid ++ acknowledges (state_of after) from → Gave after old new (comes n from seq y)
 message_came n m after from seq x y old mid new e f g outs =
     gave_acknowledged after old mid new (comes_in n from seq y) from (subst (λ z. Gave after old mid (comes_in n from seq z)) f (subst (λ z. Gave after old mid (comes_in z from seq x)) e g)) outs
-
--- a message comes into the inbox
-pub inboxed : (n m : NodeState) (inbox : List Message) (x : Message) → n ≡ m → inbox ≡ n.kernel.inbox ++ x ∷ [] → record n { kernel = record n.kernel { inbox = inbox } } ≡ with_message m x
-inboxed n m inbox x e f = ap (λ (ms : List Message). record n { kernel = record n.kernel { inbox = ms } }) f ∙ ap (λ (s : NodeState). with_message s x) e

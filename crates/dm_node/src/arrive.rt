@@ -67,7 +67,7 @@ impl Node {
         requires streams { HasStreams self.old }
         ensures { OnOk result (Gave self.new outs.old.items outs.new.items (comes_in (state_of self.old) from seq arrived)) }
     {
-        let here = self.kernel.here;
+        let here = self.kernel.here();
         match arrived {
             Arrived::Taken(message) => {
                 push(
@@ -78,7 +78,7 @@ impl Node {
                         n: seq,
                     }),
                 )?;
-                self.kernel.inbox.push(message)?;
+                self.kernel.enters(message)?;
                 self.take_kept(from, outs)?;
             }
             Arrived::Old => push(
@@ -115,11 +115,11 @@ impl Node {
                         outs,
                         Out::Says(Line::Taken {
                             from,
-                            to: self.kernel.here,
+                            to: self.kernel.here(),
                             n,
                         }),
                     )?;
-                    self.kernel.inbox.push(message)?;
+                    self.kernel.enters(message)?;
                 }
                 None => return Ok(()),
             }
@@ -136,7 +136,7 @@ impl Node {
         push(
             outs,
             Out::Sends(Packet::Ack {
-                from: self.kernel.here,
+                from: self.kernel.here(),
                 to,
                 count: self.count(to),
             }),
@@ -153,7 +153,7 @@ impl Node {
             outs,
             Out::Says(Line::Acked {
                 from,
-                to: self.kernel.here,
+                to: self.kernel.here(),
                 n: count,
             }),
         )?;

@@ -33,7 +33,7 @@ impl Node {
         match streams::give(&mut self.senders, to, message) {
             Ok(()) => Ok(()),
             Err(GiveNo::Worn(_)) => Err(Stop::Worn {
-                from: self.kernel.here,
+                from: self.kernel.here(),
                 to,
             }),
             Err(GiveNo::NoMemory(_, e)) => Err(Stop::NoMemory(e)),
@@ -46,7 +46,7 @@ impl Node {
         requires to { to < 16 }
         ensures { result ≡ numbered self.now.kernel.here to (due ((state_of self.now).senders to)) }
     {
-        streams::due(&self.senders, self.kernel.here, to)
+        streams::due(&self.senders, self.kernel.here(), to)
     }
 
     /// The packet that is due to machine `to` has gone out.
@@ -66,7 +66,7 @@ impl Node {
         requires to { to < 16 }
         ensures { result ≡ numbered self.now.kernel.here to (outstanding ((state_of self.now).senders to) place) }
     {
-        streams::outstanding(&self.senders, self.kernel.here, to, place)
+        streams::outstanding(&self.senders, self.kernel.here(), to, place)
     }
 
     /// How many packets are out to machine `to` and not acknowledged, 0 to 8.

@@ -8,6 +8,7 @@ mod ends;
 mod law;
 pub mod node;
 pub mod out;
+mod read;
 mod route;
 pub mod stop;
 mod streams;

@@ -7,15 +7,15 @@ use std::alloc::Global;
 /// A machine.
 #[derive(Drop)]
 pub struct Node {
-    pub alloc: Global,
-    pub kernel: Kernel,
+    pub(crate) alloc: Global,
+    pub(crate) kernel: Kernel,
     /// How many machines there are, 1 to 16.
-    pub machines: u8,
+    pub(crate) machines: u8,
     /// The greatest number of messages that it may route to any machine, 1 to 1,048,576.
-    pub numbers: u32,
+    pub(crate) numbers: u32,
     /// How many it has routed to itself.
-    pub home: u32,
+    pub(crate) home: u32,
     /// What goes to each machine, and what comes from it, for 16 machines.
-    pub senders: Vec<Sender<Message>>,
-    pub receivers: Vec<Receiver<Message>>,
+    pub(crate) senders: Vec<Sender<Message>>,
+    pub(crate) receivers: Vec<Receiver<Message>>,
 }

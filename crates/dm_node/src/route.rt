@@ -21,7 +21,7 @@ impl Node {
         requires numbers { self.old.numbers < 2 ^ 32 }
         ensures { Answers result self.new outs.old.items outs.new.items (routes (state_of self.old) message) }
     {
-        if message.to.at == self.kernel.here {
+        if message.to.at == self.kernel.here() {
             self.route_home(message, outs)
         } else {
             self.route_away(message, outs)
@@ -33,7 +33,7 @@ impl Node {
         ensures { result ≡ put_line (state_of self.now) message.now }
     {
         Line::Put {
-            from: self.kernel.here,
+            from: self.kernel.here(),
             to: message.to.at,
             id: message.id,
             kind: message.what.kind(),
@@ -48,7 +48,7 @@ impl Node {
         requires numbers { self.old.numbers < 2 ^ 32 }
         ensures { Answers result self.new outs.old.items outs.new.items (routes_home (state_of self.old) message (self.old.home == self.old.numbers)) }
     {
-        let here = self.kernel.here;
+        let here = self.kernel.here();
         if self.home == self.numbers {
             return Err(Stop::Worn {
                 from: here,
@@ -56,9 +56,8 @@ impl Node {
             });
         }
         push(outs, Out::Says(self.put_line(&message)))?;
-        match self.kernel.inbox.push(message) {
-            Ok(()) => {}
-            Err(e) => return Err(Stop::NoMemory(NoMemory::from(e))),
+        if let Err(e) = self.kernel.enters(message) {
+            return Err(Stop::NoMemory(e));
         }
         self.home += 1;
         Ok(())

@@ -74,12 +74,12 @@ impl Node {
         ensures { OnOk result (Gave self.now outs.old.items outs.new.items (tick (state_of self.now))) }
     {
         let resent = Line::Resent {
-            machine: self.kernel.here,
+            machine: self.kernel.here(),
             count: self.counts_out(),
         };
         push(outs, Out::Says(resent))?;
         for to in 0..self.machines {
-            if to != self.kernel.here {
+            if to != self.kernel.here() {
                 self.send_again(to, outs)?;
             }
         }
@@ -94,7 +94,7 @@ impl Node {
     {
         let mut count = 0;
         for to in 0..self.machines {
-            if to != self.kernel.here {
+            if to != self.kernel.here() {
                 count += self.count_out(to);
             }
         }

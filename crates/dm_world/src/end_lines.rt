@@ -31,7 +31,7 @@ impl World {
         let mut lines = Vec::new(self.alloc);
         lines.push(Line::End(EndLine::Final))?;
         self.say_processes(&mut lines)?;
-        say_servers(&self.machine(0).kernel, &mut lines)?;
+        say_servers(self.machine(0).kernel(), &mut lines)?;
         self.say_queues(&mut lines)?;
         self.say_inboxes(&mut lines)?;
         self.say_streams(&mut lines)?;
@@ -57,7 +57,7 @@ impl World {
         ensures all { result ≡ ((state_of self.now).nodes home).kernel.made }
         ensures numbered { 3 + result ≤ 2 ^ 32 }
     {
-        self.machine(home).kernel.made
+        self.machine(home).kernel().count_made()
     }
 
     /// The lines of each process that was ever made, by home and by number.
@@ -200,7 +200,7 @@ impl World {
 fn say_known(node: &Node, m: u8, pid: Pid, lines: &mut Vec<Line>) -> Result<bool, NoMemory>
     ensures { IfOk result (λ said. SaysSome said lines.old.items lines.new.items (record_lines m pid (at node.now.kernel.records pid))) }
 {
-    match node.kernel.records.get(pid) {
+    match node.kernel().records().get(pid) {
         Some(Record::Here(process)) => {
             say_here(m, pid, process, lines)?;
             Ok(true)
@@ -217,9 +217,9 @@ fn say_known(node: &Node, m: u8, pid: Pid, lines: &mut Vec<Line>) -> Result<bool
 fn say_known_queue(node: &Node, pid: Pid, lines: &mut Vec<Line>) -> Result<bool, NoMemory>
     ensures { IfOk result (λ said. SaysSome said lines.old.items lines.new.items (record_queue pid (at node.now.kernel.records pid))) }
 {
-    match node.kernel.records.get(pid) {
+    match node.kernel().records().get(pid) {
         Some(Record::Here(process)) => {
-            let ids = ids_of(node.alloc, &process.queue)?;
+            let ids = ids_of(node.alloc(), &process.queue)?;
             if ids.len() > 0 {
                 lines.push(Line::End(EndLine::Queue { pid, ids }))?;
             }
@@ -233,7 +233,7 @@ fn say_known_queue(node: &Node, pid: Pid, lines: &mut Vec<Line>) -> Result<bool,
 fn say_inbox(node: &Node, machine: u8, lines: &mut Vec<Line>) -> Result<(), NoMemory>
     ensures { OnOk result (lines.new.items ≡ lines.old.items ++ list_line (end.Inbox machine) (names_of node.now.kernel.inbox)) }
 {
-    let ids = ids_of(node.alloc, &node.kernel.inbox)?;
+    let ids = ids_of(node.alloc(), node.kernel().inbox())?;
     if ids.len() > 0 {
         lines.push(Line::End(EndLine::Inbox { machine, ids }))?;
     }

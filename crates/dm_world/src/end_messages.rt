@@ -30,9 +30,9 @@ pub fn untaken_ids(sender: &Node, receiver: &Node, a: u8, c: u8) -> Result<Items
     requires to { c < 16 }
     ensures { IfOk result (λ ids. ids ≡ names_of (drop (((node.state_of receiver.now).receivers a).count - ((node.state_of sender.now).senders c).acked) ((node.state_of sender.now).senders c).unacked)) }
 {
-    let stream = &sender.senders[usize::from(c)];
+    let stream = sender.sender(c);
     let taken = receiver.count(a).saturating_sub(stream.acknowledged());
-    ids_from(sender.alloc, stream, taken)
+    ids_from(sender.alloc(), stream, taken)
 }
 
 /// The names of the messages of a stream that aren't acknowledged, from a place on.

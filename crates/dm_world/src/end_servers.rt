@@ -25,18 +25,18 @@ pub fn say_servers(kernel: &Kernel, lines: &mut Vec<Line>) -> Result<(), NoMemor
     requires { IfSome kernel.now.servers HasPlainEnd }
     ensures { OnOk result (lines.new.items ≡ lines.old.items ++ server_lines kernel.now.servers) }
 {
-    if let Some(servers) = &kernel.servers {
+    if let Some(servers) = kernel.servers() {
         lines.push(Line::End(EndLine::Server {
             pid: SWITCHBOARD,
-            sent: servers.board.sent(),
+            sent: servers.board().sent(),
         }))?;
         lines.push(Line::End(EndLine::Server {
             pid: MANAGER,
-            sent: servers.manager.sent(),
+            sent: servers.manager().sent(),
         }))?;
-        say_names(&servers.board, lines)?;
-        say_children(servers.manager.children(), lines)?;
-        say_pending(servers.manager.pending(), lines)?;
+        say_names(servers.board(), lines)?;
+        say_children(servers.manager().children(), lines)?;
+        say_pending(servers.manager().pending(), lines)?;
     }
     Ok(())
 }

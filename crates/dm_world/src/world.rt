@@ -16,15 +16,15 @@ use std::alloc::Global;
 /// A system that runs.
 #[derive(Drop)]
 pub struct World {
-    pub alloc: Global,
-    pub boot: Boot,
+    pub(crate) alloc: Global,
+    pub(crate) boot: Boot,
     /// The machines of the boot file.
-    pub nodes: Vec<Node>,
-    pub wires: Wire,
+    pub(crate) nodes: Vec<Node>,
+    pub(crate) wires: Wire,
     /// How many directives there were.
-    pub groups: u128,
+    pub(crate) groups: u128,
     /// A world that stopped before the end of a directive takes no further one.
-    pub stopped: bool,
+    pub(crate) stopped: bool,
 }
 
 impl World {

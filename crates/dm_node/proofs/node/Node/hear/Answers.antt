@@ -1,4 +1,4 @@
-use Rattle.std.proofs.Common.{◌≡◌, ◌<◌, ◌≤◌, false, true, [], ◌∷◌, sym, subst, ◌∙◌, arith}
+use Rattle.std.proofs.Common.{◌≡◌, ◌<◌, ◌≤◌, false, true, [], ◌∷◌, ◌++◌, sym, ap, subst, ◌∙◌, arith}
 use Rattle.std.specs.Prelude.{is_some}
 use Rattle.dm_stream.specs.Sending.{due, window, with_acked}
 use Rattle.dm_rule.specs.declared.line.Line.TheVariants as line
@@ -18,7 +18,8 @@ loop-round-init c =
     record {
       streams = c.acked.ensures.streams;
       rest = λ after new g.
-          gave_before after c.args.outs.now.items said new (Says (line.Acked from (here n) c.args.count) ∷ []) (lets_go window now from) c.in_ok-push.ensures.ok
+          gave_before after c.args.outs.now.items said new (Says (line.Acked from (here n) c.args.count) ∷ []) (lets_go window now from)
+          (c.in_ok-push.ensures.ok ∙ ap (λ h. c.args.outs.now.items ++ Says (line.Acked from h c.args.count) ∷ []) c.here.ensures)
           (subst (λ s. Gave after said new (lets_go window s from)) c.acked.ensures.state g);
     }
 

@@ -1,10 +1,10 @@
 use Rattle.std.proofs.Common.{◌≡◌, ◌<◌, ◌≤◌, ◌++◌, ◌∷◌, [], sym, ap, ◌∙◌, arith}
 use Rattle.dm_rule.specs.declared.line.Line.TheVariants as line
-use Rattle.dm_stream.specs.Receiving.{after_next}
+use Rattle.dm_kernel.specs.Meets as kernel
 use Rattle.dm_node.specs.declared.out.Out.TheVariants.{Says}
 use Rattle.dm_node.specs.Meets.{state_of}
-use Rattle.dm_node.specs.State.{NodeState, here, with_receiver}
-use Rattle.dm_node.proofs.Arrivals.{inboxed, none_taken, one_taken, rounds_over}
+use Rattle.dm_node.specs.State.{NodeState, here, with_message}
+use Rattle.dm_node.proofs.Arrivals.{none_taken, one_taken, rounds_over}
 use Rattle.dm_node.proofs.node.Node.take_kept.Goals as goal
 
 pub returns-in-None : goal.returns-in-None
@@ -22,16 +22,16 @@ loop-round-preserved c =
     let m = c.in-Some.message in
     let next = state_of c.next_kept.new.self in
     let h : l._round < 8 = omega arith in
-    let mid = record next { kernel = record next.kernel { inbox = c.push-in-Some.new.self } } in
+    let mid = record next { kernel = kernel.state_of c.enters.new.self } in
     let state = c.next_kept.ensures.state in
-    let told : line.Taken from (here next) c.count-n.result ≡ line.Taken from (here n) (n.receivers from).count =
-    ap (λ (s : NodeState). line.Taken from (here s) c.count-n.result) state ∙ ap (λ k. line.Taken from (here n) k) c.count-n.ensures in
+    let told : line.Taken from c.here.result c.count-n.result ≡ line.Taken from (here n) (n.receivers from).count =
+    ap (λ k. line.Taken from k c.count-n.result) c.here.ensures ∙ ap (λ (s : NodeState). line.Taken from (here s) c.count-n.result) state ∙ ap (λ k. line.Taken from (here n) k) c.count-n.ensures in
     record {
       streams = record { senders = c.next_kept.ensures.streams.senders; receivers = c.next_kept.ensures.streams.receivers };
       rest = λ after new g.
           l.invariant.rest after new
           (one_taken l._round n mid after from m l.outs.items c.push.new.outs.items new h (sym c.next_kept.ensures.value ∙ c.in-Some.is)
-          (inboxed next (with_receiver n from (after_next (n.receivers from))) c.push-in-Some.new.self m state c.in_ok-push-in-Some-2.ensures.ok)
+          (ap (λ k. record next { kernel = kernel.state_of k }) c.in_ok-enters-in-Some.ensures ∙ ap (λ (s : NodeState). with_message s m) state)
           (c.in_ok-push-in-Some.ensures.ok ∙ ap (λ t. l.outs.items ++ Says t ∷ []) told) g);
     }
 

@@ -1,0 +1,75 @@
+//! What can be read of a kernel, and how a message comes to it.
+ghost use Rattle.std.specs.Prelude.{◌≡◌, ◌∷◌, ◌++◌, [], OnOk};
+ghost use Rattle.std.specs.Option.{option_copied};
+
+use crate::kernel::{Kernel, Servers};
+use dm_forward::Records;
+use dm_lists::Queue;
+use dm_memory::NoMemory;
+use dm_message::Message;
+use dm_migrate::{Arriving, Leaving};
+use dm_onekernel::Why;
+use dm_process::Process;
+use dm_procman::ProcMan;
+use dm_switchboard::Switchboard;
+
+impl Kernel {
+    /// The machine's number, 0 to 15.
+    pub fn here(&self) -> u8
+        ensures { result ≡ self.now.here }
+    {
+        self.here
+    }
+
+    /// What is known of each process.
+    pub fn records(&self) -> &Records<Process, Leaving, Arriving, Why>
+        ensures { result.now ≡ self.now.records }
+    {
+        &self.records
+    }
+
+    /// The messages that have come and wait to be handled.
+    pub fn inbox(&self) -> &Queue<Message>
+        ensures { result.now ≡ self.now.inbox }
+    {
+        &self.inbox
+    }
+
+    /// How many processes were made here.
+    pub fn count_made(&self) -> u32
+        ensures { result ≡ self.now.made }
+    {
+        self.made
+    }
+
+    /// The servers, on machine 0.
+    pub fn servers(&self) -> Option<&Servers>
+        ensures { option_copied result ≡ self.now.servers }
+    {
+        self.servers.as_ref()
+    }
+
+    /// A message comes, and waits behind the others.
+    pub fn enters(&mut self, message: Message) -> Result<(), NoMemory>
+        ensures { OnOk result (self.new ≡ record self.old { inbox = self.old.inbox ++ message ∷ [] }) }
+    {
+        self.inbox.push(message)?;
+        Ok(())
+    }
+}
+
+impl Servers {
+    /// The switchboard.
+    pub fn board(&self) -> &Switchboard
+        ensures { result.now ≡ self.now.board }
+    {
+        &self.board
+    }
+
+    /// The process manager.
+    pub fn manager(&self) -> &ProcMan
+        ensures { result.now ≡ self.now.manager }
+    {
+        &self.manager
+    }
+}
