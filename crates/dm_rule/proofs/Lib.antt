@@ -1,4 +1,5 @@
 pub mod Worked
+pub mod QuietWorked
 pub mod Standing
 pub mod Once
 pub mod Lines

@@ -6,6 +6,7 @@ pub mod Spots
 pub mod Parts
 pub mod Rule
 pub mod Pairs
+pub mod Quiet
 pub mod Homes
 pub mod Good
 pub mod Worn
