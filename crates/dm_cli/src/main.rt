@@ -32,3 +32,7 @@ fn main(rt: HostRuntime) -> ExitCode {
 
 #[cfg(test)]
 mod tests;
+#[cfg(test)]
+mod worked;
+#[cfg(test)]
+mod worked_servers;

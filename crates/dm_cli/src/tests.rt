@@ -6,7 +6,7 @@ use std::alloc::Global;
 use std::process::ExitCode;
 use std::test::Fail;
 
-const WORDS: [&str; 6] = ["demosmp", "run", "--boot", "boot", "--schedule", "schedule"];
+pub(crate) const WORDS: [&str; 6] = ["demosmp", "run", "--boot", "boot", "--schedule", "schedule"];
 
 const HI: &[u8] = b"[[machine]]
 slots = 4
@@ -145,7 +145,8 @@ type Case = (
     u64,
 );
 
-const NONE: (&[u64], &[u64]) = (&[], &[]);
+/// No read and no write is to fail.
+pub(crate) const NONE: (&[u64], &[u64]) = (&[], &[]);
 
 /// Runs that come to an end, with the words in each form, and those that a fault stops.
 const RUNS: [Case; 13] = [
@@ -355,15 +356,15 @@ const OTHER_WORDS: [&[&str]; 17] = [
 
 /// How a run of the program ended.
 #[derive(Drop)]
-struct Ended {
-    status: Status,
-    written: Vec<u8>,
+pub(crate) struct Ended {
+    pub(crate) status: Status,
+    pub(crate) written: Vec<u8>,
     reads: u64,
 }
 
 /// Runs the program over two files in memory, of which these reads are to fail, and a sink of which these writes are
 /// to fail and each takes at most so many bytes.
-fn run_over(
+pub(crate) fn run_over(
     alloc: Global,
     words: &[&str],
     files: (&[u8], &[u8]),
