@@ -4,7 +4,7 @@ ghost use Rattle.std.specs.Result.{result_ok};
 ghost use Rattle.dm_outside.specs.Outside.{RoseOrFull};
 ghost use Rattle.dm_outside.specs.Memory.{write_count, after_write};
 
-use crate::limit::{is_to_fail, within};
+use crate::limit::{has_no_room, is_to_fail, within};
 use crate::{Failed, Sink};
 use dm_memory::NoMemory;
 use std::alloc::Global;
@@ -101,7 +101,7 @@ impl Sink for MemSink {
     {
         self.calls = self.calls.saturating_add(1);
         let free = self.room - self.bytes.len();
-        if is_to_fail(&self.fails, self.calls) || (free == 0 && !from.is_empty()) {
+        if is_to_fail(&self.fails, self.calls) || has_no_room(free, from) {
             self.faults = self.faults.saturating_add(1);
             return Err(Failed);
         }

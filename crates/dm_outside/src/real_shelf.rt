@@ -1,6 +1,7 @@
 //! The shelf of real files: what an open file tells of its bytes stands in the contract. Which file the system opens under a
 //! name stands in none.
-ghost use Rattle.std.specs.Prelude.{◌≡◌, ◌<◌, ◌≤◌, ◌+◌, length, ⊤, None, IfOk, OnOk, OnErr, IfSome};
+ghost use Rattle.std.specs.Prelude.{◌≡◌, ◌<◌, ◌≤◌, ◌+◌, ◌==◌, ◌&&◌, length, ⊤, None, IfOk, OnOk, OnErr, IfSome};
+ghost use Rattle.std.specs.Str.{bytes_eq};
 ghost use Rattle.dm_outside.specs.Outside.{RoseOrFull};
 ghost use Rattle.dm_outside.specs.Real.{GoesOn, ReadsReal};
 
@@ -121,6 +122,13 @@ fn open<R: Files>(alloc: Global, rt: &R, name: &str) -> Option<Opened<R::File>>
     })
 }
 
+/// Whether this is the open file of a name, and its next byte the one at `from`.
+fn is_next<F>(opened: &Opened<F>, name: &str, from: u64) -> bool
+    ensures { result ≡ (bytes_eq opened.now.name name.now && opened.now.place == from) }
+{
+    opened.name.as_str() == name && opened.place == from
+}
+
 /// Reads on in the open file, if it is this one and its next byte is the one at `from`.
 fn read_on<F: Read + Drop>(
     opened: Option<Opened<F>>,
@@ -132,7 +140,7 @@ fn read_on<F: Read + Drop>(
     ensures goes_on { IfSome result (λ r. GoesOn F F.remaining opened (Some r.1) name.now from r.0 into.new) }
 {
     let mut opened = opened?;
-    if opened.name.as_str() != name || opened.place != from {
+    if !is_next(&opened, name, from) {
         return None;
     }
     let n = opened.file.read(into).ok()?;
