@@ -1,5 +1,2 @@
-//! The kernel without machines with places: its functions are those of the machines' code, and its places are what the
-//! printed lines say.
+//! The kernel without machines, with places.
 #![tactic(auto)]
-
-pub mod laws;

@@ -1,3 +1,4 @@
+pub mod Queued
 pub mod FitsRises
 pub mod FitsCalls
 pub mod FitsReceives
@@ -7,21 +8,4 @@ pub mod FitsCreates
 pub mod FitsServers
 pub mod FitsStart
 pub mod RunLabels
-pub mod SeenLives
-pub mod SeenPoint
-pub mod OrderLists
-pub mod OrderLines
-pub mod OrderMoves
-pub mod OrderPuts
-pub mod OrderTakes
-pub mod SeenParts
-pub mod SeenLabels
-pub mod SeenStart
-pub mod GoesTurns
-pub mod GoesFront
-pub mod GoesProcess
-pub mod GoesServers
-pub mod GoesAlways
-pub mod Decided
-pub mod OrderFinds
-pub mod OrderAlways
+pub mod Runs

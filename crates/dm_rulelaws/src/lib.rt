@@ -1,5 +1,2 @@
-//! What holds wherever the rule of several machines leads: each directive but a migration has its group, and what the
-//! kernel without machines and the printed lines say of processes and messages agrees.
+//! What holds wherever the rule of several machines leads.
 #![tactic(auto)]
-
-pub mod laws;
