@@ -1,5 +1,5 @@
 -- What a turn says before the messages that it sends are routed.
-use Rattle.std.proofs.Common.{◌≡◌, ◌≢◌, ℕ, ◌+◌, ◌≤◌, Bool, true, false, not, ◌==◌, List, [], ◌∷◌, ◌++◌, map, is_some}
+use Rattle.std.proofs.Common.{◌≡◌, ◌≢◌, ℕ, ◌+◌, ◌≤◌, Bool, true, false, not, ◌==◌, ◌&&◌, List, [], ◌∷◌, ◌++◌, map, is_some}
 use Rattle.std.specs.Prelude.{⊤}
 use Rattle.std.specs.declared.option.Option.{Option}
 use Rattle.std.specs.declared.option.Option.TheVariants.{None, Some}
@@ -14,6 +14,7 @@ use Rattle.dm_process.specs.declared.process.Process.{Process}
 use Rattle.dm_forward.specs.Records.{incoming_of}
 use Rattle.dm_onekernel.specs.declared.boot.Boot.{Boot}
 use Rattle.dm_schedule.specs.declared.Step.{Step}
+use Rattle.dm_schedule.specs.declared.Step.TheVariants as step
 use Rattle.dm_rule.specs.declared.line.Line.{Line}
 use Rattle.dm_rule.specs.declared.line.Line.TheVariants as line
 use Rattle.dm_rule.specs.declared.line.Stage.TheVariants as stage
@@ -29,9 +30,14 @@ use Rattle.dm_placed.specs.Placed.{Placed, Mirrors, enclosed}
 use Rattle.dm_kernel.specs.declared.part.Part.{Part}
 use Rattle.dm_kernel.specs.declared.part.Part.TheVariants as part
 use Rattle.dm_kernel.specs.State.{KernelState, Turned}
+use Rattle.dm_kernel.specs.Turn.{turn}
 use Rattle.dm_mirror.specs.Own.{AllOwnStand, about_of, told_of}
 use Rattle.dm_mirror.specs.Stands.{KernelStands}
 use Rattle.dm_mirror.specs.Tokens.{AllRecords, Carries, TokensStand, destination_of}
+
+-- behind the head of a turn
+abbrev pub begun : Point → ℕ → Point
+begun pt m = moved pt (line.Head (step.Turn m)) pt.kernel
 
 -- a spot that isn't on machine m
 abbrev pub is_elsewhere : ℕ → Spot → Bool
@@ -179,3 +185,80 @@ pub record Turns (b : Boot) (m : ℕ) (d : Step) (turned : Option Turned) (pt st
   pub late_may : LateMay (late_point next late) placed (at_machine records m state.records) late
   pub own : AllOwnStand (late_point next late).view placed
   pub tokens : TokensStand (late_point next late).view placed (at_machine records m state.records)
+
+-- a row of a turn that is no migration's: it says labels, or that a message is queued or that the machine idles, and routes at most one
+-- message of the bag; what moves stays as it is
+abbrev pub is_moving : Known → Bool
+is_moving Unknown = false
+is_moving Here = false
+is_moving (Frozen to) = true
+is_moving (Incoming from) = true
+is_moving (Forward at moves) = false
+is_moving Ended = false
+
+abbrev pub is_still : Line → Bool
+is_still (line.Label e) = true
+is_still (line.Queued id) = true
+is_still (line.Idle m) = true
+is_still (line.Head d) = false
+is_still (line.Put a c id k q) = false
+is_still (line.Packet a c k x) = false
+is_still (line.Taken a c n) = false
+is_still (line.Old a c n) = false
+is_still (line.Early a c n) = false
+is_still (line.Acked a c n) = false
+is_still line.Nothing = false
+is_still (line.Resent m n) = false
+is_still (line.Held id) = false
+is_still (line.Forwarded id m) = false
+is_still (line.Updated id n) = false
+is_still (line.Migration s p) = false
+is_still (line.SentOn p n) = false
+is_still (line.Lacks p s c) = false
+is_still (line.Stays p) = false
+is_still (line.Here id) = false
+is_still (line.NoMove id) = false
+is_still (line.Proto id) = false
+is_still (line.NoChild p) = false
+is_still (line.Pinned p) = false
+is_still (line.End e) = false
+
+abbrev pub are_still : List Line → Bool
+are_still [] = true
+are_still (l ∷ ls) = is_still l && are_still ls
+
+abbrev pub routed : Option Message → List Part
+routed None = []
+routed (Some x) = part.Routes x ∷ []
+
+abbrev pub rule_routed : Option Message → List rule.Part
+rule_routed None = []
+rule_routed (Some x) = rule.Routes x.id ∷ []
+
+abbrev pub IsSent : Placed → Option Message → Type 0
+IsSent placed None = ⊤
+IsSent placed (Some x) = (placed.bag x.id ≡ Some x) × (is_some (plain_message x) ≡ true)
+
+pub record Row (b : Boot) (m : ℕ) (pt : Point) (l : Placed) (k : KernelState) : Type 0 where
+  pub state : KernelState
+  pub says : List Line
+  pub route : Option Message
+  pub turn : turn b k ≡ Some (record { state = state; parts = map part.Says says ++ routed route })
+  pub outcome : outcome b pt (step.Turn m) ≡ Some (map rule.Says says ++ rule_routed route)
+  pub next : Point
+  pub after : after (begun pt m) says ≡ Some next
+  pub placed : Placed
+  pub mirrors : Mirrors next.kernel next.view next.addresses placed
+  pub kernel : KernelStands b next placed m state
+  pub elsewhere : Elsewhere m (begun pt m) l next placed
+  pub sent : IsSent placed route
+  pub still : are_still says ≡ true
+  -- it counts no message of the kernel's own, and what leaves or comes here stays
+  pub count : state.sent ≡ k.sent
+  pub moving : (p : Pid) → is_moving (pt.view.known m p) ≡ true → (placed.processes p ≡ l.processes p) × (state.records p ≡ k.records p)
+  -- the kernels' own messages stay
+  pub own : (i : MsgId) (x : Message) → plain_message x ≡ None → l.bag i ≡ Some x → placed.bag i ≡ Some x
+  pub own_back : (i : MsgId) (x : Message) → plain_message x ≡ None → placed.bag i ≡ Some x → l.bag i ≡ Some x
+
+abbrev pub TurnsAt : Boot → ℕ → Point → Placed → AllRecords → KernelState → Type 0
+TurnsAt b m pt l records k = Turns b m (step.Turn m) (turn b k) pt (begun pt m) l records k

@@ -30,7 +30,7 @@ use Rattle.dm_rule.specs.Addresses.{Addresses, Slot, Owner, Receiver, Sender, En
 pub record Placed : Type 0 where
   -- the processes that are alive; whichever messages wait for them
   pub processes : Pid → Option Process
-  -- the messages that nobody has got yet, and those of the machines' kernels
+  -- the messages that nobody has got yet, those of machines' kernels too
   pub bag : MsgId → Option Message
   pub board : Board
   pub manager : Managing

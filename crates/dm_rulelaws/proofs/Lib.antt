@@ -9,3 +9,17 @@ pub mod FitsServers
 pub mod FitsStart
 pub mod RunLabels
 pub mod Runs
+pub mod BasedNeeds
+pub mod BasedRows
+pub mod BasedGroups
+pub mod BasedConstants
+pub mod BasedLives
+pub mod BasedLoud
+pub mod BasedSets
+pub mod BasedLists
+pub mod BasedQueues
+pub mod BasedUnmoved
+pub mod BasedRings
+pub mod BasedKnown
+pub mod BasedStart
+pub mod BasedAlways
