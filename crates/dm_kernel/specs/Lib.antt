@@ -9,5 +9,6 @@ pub mod Asking
 pub mod Turn
 pub mod May
 pub mod Served
+pub mod Carried
 pub mod Meets
 pub mod Lawful

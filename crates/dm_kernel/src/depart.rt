@@ -1,7 +1,7 @@
 //! What a machine's kernel does where a process leaves it.
-ghost use Rattle.std.specs.Prelude.{◌≡◌, ◌<◌, ◌+◌, ◌++◌, ◌∷◌, [], IfOk, IsSome, OnOk, length, map};
+ghost use Rattle.std.specs.Prelude.{◌≡◌, ◌≢◌, ◌<◌, ◌+◌, ◌++◌, ◌∷◌, [], IfOk, IfSome, IsSome, OnOk, length, map};
 ghost use Rattle.dm_forward.specs.Records.{at, frozen_of, here_of};
-ghost use Rattle.dm_migrate.specs.Departure.{Departure};
+ghost use Rattle.dm_migrate.specs.Departure.{CanMove, Departure};
 ghost use Rattle.dm_migrate.specs.Pieces.{HasBlock, HasChunk, block_of, chunk_of, state_of as state_bytes};
 ghost use Rattle.dm_onekernel.specs.Options.{bind};
 ghost use Rattle.dm_kernel.specs.Departing.{freezes, gives_piece, holds_leaving, leaves, migrates, stays, takes_step};
@@ -26,7 +26,8 @@ impl Kernel {
     /// Lets a process leave for a machine, if it isn't there.
     pub(crate) fn migrate(&mut self, message: &Message, to: u8) -> Result<Vec<Part>, NoMemory>
         requires process { IsHere (CanFreeze (state_of self.old)) (at self.old.records message.now.to.pid) }
-        ensures { Answers result self.new (bind (here_of (at self.old.records message.now.to.pid)) (λ x. migrates (state_of self.old) message.now x to)) }
+        ensures answers { Answers result self.new (bind (here_of (at self.old.records message.now.to.pid)) (λ x. migrates (state_of self.old) message.now x to)) }
+        ensures whole { OnOk result (to ≢ self.old.here → IfSome (here_of (at self.old.records message.now.to.pid)) CanMove) }
     {
         if to == self.here {
             self.say(Line::Here(message.id))
@@ -38,7 +39,8 @@ impl Kernel {
     /// Freezes a process that is to leave for a machine: it isn't served any more, and that machine is asked.
     fn freeze(&mut self, pid: Pid, to: u8) -> Result<Vec<Part>, NoMemory>
         requires process { IsHere (CanFreeze (state_of self.old)) (at self.old.records pid) }
-        ensures { Answers result self.new (bind (here_of (at self.old.records pid)) (λ x. freezes (state_of self.old) pid x to)) }
+        ensures answers { Answers result self.new (bind (here_of (at self.old.records pid)) (λ x. freezes (state_of self.old) pid x to)) }
+        ensures whole { OnOk result (IfSome (here_of (at self.old.records pid)) CanMove) }
     {
         match self.records.swap(pid, Record::Forward { at: to, moves: 0 }) {
             Record::Here(process) => match freeze(self.alloc, process, to, None) {

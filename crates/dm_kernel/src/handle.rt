@@ -1,10 +1,12 @@
 //! How a message is handled: by its receiver, by what is known of that, and by its kind.
-ghost use Rattle.std.specs.Prelude.{◌≡◌, ◌<◌, Some, true};
+ghost use Rattle.std.specs.Prelude.{◌≡◌, ◌<◌, IfSome, OnOk, Some, true};
 ghost use Rattle.dm_forward.specs.Records.{at, here_of};
 ghost use Rattle.dm_forward.specs.declared.record.Record.TheVariants.{Here};
 ghost use Rattle.dm_message.specs.Lawful.{IsLawfulMessage};
+ghost use Rattle.dm_migrate.specs.Departure.{CanMove};
 ghost use Rattle.dm_onekernel.specs.Boot.{images_are_valid};
 ghost use Rattle.dm_onekernel.specs.Options.{bind};
+ghost use Rattle.dm_kernel.specs.Carried.{FreezesReceiverWhole, KnownIsWhole, WhereSentOff};
 ghost use Rattle.dm_kernel.specs.Handle.{ended_handles, handles, here_handles, process_handles};
 ghost use Rattle.dm_kernel.specs.May.{FitsEnded, FitsKnown, MayAct, MayHandle};
 ghost use Rattle.dm_kernel.specs.Meets.{Answers, state_of};
@@ -31,7 +33,8 @@ impl Kernel {
         requires images { images_are_valid boot.now.images ≡ true }
         requires here { self.old.here < 16 }
         requires processes { (p : _) (x : _) → at self.old.records p ≡ Some (Here x) → MayAct (state_of self.old) p x }
-        ensures { Answers result self.new (handles boot.now (state_of self.old) message) }
+        ensures answers { Answers result self.new (handles boot.now (state_of self.old) message) }
+        ensures whole { OnOk result (FreezesReceiverWhole (state_of self.old) message) }
     {
         let to = message.to.pid;
         if to.num == 0 {
@@ -51,7 +54,8 @@ impl Kernel {
         requires here { self.old.here < 16 }
         requires fits { FitsKnown (state_of self.old) message (at self.old.records message.to.pid) }
         requires acts { (x : _) → at self.old.records message.to.pid ≡ Some (Here x) → MayAct (state_of self.old) message.to.pid x }
-        ensures { Answers result self.new (process_handles (state_of self.old) message (at self.old.records message.to.pid)) }
+        ensures answers { Answers result self.new (process_handles (state_of self.old) message (at self.old.records message.to.pid)) }
+        ensures whole { OnOk result (KnownIsWhole self.old.here message.what (at self.old.records message.to.pid)) }
     {
         match self.records.borrow(message.to.pid) {
             Record::Here(_) => self.for_here(message),
@@ -70,7 +74,8 @@ impl Kernel {
         requires lawful { IsLawfulMessage message }
         requires here { self.old.here < 16 }
         requires process { IsHere (Handles (state_of self.old) message) (at self.old.records message.to.pid) }
-        ensures { Answers result self.new (bind (here_of (at self.old.records message.to.pid)) (λ x. here_handles (state_of self.old) message x message.what)) }
+        ensures answers { Answers result self.new (bind (here_of (at self.old.records message.to.pid)) (λ x. here_handles (state_of self.old) message x message.what)) }
+        ensures whole { OnOk result (WhereSentOff self.old.here message.what (IfSome (here_of (at self.old.records message.to.pid)) CanMove)) }
     {
         match &message.what {
             What::User { .. } => self.queue(message),

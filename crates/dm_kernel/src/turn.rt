@@ -1,9 +1,10 @@
 //! A turn of the machine.
-ghost use Rattle.std.specs.Prelude.{◌≡◌, ◌<◌, [], ◌∷◌, IfOk, IfSome, Some, length, slice_get, true};
+ghost use Rattle.std.specs.Prelude.{◌≡◌, ◌<◌, [], ◌∷◌, IfOk, IfSome, OnOk, Some, length, slice_get, true};
 ghost use Rattle.dm_forward.specs.Records.{at};
 ghost use Rattle.dm_forward.specs.declared.record.Record.TheVariants.{Here};
 ghost use Rattle.dm_onekernel.specs.Boot.{images_are_valid};
 ghost use Rattle.dm_onekernel.specs.Options.{bind};
+ghost use Rattle.dm_kernel.specs.Carried.{FreezesWhole};
 ghost use Rattle.dm_kernel.specs.May.{MayAct, MayTurn};
 ghost use Rattle.dm_kernel.specs.Meets.{Answers, state_of};
 ghost use Rattle.dm_kernel.specs.Turn.{first_runnable, goes_round, known_is_runnable, turn};
@@ -23,7 +24,9 @@ impl Kernel {
     pub fn turn(&mut self, boot: &Boot) -> Result<Vec<Part>, NoMemory>
         requires may { MayTurn boot.now (state_of self.old) }
         requires images { images_are_valid boot.now.images ≡ true }
-        ensures { Answers result self.new (turn boot.now (state_of self.old)) }
+        ensures answers { Answers result self.new (turn boot.now (state_of self.old)) }
+        // Where it froze a process, that one can be carried whole.
+        ensures whole { OnOk result (FreezesWhole (state_of self.old) self.old.inbox) }
     {
         match self.inbox.pop() {
             Some(message) => self.handle(boot, message),

@@ -124,6 +124,25 @@ impl Arriving {
         self.held.as_slice()
     }
 
+    /// All of it but for its memory and its queue, where all has come. It takes no memory.
+    pub fn shell(&self) -> Shell
+        requires { self.now.wanted ≡ Wanted.Nothing }
+        ensures { restarted self.now ≡ Some (revived result self.now.memory) }
+    {
+        match unpack(&self.state, self.cap) {
+            Ok(shell) => shell,
+            Err(_) => unreachable!(),
+        }
+    }
+
+    /// Its memory, where all has come.
+    pub fn memory(&self) -> &Memory
+        requires { self.now.wanted ≡ Wanted.Nothing }
+        ensures { result.now ≡ self.now.memory }
+    {
+        &self.memory
+    }
+
     /// Takes the piece that was asked for, and asks for the next, or says that all has come. It takes no memory.
     pub fn take(&mut self, piece: What) -> What
         requires { IsNextPiece self.old piece }

@@ -1,24 +1,43 @@
--- What a turn says before the message that it sends, if any, is routed.
-use Rattle.std.proofs.Common.{◌≡◌, ◌≢◌, ℕ, ◌≤◌, Bool, true, not, ◌==◌, List, [], ◌∷◌, ◌++◌, map}
+-- What a turn says before the messages that it sends are routed.
+use Rattle.std.proofs.Common.{◌≡◌, ◌≢◌, ℕ, ◌+◌, ◌≤◌, Bool, true, false, not, ◌==◌, ◌&&◌, List, [], ◌∷◌, ◌++◌, map, is_some}
+use Rattle.std.specs.Prelude.{⊤}
 use Rattle.std.specs.declared.option.Option.{Option}
 use Rattle.std.specs.declared.option.Option.TheVariants.{None, Some}
 use Rattle.dm_link.specs.declared.Pid.{Pid}
+use Rattle.dm_link.specs.Names.{place_of}
+use Rattle.dm_linkupdate.specs.Notice.{kernel_at}
 use Rattle.dm_message.specs.declared.Message.{Message}
 use Rattle.dm_message.specs.declared.MsgId.{MsgId}
+use Rattle.dm_message.specs.Kinds.{kind_of}
+use Rattle.dm_message.specs.Plain.{plain_message}
+use Rattle.dm_process.specs.declared.process.Process.{Process}
+use Rattle.dm_forward.specs.Records.{incoming_of}
 use Rattle.dm_onekernel.specs.declared.boot.Boot.{Boot}
+use Rattle.dm_schedule.specs.declared.Step.{Step}
 use Rattle.dm_schedule.specs.declared.Step.TheVariants as step
 use Rattle.dm_rule.specs.declared.line.Line.{Line}
+use Rattle.dm_rule.specs.declared.line.Line.TheVariants as line
+use Rattle.dm_rule.specs.declared.line.Stage.TheVariants as stage
+use Rattle.dm_rule.specs.Addresses.{Receiver, Sender, given, own_gives}
 use Rattle.dm_rule.specs.Parts as rule
-use Rattle.dm_rule.specs.Point.{Point, after}
+use Rattle.dm_rule.specs.Phases.{is_between}
+use Rattle.dm_rule.specs.Point.{Point, after, moved}
 use Rattle.dm_rule.specs.Rule.{outcome}
+use Rattle.dm_rule.specs.Sets.{at_machine}
 use Rattle.dm_rule.specs.Spots.{Spot, Queue, Held, Inbox, Untaken, standing}
-use Rattle.dm_rulelaws.proofs.GoesFront.{begun}
-use Rattle.dm_placed.specs.Placed.{Placed, Mirrors}
+use Rattle.dm_rule.specs.View.{Known, Unknown, Here, Frozen, Incoming, Forward, Ended, Of, Told, own_id}
+use Rattle.dm_placed.specs.Placed.{Placed, Mirrors, enclosed}
 use Rattle.dm_kernel.specs.declared.part.Part.{Part}
 use Rattle.dm_kernel.specs.declared.part.Part.TheVariants as part
-use Rattle.dm_kernel.specs.State.{KernelState}
+use Rattle.dm_kernel.specs.State.{KernelState, Turned}
 use Rattle.dm_kernel.specs.Turn.{turn}
+use Rattle.dm_mirror.specs.Own.{AllOwnStand, about_of, told_of}
 use Rattle.dm_mirror.specs.Stands.{KernelStands}
+use Rattle.dm_mirror.specs.Tokens.{AllRecords, Carries, TokensStand, destination_of}
+
+-- behind the head of a turn
+abbrev pub begun : Point → ℕ → Point
+begun pt m = moved pt (line.Head (step.Turn m)) pt.kernel
 
 -- a spot that isn't on machine m
 abbrev pub is_elsewhere : ℕ → Spot → Bool
@@ -27,7 +46,16 @@ is_elsewhere m (Held n p) = not (n == m)
 is_elsewhere m (Inbox n) = not (n == m)
 is_elsewhere m (Untaken a c) = true
 
--- what labels on machine m leave of the other machines and of the pairs
+-- a machine has a process, holds it back or expects it
+abbrev pub has_process : Known → Bool
+has_process Unknown = false
+has_process Here = true
+has_process (Frozen to) = true
+has_process (Incoming from) = true
+has_process (Forward at moves) = false
+has_process Ended = false
+
+-- what a turn on machine m leaves of the other machines and of the pairs, before its messages are routed
 pub record Elsewhere (m : ℕ) (pt : Point) (l : Placed) (next : Point) (placed : Placed) : Type 0 where
   pub acting : next.view.acting ≡ m
   pub groups : next.view.groups ≡ pt.view.groups
@@ -36,17 +64,169 @@ pub record Elsewhere (m : ℕ) (pt : Point) (l : Placed) (next : Point) (placed 
   pub ring : (n : ℕ) → n ≢ m → next.view.ring n ≡ pt.view.ring n
   pub known : (n : ℕ) (p : Pid) → n ≢ m → next.view.known n p ≡ pt.view.known n p
   pub queue : (n : ℕ) (p : Pid) → n ≢ m → next.view.queue n p ≡ pt.view.queue n p
+  pub held : (n : ℕ) (p : Pid) → n ≢ m → next.view.held n p ≡ pt.view.held n p
+  pub count : (n : ℕ) → next.view.count n ≡ pt.view.count n
+  pub told : next.view.told ≡ pt.view.told
   pub machines : next.kernel.machines ≡ pt.kernel.machines
   pub made : (n : ℕ) → n ≢ m → next.kernel.made n ≡ pt.kernel.made n
-  pub process : (p : Pid) → p.home ≢ m → placed.processes p ≡ l.processes p
-  pub life : (p : Pid) → p.home ≢ m → next.kernel.processes p ≡ pt.kernel.processes p
+  -- what another machine has, holds back or expects stays, and so does what has ended there
+  pub process : (n : ℕ) (p : Pid) → n ≢ m → has_process (pt.view.known n p) ≡ true → placed.processes p ≡ l.processes p
+  pub ended : (n : ℕ) (p : Pid) → n ≢ m → pt.view.known n p ≡ Ended → next.kernel.processes p ≡ pt.kernel.processes p
+  -- the blocks of what another machine knows stay
+  pub life : (n : ℕ) (p : Pid) → n ≢ m → has_process (pt.view.known n p) ≡ true → next.kernel.processes p ≡ pt.kernel.processes p
   -- a message that stands elsewhere stays
   pub bag : (i : MsgId) (s : Spot) → is_elsewhere m s ≡ true → 1 ≤ standing pt.view i s → placed.bag i ≡ l.bag i
   -- the servers are on machine 0
   pub board : m ≢ 0 → placed.board ≡ l.board
   pub manager : m ≢ 0 → placed.manager ≡ l.manager
 
+-- a message that is routed: one of the bag for the first time, one that goes on, or the next of the machine's kernel
+pub data Route : Type 0 where
+  First : (message : Message) → Route
+  On : (message : Message) → Route
+  Own : (message : Message) → Route
+
+abbrev pub message_of : Route → Message
+message_of (First x) = x
+message_of (On x) = x
+message_of (Own x) = x
+
 -- the machine's parts, and the rule's
+abbrev pub part_of : Route → Part
+part_of r = part.Routes (message_of r)
+
+abbrev pub rule_part_of : Route → rule.Part
+rule_part_of (First x) = rule.Routes x.id
+rule_part_of (On x) = rule.Again x.id x.to.at
+rule_part_of (Own x) = rule.Owns (kind_of x.what) x.to.pid x.to.at
+
+-- a kernel's own message carries what it is to, where it is of a migration
+pub record IsCarried (placed : Placed) (asked : ℕ) (records : AllRecords) (p : Pid) (x : Message) : Type 0 where
+  pub process : Process
+  pub there : placed.processes p ≡ Some process
+  pub sender : x.sender ≡ kernel_at x.id.from.home
+  pub carries : Carries p process asked (incoming_of (records (destination_of x.id (told_of x)) p)) x.what
+
+-- the machine's kernel may put its next message, where the machines have these records
+pub record MayOwn (pt : Point) (placed : Placed) (records : AllRecords) (x : Message) : Type 0 where
+  pub id : x.id ≡ own_id pt.view
+  pub plain : plain_message x ≡ None
+  pub encloses : enclosed x.what ≡ []
+  pub bag : placed.bag x.id ≡ None
+  pub untold : pt.view.told x.id ≡ None
+  pub receiver : given pt.addresses (own_gives pt.kernel pt.view pt.addresses x.id x.to.pid (kind_of x.what)) (Receiver x.id) ≡ place_of x.to
+  pub sender : given pt.addresses (own_gives pt.kernel pt.view pt.addresses x.id x.to.pid (kind_of x.what)) (Sender x.id) ≡ place_of x.sender
+  pub about : pt.view.topic ≡ about_of x.what
+  pub carried : is_between (kind_of x.what) ≡ true → (p : Pid) → about_of x.what ≡ Of p → IsCarried placed (pt.view.asked p) records p x
+
+-- a message may be put
+abbrev pub MayPut : Point → Placed → AllRecords → Route → Type 0
+MayPut pt placed records (First x) = (placed.bag x.id ≡ Some x) × (is_some (plain_message x) ≡ true)
+MayPut pt placed records (On x) = (placed.bag x.id ≡ Some x) × ((t : Told) × (pt.view.told x.id ≡ Some t) × (t.kind ≡ kind_of x.what) × (t.receiver ≡ x.to.pid)) × (is_between (kind_of x.what) ≡ false)
+MayPut pt placed records (Own x) = MayOwn pt placed records x
+
+abbrev pub AllMayPut : Point → Placed → AllRecords → List Route → Type 0
+AllMayPut pt placed records [] = ⊤
+AllMayPut pt placed records (r ∷ rs) = MayPut pt placed records r × AllMayPut pt placed records rs
+
+-- where a process leaves, its machine's last line and message stand behind the messages that go on
+pub data Late : Type 0 where
+  Nothing : Late
+  Leaves : (process : Pid) → (restart : Message) → Late
+
+abbrev pub late_parts : Late → List Part
+late_parts Nothing = []
+late_parts (Leaves p x) = part.Says (line.Migration stage.Left p) ∷ part.Routes x ∷ []
+
+abbrev pub late_rule_parts : Late → List rule.Part
+late_rule_parts Nothing = []
+late_rule_parts (Leaves p x) = rule.Says (line.Migration stage.Left p) ∷ rule_part_of (Own x) ∷ []
+
+abbrev pub late_point : Point → Late → Point
+late_point pt Nothing = pt
+late_point pt (Leaves p x) = moved pt (line.Migration stage.Left p) pt.kernel
+
+-- how many of these are the kernel's own
+abbrev pub is_own : Route → ℕ
+is_own (First x) = 0
+is_own (On x) = 0
+is_own (Own x) = 1
+
+abbrev pub owns : List Route → ℕ
+owns [] = 0
+owns (r ∷ rs) = is_own r + owns rs
+
+abbrev pub late_owns : Late → ℕ
+late_owns Nothing = 0
+late_owns (Leaves p x) = 1
+
+abbrev pub LateMay : Point → Placed → AllRecords → Late → Type 0
+LateMay pt placed records Nothing = ⊤
+LateMay pt placed records (Leaves p x) = MayOwn pt placed records x
+
+-- machine m's turn, or its part in a directive to move a process, from a point with the head said, with this kernel with places, these
+-- records of all machines and this kernel of the machine: what the kernel and the rule come to
+pub record Turns (b : Boot) (m : ℕ) (d : Step) (turned : Option Turned) (pt start : Point) (l : Placed) (records : AllRecords) (k : KernelState) : Type 0 where
+  pub state : KernelState
+  pub says : List Line
+  pub routes : List Route
+  pub late : Late
+  pub turn : turned ≡ Some (record { state = state; parts = map part.Says says ++ map part_of routes ++ late_parts late })
+  pub outcome : outcome b pt d ≡ Some (map rule.Says says ++ map rule_part_of routes ++ late_rule_parts late)
+  pub next : Point
+  pub after : after start says ≡ Some next
+  pub placed : Placed
+  pub mirrors : Mirrors next.kernel next.view next.addresses placed
+  pub kernel : KernelStands b (late_point next late) placed m state
+  -- the kernel of the machine has counted its own messages of this turn already
+  pub sent : k.sent ≡ pt.view.count m → state.sent ≡ next.view.count m + (owns routes + late_owns late)
+  pub elsewhere : Elsewhere m start l (late_point next late) placed
+  pub may : AllMayPut (late_point next late) placed (at_machine records m state.records) routes
+  pub late_may : LateMay (late_point next late) placed (at_machine records m state.records) late
+  pub own : AllOwnStand (late_point next late).view placed
+  pub tokens : TokensStand (late_point next late).view placed (at_machine records m state.records)
+
+-- a row of a turn that is no migration's: it says labels, or that a message is queued or that the machine idles, and routes at most one
+-- message of the bag; what moves stays as it is
+abbrev pub is_moving : Known → Bool
+is_moving Unknown = false
+is_moving Here = false
+is_moving (Frozen to) = true
+is_moving (Incoming from) = true
+is_moving (Forward at moves) = false
+is_moving Ended = false
+
+abbrev pub is_still : Line → Bool
+is_still (line.Label e) = true
+is_still (line.Queued id) = true
+is_still (line.Idle m) = true
+is_still (line.Head d) = false
+is_still (line.Put a c id k q) = false
+is_still (line.Packet a c k x) = false
+is_still (line.Taken a c n) = false
+is_still (line.Old a c n) = false
+is_still (line.Early a c n) = false
+is_still (line.Acked a c n) = false
+is_still line.Nothing = false
+is_still (line.Resent m n) = false
+is_still (line.Held id) = false
+is_still (line.Forwarded id m) = false
+is_still (line.Updated id n) = false
+is_still (line.Migration s p) = false
+is_still (line.SentOn p n) = false
+is_still (line.Lacks p s c) = false
+is_still (line.Stays p) = false
+is_still (line.Here id) = false
+is_still (line.NoMove id) = false
+is_still (line.Proto id) = false
+is_still (line.NoChild p) = false
+is_still (line.Pinned p) = false
+is_still (line.End e) = false
+
+abbrev pub are_still : List Line → Bool
+are_still [] = true
+are_still (l ∷ ls) = is_still l && are_still ls
+
 abbrev pub routed : Option Message → List Part
 routed None = []
 routed (Some x) = part.Routes x ∷ []
@@ -56,11 +236,10 @@ rule_routed None = []
 rule_routed (Some x) = rule.Routes x.id ∷ []
 
 abbrev pub IsSent : Placed → Option Message → Type 0
-IsSent placed None = Unit {0}
-IsSent placed (Some x) = placed.bag x.id ≡ Some x
+IsSent placed None = ⊤
+IsSent placed (Some x) = (placed.bag x.id ≡ Some x) × (is_some (plain_message x) ≡ true)
 
--- a turn of machine m from a point, with this kernel with places and this kernel of the machine
-pub record Turns (b : Boot) (m : ℕ) (pt : Point) (l : Placed) (k : KernelState) : Type 0 where
+pub record Row (b : Boot) (m : ℕ) (pt : Point) (l : Placed) (k : KernelState) : Type 0 where
   pub state : KernelState
   pub says : List Line
   pub route : Option Message
@@ -73,3 +252,13 @@ pub record Turns (b : Boot) (m : ℕ) (pt : Point) (l : Placed) (k : KernelState
   pub kernel : KernelStands b next placed m state
   pub elsewhere : Elsewhere m (begun pt m) l next placed
   pub sent : IsSent placed route
+  pub still : are_still says ≡ true
+  -- it counts no message of the kernel's own, and what leaves or comes here stays
+  pub count : state.sent ≡ k.sent
+  pub moving : (p : Pid) → is_moving (pt.view.known m p) ≡ true → (placed.processes p ≡ l.processes p) × (state.records p ≡ k.records p)
+  -- the kernels' own messages stay
+  pub own : (i : MsgId) (x : Message) → plain_message x ≡ None → l.bag i ≡ Some x → placed.bag i ≡ Some x
+  pub own_back : (i : MsgId) (x : Message) → plain_message x ≡ None → placed.bag i ≡ Some x → l.bag i ≡ Some x
+
+abbrev pub TurnsAt : Boot → ℕ → Point → Placed → AllRecords → KernelState → Type 0
+TurnsAt b m pt l records k = Turns b m (step.Turn m) (turn b k) pt (begun pt m) l records k

@@ -12,7 +12,6 @@ use Rattle.dm_rule.specs.Good.{Todo, Next, all_of}
 use Rattle.dm_rule.specs.Good as rule
 use Rattle.dm_rule.specs.Laws.{IsStep, Leads}
 use Rattle.dm_rule.specs.Point.{Point, first_point}
-use Rattle.dm_rulelaws.specs.Laws.{MovesNothing}
 use Rattle.dm_world.specs.World.{WorldState, first_world}
 use Rattle.dm_world.specs.May.{MayStep}
 use Rattle.dm_world.specs.Next as world
@@ -32,7 +31,7 @@ StartStands = (b : Boot) → IsValid b → Stands b (first_world b) (first_point
 -- what the rule says, or stops worn
 abbrev pub StepsStand : Type 0
 StepsStand =
-    (b : Boot) (es : List Step) (w : WorldState) (pt : Point) (e : Step) → IsValid b → Leads b (first_point b) es pt → Stands b w pt → AllMayAct b w → IsReadable w → IsStep (length b.machines) e → MovesNothing e
+    (b : Boot) (es : List Step) (w : WorldState) (pt : Point) (e : Step) → IsValid b → Leads b (first_point b) es pt → Stands b w pt → AllMayAct b w → IsReadable w → IsStep (length b.machines) e
     → MayStep b w e × Steps b w pt e
 
 -- which directive comes next is what the printed lines say

@@ -1,3 +1,5 @@
+pub mod Own
+pub mod Tokens
 pub mod Stands
 pub mod Able
 pub mod Todo

@@ -16,6 +16,10 @@ use Rattle.dm_stream.specs.Stream.{Stream}
 use Rattle.dm_stream.specs.Order as order
 use Rattle.dm_packet.specs.Packets.{spelling}
 use Rattle.dm_wire.specs.Sent as wire
+use Rattle.dm_process.specs.declared.process.Process.{Process}
+use Rattle.dm_migrate.specs.Departure.{CanMove, Departure}
+use Rattle.dm_migrate.specs.Arrival.{Arrival}
+use Rattle.dm_migrate.specs.Way.{coming}
 use Rattle.dm_onekernel.specs.declared.boot.Boot.{Boot}
 use Rattle.dm_onekernel.specs.Step as kernel
 use Rattle.dm_kernel.specs.declared.kernel.Servers.{Servers}
@@ -27,24 +31,48 @@ use Rattle.dm_node.specs.State.{NodeState}
 use Rattle.dm_node.specs.Out.{packet_of}
 use Rattle.dm_rule.specs.declared.line.Load.{Load}
 use Rattle.dm_rule.specs.declared.line.Load.TheVariants as load
-use Rattle.dm_rule.specs.View.{Sent, Known, Unknown, Here, Ended}
+use Rattle.dm_rule.specs.View.{Sent, Known, Unknown, Here, Frozen, Incoming, Forward, Ended}
 use Rattle.dm_rule.specs.Point.{Point}
 use Rattle.dm_rule.specs.Rule.{Room, taken_at, has}
 use Rattle.dm_rulelaws.specs.Fits.{is_server}
 use Rattle.dm_placed.specs.Placed.{Placed, Mirrors}
 use Rattle.dm_world.specs.World.{WorldState}
+use Rattle.dm_mirror.specs.Own.{AllOwnStand}
+use Rattle.dm_mirror.specs.Tokens.{TokensStand}
 
 -- these are the messages with these names
 abbrev pub AreMessages : (MsgId → Option Message) → List MsgId → List Message → Type 0
 AreMessages bag ids ms = map bag ids ≡ map Some ms
 
--- what a machine knows of a process is what the lines say; a process that is here is the one of the kernel with places, but
--- for its queue, which holds the messages that the lines say
-abbrev pub KnownStands : Point → Placed → Pid → List MsgId → Known → Option machine.Known → Type 0
-KnownStands pt l p queue Unknown None = ⊤
-KnownStands pt l p queue Here (Some (record_.Here x)) = ((q : List Message) × (l.processes p ≡ Some (record x { queue = q }))) × AreMessages l.bag queue x.queue
-KnownStands pt l p queue Ended (Some (record_.Ended y)) = kernel.ended (pt.kernel.processes p) ≡ Some y
-KnownStands pt l p queue k r = ⊥
+-- a process is the one of the kernel with places, but for its queue, which holds the messages that the lines say
+abbrev pub HereStands : Placed → Pid → List MsgId → Process → Type 0
+HereStands l p queue x = ((q : List Message) × (l.processes p ≡ Some (record x { queue = q }))) × AreMessages l.bag queue x.queue
+
+-- a process that leaves for a machine is held back there, and can be carried whole
+pub record LeavesStand (l : Placed) (p : Pid) (queue held_ : List MsgId) (at : ℕ) (d : Departure) : Type 0 where
+  pub to : d.to ≡ at
+  pub asker : d.asker ≡ None
+  pub here : HereStands l p queue d.process
+  pub held : AreMessages l.bag held_ d.held
+  pub whole : CanMove d.process
+
+-- of a process that comes there are the pieces up to the one that is asked for
+pub record ComesStand (l : Placed) (p : Pid) (held_ : List MsgId) (a : Arrival) : Type 0 where
+  pub process : Process
+  pub there : l.processes p ≡ Some process
+  pub whole : CanMove process
+  pub pieces : a ≡ coming process None a.held a.wanted
+  pub held : AreMessages l.bag held_ a.held
+
+-- what a machine knows of a process is what the lines say
+abbrev pub KnownStands : Point → Placed → Pid → List MsgId → List MsgId → Known → Option machine.Known → Type 0
+KnownStands pt l p queue held Unknown None = ⊤
+KnownStands pt l p queue held Here (Some (record_.Here x)) = HereStands l p queue x
+KnownStands pt l p queue held (Frozen to) (Some (record_.Frozen d)) = LeavesStand l p queue held to d
+KnownStands pt l p queue held (Incoming from) (Some (record_.Incoming a)) = ComesStand l p held a
+KnownStands pt l p queue held (Forward at moves) (Some (record_.Forward to count)) = (to ≡ at) × (count ≡ moves)
+KnownStands pt l p queue held Ended (Some (record_.Ended y)) = kernel.ended (pt.kernel.processes p) ≡ Some y
+KnownStands pt l p queue held k r = ⊥
 
 -- the room is the boot file's, and what is taken is what the processes of the lines take
 pub record RoomStands (t given : Taken) (r : Room) : Type 0 where
@@ -60,7 +88,7 @@ servers_at l m = if m == 0 then Some (record { board = l.board; manager = l.mana
 pub record KernelStands (b : Boot) (pt : Point) (l : Placed) (m : ℕ) (k : KernelState) : Type 0 where
   pub here : k.here ≡ m
   -- the servers have no records
-  pub known : (p : Pid) → is_server p ≡ false → KnownStands pt l p (pt.view.queue m p) (pt.view.known m p) (k.records p)
+  pub known : (p : Pid) → is_server p ≡ false → KnownStands pt l p (pt.view.queue m p) (pt.view.held m p) (pt.view.known m p) (k.records p)
   pub no_server : (p : Pid) → is_server p ≡ true → k.records p ≡ None
   pub ring : k.ring ≡ pt.view.ring m
   pub inbox : AreMessages l.bag (pt.view.inbox m) k.inbox
@@ -130,6 +158,13 @@ pub record StandsWith (b : Boot) (w : WorldState) (pt : Point) (l : Placed) (h :
   pub pairs : (a c : ℕ) → a < pt.kernel.machines → c < pt.kernel.machines → a ≢ c → PairStands b pt l w h a c
   -- no pair counts more messages than it may
   pub counts : (a c : ℕ) → length (pt.view.pair a c).ids ≤ b.numbers
+  -- the kernels' own messages, and those of them that carry what moves
+  pub own : AllOwnStand pt.view l
+  pub tokens : TokensStand pt.view l (λ m. (w.nodes m).kernel.records)
+
+-- each machine has counted its kernel's own messages as the lines have
+abbrev pub CountsStand : WorldState → Point → Type 0
+CountsStand w pt = (m : ℕ) → m < pt.kernel.machines → (w.nodes m).kernel.sent ≡ pt.view.count m
 
 abbrev pub Stands : Boot → WorldState → Point → Type 0
-Stands b w pt = (l : Placed) × (h : History) × StandsWith b w pt l h
+Stands b w pt = ((l : Placed) × (h : History) × StandsWith b w pt l h) × CountsStand w pt

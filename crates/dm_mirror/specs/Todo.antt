@@ -1,11 +1,10 @@
--- What is left to do is for the machines that there are, and moves no process.
+-- What is left to do is for the machines that there are.
 use Rattle.std.specs.Prelude.{◌≢◌, ⊤, ℕ, ◌<◌}
 use Rattle.std.specs.List.{All}
 use Rattle.dm_schedule.specs.declared.Directive.{Directive}
 use Rattle.dm_schedule.specs.declared.Directive.TheVariants as directive
 use Rattle.dm_rule.specs.Good.{Two, Todo}
 use Rattle.dm_rule.specs.Laws.{IsStep}
-use Rattle.dm_rulelaws.specs.Laws.{MovesNothing}
 
 -- two different machines
 pub record IsTwo (machines : ℕ) (p : Two) : Type 0 where
@@ -14,7 +13,7 @@ pub record IsTwo (machines : ℕ) (p : Two) : Type 0 where
   pub apart : p.from ≢ p.to
 
 abbrev pub IsDirective : ℕ → Directive → Type 0
-IsDirective machines (directive.One s) = IsStep machines s × MovesNothing s
+IsDirective machines (directive.One s) = IsStep machines s
 IsDirective machines directive.Round = ⊤
 IsDirective machines (directive.Spin n) = ⊤
 

@@ -1,4 +1,2 @@
-//! The machines and their wires stand for what was printed, and every run of them is good.
+//! What all machines have is what the printed lines say.
 #![tactic(auto)]
-
-pub mod laws;

@@ -21,7 +21,7 @@ use Rattle.dm_node.specs.declared.out.Out.TheVariants.{Says}
 use Rattle.dm_node.specs.State.{NodeState, here, with_sender}
 use Rattle.dm_node.specs.Out.{Acts, Goes, Worn, behind, then_}
 use Rattle.dm_node.specs.Acts.{acts, gives, is_worn, none_waits, routes, routes_away, routes_home, sends_due, turns}
-use Rattle.dm_node.specs.Meets.{Answers, AnswersSome, GaveActs, HasStreams, state_of}
+use Rattle.dm_node.specs.Meets.{Answers, AnswersSome, GaveActs, HasStreams, OrNoMemory, state_of}
 
 -- what answers the rest answers the whole
 pub answers_behind : (r : Result Unit Stop) (after : Node) (old mid new : List Out) (outs : List Out) (a : Acts) → mid ≡ old ++ outs → Answers r after mid new a → Answers r after old new (behind outs a)
@@ -130,3 +130,9 @@ turn_answered r after n k parts (Some t) old new h g =
     some_answered r after old new (acts (record n { kernel = t.state }) t.parts)
     (subst (λ ps. Answers r after old new (acts (record n { kernel = t.state }) ps)) h.parts
     (subst (λ s. Answers r after old new (acts (record n { kernel = s }) parts)) (kernel_is k t.state h.state) g))
+
+-- what holds holds, memory or not
+pub or_no_memory : {X : Type 0} (r : Result X Stop) (P : Type 0) → P → OrNoMemory r P
+or_no_memory (Ok done) P h = h
+or_no_memory (Err (stop.Worn from to)) P h = h
+or_no_memory (Err (stop.NoMemory e)) P h = tt

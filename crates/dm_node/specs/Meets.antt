@@ -87,3 +87,12 @@ abbrev pub AnswersSome : Result Unit Stop → Node → List Out → List Out →
 AnswersSome (Ok done) n old new a = GaveSome n old new a
 AnswersSome (Err (stop.Worn from to)) n old new a = IsWornSome from to a
 AnswersSome (Err (stop.NoMemory e)) n old new a = ⊤
+
+-- this holds, unless there was no memory
+abbrev pub IfWorn : Stop → Type 0 → Type 0
+IfWorn (stop.Worn from to) P = P
+IfWorn (stop.NoMemory e) P = ⊤
+
+abbrev pub OrNoMemory : {X : Type 0} → Result X Stop → Type 0 → Type 0
+OrNoMemory (Ok done) P = P
+OrNoMemory (Err s) P = IfWorn s P

@@ -2,10 +2,11 @@
 ghost use Rattle.std.specs.Prelude.{◌≡◌, ◌<◌, ◌≤◌, ◌+◌, ◌^◌, ◌++◌, [], IfOk, true, OnOk};
 ghost use Rattle.std.specs.List.{All};
 ghost use Rattle.dm_onekernel.specs.Boot.{images_are_valid};
+ghost use Rattle.dm_kernel.specs.Carried.{FreezesWhole};
 ghost use Rattle.dm_kernel.specs.Lawful.{IsLawfulPart, IsLawfulState};
 ghost use Rattle.dm_node.specs.Acts.{acts, all_out, asks_move, count_out, counts_out, first_out, tick, turn};
 ghost use Rattle.dm_node.specs.May.{MayAct, MayAskMove, MayTurn};
-ghost use Rattle.dm_node.specs.Meets.{Answers, AnswersSome, Gave, HasStreams, state_of};
+ghost use Rattle.dm_node.specs.Meets.{Answers, AnswersSome, Gave, HasStreams, OrNoMemory, state_of};
 
 use crate::node::Node;
 use crate::out::Out;
@@ -25,7 +26,9 @@ impl Node {
         requires images { images_are_valid boot.now.images ≡ true }
         requires lawful { IsLawfulState (state_of self.old).kernel }
         requires streams { HasStreams self.old }
-        ensures { AnswersSome result self.new outs.old.items outs.new.items (turn boot.now (state_of self.old)) }
+        ensures answers { AnswersSome result self.new outs.old.items outs.new.items (turn boot.now (state_of self.old)) }
+        // Where the kernel froze a process, that one can be carried whole.
+        ensures whole { OrNoMemory result (FreezesWhole (state_of self.old).kernel (state_of self.old).kernel.inbox) }
     {
         turns_are_lawful();
         match self.kernel.turn(boot) {

@@ -169,18 +169,6 @@ is_there s v a l i n k h there says j =
     let (m, found, e) = there_of s l i k h.plain there in
     found ∙ ap Some (message_is a i m n k e says (h.places.message i m found) j)
 
-bag_is : (a : Addresses) (i : MsgId) (c : Option PlainMessage) (o r : Option Message) → option_map Some c ≡ option_map plain_message o → option_map Some c ≡ option_map plain_message r
-    → ((m : Message) → o ≡ Some m → MirrorsMessage a i m) → ((m : Message) → r ≡ Some m → MirrorsMessage a i m) → o ≡ r
-bag_is a i None None None e f h j = refl
-bag_is a i None (Some m) r e f h j = cc
-bag_is a i None None (Some n) e f h j = cc
-bag_is a i (Some k) None r e f h j = cc
-bag_is a i (Some k) (Some m) None e f h j = cc
-bag_is a i (Some k) (Some m) (Some n) e f h j =
-    let g : plain_message m ≡ Some k = cc in
-    let z : plain_message n ≡ Some k = cc in
-    ap Some (message_is a i m n k g z (h m refl) (j n refl))
-
 -- a process of both
 alike_of : (o : Option PlainProcess) (b c : Option Process) (x y : Process) → o ≡ option_map plain_process b → o ≡ option_map plain_process c → b ≡ Some x → c ≡ Some y → plain_process x ≡ plain_process y
 alike_of o b c x y e f g h =
@@ -190,7 +178,10 @@ alike_of o b c x y e f g h =
 
 pub point_determines : PointDetermines
 point_determines s v a l m h k = (
-  λ i. bag_is a i (s.bag i) (l.bag i) (m.bag i) (h.plain.bag i) (k.plain.bag i) (h.places.message i) (k.places.message i),
+  λ i x e.
+      let (n, there, says) = there_of s l i x h.plain e in
+      let (r, stands, means) = there_of s m i x k.plain e in
+      there ∙ ap Some (message_is a i n r x says means (h.places.message i n there) (k.places.message i r stands)) ∙ sym stands,
   λ p x y e f.
       process_is v a p x y y.queue (alike_of (kernel.alive (s.processes p)) (l.processes p) (m.processes p) x y (h.plain.processes p) (k.plain.processes p) e f) (h.places.process p x e) (k.places.process p y f),
 )

@@ -13,11 +13,13 @@ use Rattle.dm_message.specs.Plain.{PlainMessage, PlainWhat, plain_message, plain
 use Rattle.dm_process.specs.declared.process.Process.{Process}
 use Rattle.dm_onekernel.specs.Kernel as one
 use Rattle.dm_onekernel.specs.Kernel.{Life, OneKernel}
+use Rattle.dm_onekernel.specs.Options.{bind}
 use Rattle.dm_onekernel.specs.Plain.{plain_process}
 use Rattle.dm_onekernel.specs.PlainProcess.{PlainProcess}
 use Rattle.dm_onekernel.specs.Service as service
 use Rattle.dm_onekernel.specs.Step as kernel
 use Rattle.dm_laws.proofs.Equal.{pid_eq-is, id_eq-is}
+use Rattle.dm_laws.proofs.Steps.{bind-is}
 use Rattle.dm_rule.specs.View.{View}
 use Rattle.dm_rule.specs.Addresses.{Addresses}
 use Rattle.dm_rule.proofs.HomesRows.{SameProcess, SameMessage, SameServers}
@@ -33,7 +35,7 @@ pub alive_of : (s : OneKernel) (l : Placed) (p : Pid) (x : PlainProcess) → Mir
 alive_of s l p x h e = of_map plain_process (l.processes p) x (sym e ∙ h.processes p)
 
 pub there_of : (s : OneKernel) (l : Placed) (i : MsgId) (k : PlainMessage) → MirrorsKernel s l → s.bag i ≡ Some k → (m : Message) × (l.bag i ≡ Some m) × (plain_message m ≡ Some k)
-there_of s l i k h e = of_map plain_message (l.bag i) (Some k) (sym (ap (option_map Some) e) ∙ h.bag i)
+there_of s l i k h e = bind-is (l.bag i) plain_message k (h.bag i ∙ e)
 
 -- the parts of a message without places
 pub record Parts (m : Message) (o : Option PlainWhat) (k : PlainMessage) : Type 0 where
@@ -72,10 +74,10 @@ kernel_process s l p life y e h = record {
   images = h.images;
 }
 
-pub kernel_message : (s : OneKernel) (l : Placed) (i : MsgId) (k : Option PlainMessage) (m : Option Message) → option_map Some k ≡ option_map plain_message m → MirrorsKernel s l → MirrorsKernel (one.with_message s i k) (with_message l i m)
+pub kernel_message : (s : OneKernel) (l : Placed) (i : MsgId) (k : Option PlainMessage) (m : Option Message) → bind m plain_message ≡ k → MirrorsKernel s l → MirrorsKernel (one.with_message s i k) (with_message l i m)
 kernel_message s l i k m e h = record {
   processes = h.processes;
-  bag = λ j. both_if (option_map Some) (option_map plain_message) (id_eq i j) k (s.bag j) m (l.bag j) e (h.bag j);
+  bag = λ j. both_if (λ (o : Option Message). bind o plain_message) (λ (o : Option PlainMessage). o) (id_eq i j) m (l.bag j) k (s.bag j) e (h.bag j);
   board = h.board;
   manager = h.manager;
   machines = h.machines;
@@ -87,7 +89,7 @@ kernel_out s l i h = kernel_message s l i None None refl h
 
 pub kernel_sent : (s : OneKernel) (l : Placed) (k : PlainMessage) (m : Message) → plain_message m ≡ Some k → MirrorsKernel s l → MirrorsKernel (one.with_sent s (Some k)) (with_sent l (Some m))
 kernel_sent s l k m e h =
-    subst (λ (j : MsgId). MirrorsKernel (one.with_message s j (Some k)) (with_message l m.id (Some m))) (parts m k e).id (kernel_message s l m.id (Some k) (Some m) (sym (ap Some e)) h)
+    subst (λ (j : MsgId). MirrorsKernel (one.with_message s j (Some k)) (with_message l m.id (Some m))) (parts m k e).id (kernel_message s l m.id (Some k) (Some m) e h)
 
 -- the places
 pub process_same : (v : View) (a b : Addresses) (p : Pid) (x : Process) → SameProcess a b p → MirrorsProcess v a p x → MirrorsProcess v b p x

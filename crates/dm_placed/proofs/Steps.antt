@@ -1,5 +1,5 @@
 -- Each step with places, a label after the other.
-use Rattle.std.proofs.Common.{◌≡◌, ◌∙◌, ap, sym, true, ℕ}
+use Rattle.std.proofs.Common.{◌≡◌, ◌∙◌, ap, subst, sym, true, ℕ}
 use Rattle.std.specs.declared.option.Option.TheVariants.{Some}
 use Rattle.dm_onekernel.specs.declared.label.Label.{Label}
 use Rattle.dm_onekernel.specs.declared.label.Label.TheVariants as label
@@ -9,9 +9,13 @@ use Rattle.dm_rule.specs.declared.line.Line.TheVariants as line
 use Rattle.dm_rule.specs.View.{View}
 use Rattle.dm_rule.specs.Addresses.{Addresses, addresses_after}
 use Rattle.dm_rule.specs.Homes.{ascends}
+use Rattle.dm_rule.specs.Point.{Point, after_line, moved}
+use Rattle.dm_laws.proofs.Steps.{bind-is}
 use Rattle.dm_placed.specs.Placed.{Placed, Mirrors}
 use Rattle.dm_placed.specs.PlacedStep.{placed_step}
 use Rattle.dm_placed.specs.Laws.{StepNeeds, StepsFollow}
+use Rattle.dm_placed.specs.Following.{MirrorsPoint}
+use Rattle.dm_placed.proofs.Lines.{mirrors_view, moves_label}
 use Rattle.dm_placed.proofs.Acts.{ran_follows, call_follows, send_follows, wait_follows, out_follows, end_follows}
 use Rattle.dm_placed.proofs.Receives.{receive_follows, refuse_follows}
 use Rattle.dm_placed.proofs.Answers.{dropped_follows, gone_follows, no_space_follows}
@@ -45,3 +49,13 @@ pub placed_follows : (s t : OneKernel) (v : View) (a : Addresses) (l : Placed) (
 placed_follows s t v a l here e h at needs is =
     let (m, step, mirrors) = steps_follow s t v a l e h needs is in
     (m, ap (λ (n : ℕ). placed_step n s.format s.images l e) (sym at) ∙ step, mirrors)
+
+-- a line that is a step leads on
+pub label_follows : (pt pt' : Point) (l : Placed) (e : Label) → ((t : OneKernel) → kernel.step pt.kernel e ≡ Some t → StepNeeds pt.kernel pt.view e) → MirrorsPoint pt l → after_line pt (line.Label e) ≡ Some pt'
+    → (m : Placed) × (placed_step pt.view.acting pt.kernel.format pt.kernel.images l e ≡ Some m) × MirrorsPoint pt' m
+label_follows pt pt' l e needs h is =
+    let (t, step, last) = bind-is (kernel.step pt.kernel e) (λ (s : OneKernel). Some (moved pt (line.Label e) s)) pt' is in
+    let f : moved pt (line.Label e) t ≡ pt' = cc in
+    let (m, placed, mirrors) = steps_follow pt.kernel t pt.view pt.addresses l e h (needs t step) step in
+    let next = moved pt (line.Label e) t in
+    (m, placed, subst (λ (q : Point). MirrorsPoint q m) f (mirrors_view t pt.view next.view next.addresses m (moves_label pt.view e) mirrors))

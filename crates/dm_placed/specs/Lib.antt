@@ -3,3 +3,4 @@ pub mod PlacedStep
 pub mod PlacedStart
 pub mod Laws
 pub mod Changes
+pub mod Following

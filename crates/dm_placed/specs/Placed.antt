@@ -17,6 +17,7 @@ use Rattle.dm_process.specs.declared.process.Process.{Process}
 use Rattle.dm_process.specs.declared.process.Status.{Status}
 use Rattle.dm_process.specs.declared.process.Status.TheVariants as status
 use Rattle.dm_onekernel.specs.Kernel.{OneKernel}
+use Rattle.dm_onekernel.specs.Options.{bind}
 use Rattle.dm_onekernel.specs.Plain.{plain_process}
 use Rattle.dm_onekernel.specs.Step as kernel
 use Rattle.dm_switchboard.specs.Board.{Board, Named, plain_board}
@@ -29,7 +30,7 @@ use Rattle.dm_rule.specs.Addresses.{Addresses, Slot, Owner, Receiver, Sender, En
 pub record Placed : Type 0 where
   -- the processes that are alive; whichever messages wait for them
   pub processes : Pid → Option Process
-  -- the messages that nobody has got yet
+  -- the messages that nobody has got yet, those of machines' kernels too
   pub bag : MsgId → Option Message
   pub board : Board
   pub manager : Managing
@@ -86,7 +87,8 @@ pub record MirrorsMessage (a : Addresses) (i : MsgId) (m : Message) : Type 0 whe
 -- without places it is the kernel without machines
 pub record MirrorsKernel (s : OneKernel) (l : Placed) : Type 0 where
   pub processes : (p : Pid) → kernel.alive (s.processes p) ≡ option_map plain_process (l.processes p)
-  pub bag : (i : MsgId) → option_map Some (s.bag i) ≡ option_map plain_message (l.bag i)
+  -- a message that has a plain meaning is one of the kernel's; the others are those that machines' kernels send themselves
+  pub bag : (i : MsgId) → bind (l.bag i) plain_message ≡ s.bag i
   pub board : plain_board l.board ≡ s.switchboard
   pub manager : plain_manager l.manager ≡ s.manager
   pub machines : l.manager.machines ≡ s.machines

@@ -16,7 +16,7 @@ pub fn steps_change_little()
 {}
 
 /// A line that is neither a step nor of the few that change addresses or counts of moves leaves the kernel with places as
-/// it is.
+/// it is; so does a put, but for the first put of a message that a machine's kernel sends itself.
 pub fn lines_keep()
     ensures { LinesKeep }
 {}
@@ -26,13 +26,13 @@ pub fn start_mirrors()
     ensures { StartMirrors }
 {}
 
-/// What mirrors a point has the messages that any other mirror has, and its processes, but for the messages that wait for
-/// them.
+/// What mirrors a point has the messages that any other mirror has, but for those that machines' kernels send themselves, and
+/// its processes, but for the messages that wait for them.
 pub fn point_determines()
     ensures { PointDetermines }
 {}
 
-/// Wherever the rule leads from a boot file, and nothing moves yet, there is a kernel with places that is the kernel without
+/// Wherever the rule leads from a boot file without a migration, there is a kernel with places that is the kernel without
 /// machines where places are left out, and whose places are the addresses of the printed lines.
 pub fn places_follow_always()
     ensures { PlacesFollowAlways }

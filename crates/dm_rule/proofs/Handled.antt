@@ -38,33 +38,18 @@ use Rattle.dm_onekernel.specs.Receiving as receiving
 use Rattle.dm_onekernel.specs.Switchboard as board
 use Rattle.dm_onekernel.specs.Manager as manage
 use Rattle.dm_link.specs.Names.{pid_of}
+use Rattle.dm_rule.specs.Migrating.{forwards_on}
 use Rattle.dm_rule.specs.Rule as rule
 use Rattle.dm_rule.specs.Rule.{says, drops, group_of}
 use Rattle.dm_rule.proofs.Bags.{served_id, landed_id, board_id, manager_id, took_id, id_in, bag_ran, bag_call, bag_sends, bag_wait, bag_out, bag_end, bag_receive, bag_refuse, bag_dropped, bag_served, bag_gone, bag_took, bag_created, bag_no_space}
-use Rattle.dm_rule.proofs.States.{State, says_next, said, State-at, by_label, by_line, PairsFit, routes_next}
+use Rattle.dm_rule.proofs.States.{State, says_next, said, State-at, by_label, by_line, PairsFit}
 use Rattle.dm_rule.proofs.Bags.{BagStep}
-use Rattle.dm_rule.proofs.Turns.{served_keeps, serving_off, created_off, quiet_label, front_label, dropped_off, dropped_told, front_unqueued, all_dropped, ended_off}
+use Rattle.dm_rule.proofs.Turns.{served_keeps, serving_off, created_off, quiet_label, front_label, dropped_off, dropped_told, front_unqueued, all_dropped, ended_off, gone_out}
+use Rattle.dm_rule.proofs.Letters.{letters, letter_of}
+use Rattle.dm_rule.proofs.Said.{fits_as, one_line, line_and_route}
+use Rattle.dm_rule.proofs.MovesRows.{held_row, forwards_row, hears_row, SeesSame}
+use Rattle.dm_message.specs.Kinds.{plain_kind}
 use Rattle.dm_regs.specs.Instructions.{instruction}
-
-fits_as : (v w : View) → w.pair ≡ v.pair → PairsFit v → PairsFit w
-fits_as v w e h = record {
-  within = λ a b. subst (λ (f : ℕ → ℕ → Pair). (f a b).taken ≤ length (f a b).ids) (sym e) (h.within a b);
-  home = λ a. subst (λ (f : ℕ → ℕ → Pair). (f a a).taken ≡ length (f a a).ids) (sym e) (h.home a);
-}
-
--- one line is said, and that is all
-one_line : (pt : Point) (l : Line) (w : Spelled) → spelled pt (Says l ∷ []) ≡ Some w → ((s : OneKernel) → kernel_after pt.kernel (label_of l) ≡ Some s → State None (moved pt l s)) → State None w.point
-one_line pt l w e h =
-    let k = says_next pt l [] w e in
-    State-at None k.rest.point w.point k.point (State-at None (moved pt l k.s) k.rest.point (said (moved pt l k.s) k.rest k.more) (h k.s k.is))
-
--- a message enters by a line, and is routed
-line_and_route : (pt : Point) (l : Line) (i : MsgId) (w : Spelled) → spelled pt (Says l ∷ Routes i ∷ []) ≡ Some w → (view_after pt.view l).pair ≡ pt.view.pair → PairsFit pt.view
-    → ((s : OneKernel) → kernel_after pt.kernel (label_of l) ≡ Some s → State (Some i) (moved pt l s)) → State None w.point
-line_and_route pt l i w e pair fits h =
-    let k = says_next pt l (Routes i ∷ []) w e in
-    let n = routes_next (moved pt l k.s) i [] k.rest (h k.s k.is) (fits_as pt.view (view_after pt.view l) pair fits) k.more in
-    State-at None k.rest.point w.point k.point (State-at None n.rest.point k.rest.point n.point (State-at None n.next n.rest.point (said n.next n.rest n.more) n.stands))
 
 -- a message may enter by a line, and is routed if it does
 line_and_maybe : (pt : Point) (l : Line) (o : Option PlainMessage) (w : Spelled) → spelled pt (Says l ∷ rule.routes o) ≡ Some w → (view_after pt.view l).pair ≡ pt.view.pair → PairsFit pt.view
@@ -134,8 +119,8 @@ received_off v p rest (Untaken a b) = refl
 completes_row : (pt : Point) (p : Pid) (id : MsgId) (c : receiving.Completed) (w : Spelled) → State None pt → 1 ≤ times id (pt.view.queue pt.view.acting p) → spelled pt (rule.completes p id c) ≡ Some w → State None w.point
 completes_row pt p id (receiving.Receives x) w h there e =
     one_line pt (line.Label (label.Receive p id)) w e
-    (λ s k. by_label pt (label.Receive p id) s (Some id) None h k (bag_receive h.e pt.kernel s p id k)
-    (Stands-dequeued pt.kernel.bag pt.view (view_after pt.view (line.Label (label.Receive p id))) id p (without_id id (pt.view.queue pt.view.acting p)) (λ j. without_counts j id (pt.view.queue pt.view.acting p) there)
+    (λ s k. by_label pt (label.Receive p id) s (Some id) None h k (gone_out pt (label.Receive p id) s id h k refl) (bag_receive h.e pt.kernel s p id k)
+    (Stands-dequeued (letters h.own pt.kernel.bag) pt.view (view_after pt.view (line.Label (label.Receive p id))) id p (without_id id (pt.view.queue pt.view.acting p)) (λ j. without_counts j id (pt.view.queue pt.view.acting p) there)
     (λ z. received_off pt.view p (without_id id (pt.view.queue pt.view.acting p)) z) (λ i. refl) h.stands) (λ i. refl))
 completes_row pt p id (receiving.Refuses reply x) w h there e =
     one_line pt (line.Label (label.Refuse p id reply)) w e (λ s k. quiet_label pt (label.Refuse p id reply) s None h k (bag_refuse h.e pt.kernel s p id reply k) (λ z. serving_off pt.view p z) (λ i. refl))
@@ -159,28 +144,28 @@ serves_row pt quantum p x (Moving dir owner base own left pending) parts w h fit
 gone_row : (pt : Point) (i : MsgId) (is : List MsgId) (w : Spelled) → State None pt → PairsFit pt.view → pt.view.inbox pt.view.acting ≡ i ∷ is → spelled pt (says (label.Gone i) ∷ Routes (answer_id i) ∷ []) ≡ Some w → State None w.point
 gone_row pt i is w h fits front e =
     line_and_route pt (line.Label (label.Gone i)) (answer_id i) w e refl fits
-    (λ s k. front_label pt (label.Gone i) s i is (Some (answer_id i)) h front k (bag_gone h.r h.e pt.kernel s i k h.sound) (λ z. refl) (λ j. refl))
+    (λ s k. front_label pt (label.Gone i) s i is (Some (answer_id i)) h front k refl (bag_gone h.r h.e pt.kernel s i k h.sound) (λ z. refl) (λ j. refl))
 
 dropped_row : (pt : Point) (i : MsgId) (is : List MsgId) (w : Spelled) → State None pt → pt.view.inbox pt.view.acting ≡ i ∷ is → spelled pt (says (label.Dropped i) ∷ []) ≡ Some w → State None w.point
 dropped_row pt i is w h front e =
     one_line pt (line.Label (label.Dropped i)) w e
-    (λ s k. front_label pt (label.Dropped i) s i is None h front k (bag_dropped h.e pt.kernel s i k) (λ z. dropped_off pt.view i (receiver_of (pt.view.told i)) (front_unqueued pt i is h front) z) (λ j. dropped_told pt.view i (receiver_of (pt.view.told i)) j))
+    (λ s k. front_label pt (label.Dropped i) s i is None h front k refl (bag_dropped h.e pt.kernel s i k) (λ z. dropped_off pt.view i (receiver_of (pt.view.told i)) (front_unqueued pt i is h front) z) (λ j. dropped_told pt.view i (receiver_of (pt.view.told i)) j))
 
 created_row : (pt : Point) (i : MsgId) (is : List MsgId) (child : Pid) (w : Spelled) → State None pt → PairsFit pt.view → pt.view.inbox pt.view.acting ≡ i ∷ is → spelled pt (says (label.Created i child) ∷ Routes (answer_id i) ∷ []) ≡ Some w → State None w.point
 created_row pt i is child w h fits front e =
     line_and_route pt (line.Label (label.Created i child)) (answer_id i) w e refl fits
-    (λ s k. front_label pt (label.Created i child) s i is (Some (answer_id i)) h front k (bag_created h.r h.e pt.kernel s i child k h.sound) (λ z. created_off pt.view i child z) (λ j. refl))
+    (λ s k. front_label pt (label.Created i child) s i is (Some (answer_id i)) h front k refl (bag_created h.r h.e pt.kernel s i child k h.sound) (λ z. created_off pt.view i child z) (λ j. refl))
 
 no_space_row : (pt : Point) (i : MsgId) (is : List MsgId) (a b : ℕ) (w : Spelled) → State None pt → PairsFit pt.view → pt.view.inbox pt.view.acting ≡ i ∷ is → spelled pt (says (label.NoSpace i a b) ∷ Routes (answer_id i) ∷ []) ≡ Some w → State None w.point
 no_space_row pt i is a b w h fits front e =
     line_and_route pt (line.Label (label.NoSpace i a b)) (answer_id i) w e refl fits
-    (λ s k. front_label pt (label.NoSpace i a b) s i is (Some (answer_id i)) h front k (bag_no_space h.r h.e pt.kernel s i a b k h.sound) (λ z. refl) (λ j. refl))
+    (λ s k. front_label pt (label.NoSpace i a b) s i is (Some (answer_id i)) h front k refl (bag_no_space h.r h.e pt.kernel s i a b k h.sound) (λ z. refl) (λ j. refl))
 
 -- a served message: what its line leaves as it is
 served_label : (pt : Point) (i : MsgId) (is : List MsgId) (put : Option MsgId) (s : OneKernel) (h : State None pt) → pt.view.inbox pt.view.acting ≡ i ∷ is → kernel.step pt.kernel (label.Served i) ≡ Some s → BagStep h.e pt.kernel s (Some i) put → State put (moved pt (line.Label (label.Served i)) s)
 served_label pt i is put s h front k bag =
     let keeps = served_keeps (handled pt.view i) (pt.view.told i) in
-    front_label pt (label.Served i) s i is put h front k bag keeps.0 keeps.1
+    front_label pt (label.Served i) s i is put h front k refl bag keeps.0 keeps.1
 
 -- the same message, and the same process, as the rule saw
 served_put : (pt : Point) (i : MsgId) (m : PlainMessage) (x : PlainProcess) (s : OneKernel) (h : State None pt) → pt.kernel.bag i ≡ Some m → kernel.alive (pt.kernel.processes m.to) ≡ Some x → kernel.step pt.kernel (label.Served i) ≡ Some s
@@ -233,7 +218,7 @@ queued_row pt i is m w h front there e =
     one_line pt (line.Queued i) w e (λ s k.
     let same : pt.kernel ≡ s = cc in
     State-at None (moved pt (line.Queued i) pt.kernel) (moved pt (line.Queued i) s) (ap (moved pt (line.Queued i)) same)
-    (by_line None pt (line.Queued i) h (Stands-queued pt.kernel.bag pt.view (view_after pt.view (line.Queued i)) i is m front there refl h.stands) (λ j. queued_told pt.view i (receiver_of (pt.view.told i)) j)))
+    (by_line None pt (line.Queued i) refl h (Stands-queued (letters h.own pt.kernel.bag) pt.view (view_after pt.view (line.Queued i)) i is m.to front (letter_of h.r h.e h.own pt.kernel i m there h.sound) refl h.stands) (λ j. queued_told pt.view i (receiver_of (pt.view.told i)) j)))
 
 -- a message for a process that is here, by its kind; the rule saw the point before the head, which has the same kernel and queues
 here_row : (o pt : Point) (m : ℕ) (i : MsgId) (is : List MsgId) (msg : PlainMessage) (x : PlainProcess) (k : PlainWhat) (parts : List Part) (w : Spelled) (h : State None pt) → PairsFit pt.view → pt.view.inbox pt.view.acting ≡ i ∷ is → pt.kernel.bag i ≡ Some msg
@@ -279,9 +264,11 @@ process_row o pt m i is msg view.Unknown parts w h fits front there same queue e
 process_row o pt m i is msg view.Here parts w h fits front there same queue e n =
     let (x, alive, rest) = bind-is (kernel.alive (o.kernel.processes msg.to)) (λ x. rule.here_handles o m i msg x msg.what) parts e in
     here_row o pt m i is msg x msg.what parts w h fits front there (ap (λ (s : OneKernel). kernel.alive (s.processes msg.to)) (sym same) ∙ alive) refl queue rest n
-process_row o pt m i is msg (view.Frozen to) parts w h fits front there same queue e n = cc
-process_row o pt m i is msg (view.Incoming from) parts w h fits front there same queue e n = cc
-process_row o pt m i is msg (view.Forward at moves) parts w h fits front there same queue e n = cc
+process_row o pt m i is msg (view.Frozen to) parts w h fits front there same queue e n = let f : Says (line.Held i) ∷ [] ≡ parts = cc in held_row pt i is w h front (ap (spelled pt) f ∙ n)
+process_row o pt m i is msg (view.Incoming from) parts w h fits front there same queue e n = let f : Says (line.Held i) ∷ [] ≡ parts = cc in held_row pt i is w h front (ap (spelled pt) f ∙ n)
+process_row o pt m i is msg (view.Forward at moves) parts w h fits front there same queue e n =
+    let f : forwards_on o.addresses i (plain_kind msg.what) msg.sender at ≡ parts = cc in
+    forwards_row pt o.addresses i is (plain_kind msg.what) msg.sender at w h fits front (ap (spelled pt) f ∙ n)
 process_row o pt m i is msg view.Ended parts w h fits front there same queue e n = ended_row pt i is msg.what parts w h fits front e n
 
 -- a server's work
@@ -291,7 +278,7 @@ took_row pt i is m o w h fits front there put e =
     line_and_maybe pt (line.Label (label.Took i)) o w e refl fits (λ s k.
     let q = bag_took h.r h.e pt.kernel s i k h.sound in
     let same : q.m ≡ m = let t = q.there in let u : Some q.m ≡ Some m = sym t ∙ there in cc in
-    front_label pt (label.Took i) s i is (id_in o) h front k (subst (BagStep h.e pt.kernel s (Some i)) put (subst (λ (n : PlainMessage). BagStep h.e pt.kernel s (Some i) (took_id pt.kernel n)) same q.is)) (λ z. refl) (λ j. refl))
+    front_label pt (label.Took i) s i is (id_in o) h front k refl (subst (BagStep h.e pt.kernel s (Some i)) put (subst (λ (n : PlainMessage). BagStep h.e pt.kernel s (Some i) (took_id pt.kernel n)) same q.is)) (λ z. refl) (λ j. refl))
 
 board_row : (pt : Point) (i : MsgId) (is : List MsgId) (m : PlainMessage) (t : Option board.Took) (parts : List Part) (w : Spelled) (h : State None pt) → PairsFit pt.view → pt.view.inbox pt.view.acting ≡ i ∷ is → pt.kernel.bag i ≡ Some m → took_id pt.kernel m ≡ board_id t
     → rule.board_took i t ≡ Some parts → spelled pt parts ≡ Some w → State None w.point
@@ -355,17 +342,22 @@ handles_by b o pt m i is msg false false false parts w h fits front there same q
 goes_round_row : (b : Boot) (o pt : Point) (m : ℕ) (p : Option Pid) (parts : List Part) (w : Spelled) (h : State None pt) → PairsFit pt.view → o.kernel ≡ pt.kernel → ((q : Pid) → o.view.queue m q ≡ pt.view.queue pt.view.acting q) → rule.goes_round b o m p ≡ Some parts → spelled pt parts ≡ Some w → State None w.point
 goes_round_row b o pt m None parts w h fits same queue e n =
     let f : Says (line.Idle m) ∷ [] ≡ parts = cc in
-    one_line pt (line.Idle m) w (ap (spelled pt) f ∙ n) (λ s k. let g : pt.kernel ≡ s = cc in State-at None (moved pt (line.Idle m) pt.kernel) (moved pt (line.Idle m) s) (ap (moved pt (line.Idle m)) g) (by_line None pt (line.Idle m) h h.stands (λ i. refl)))
+    one_line pt (line.Idle m) w (ap (spelled pt) f ∙ n) (λ s k. let g : pt.kernel ≡ s = cc in State-at None (moved pt (line.Idle m) pt.kernel) (moved pt (line.Idle m) s) (ap (moved pt (line.Idle m)) g) (by_line None pt (line.Idle m) refl h h.stands (λ i. refl)))
 goes_round_row b o pt m (Some p) parts w h fits same queue e n =
     let (x, alive, rest) = bind-is (kernel.alive (o.kernel.processes p)) (λ x. rule.serves_status b.quantum o.kernel p (o.view.queue m p) x x.status) parts e in
     let here : rule.serves_status b.quantum pt.kernel p (pt.view.queue pt.view.acting p) x x.status ≡ Some parts =
     ap (λ s. rule.serves_status b.quantum s p (pt.view.queue pt.view.acting p) x x.status) (sym same) ∙ ap (λ q. rule.serves_status b.quantum o.kernel p q x x.status) (sym (queue p)) ∙ rest in
     serves_row pt b.quantum p x x.status parts w h fits here n
 
-pub turns_row : (b : Boot) (o pt : Point) (m : ℕ) (inbox : List MsgId) (parts : List Part) (w : Spelled) (h : State None pt) → PairsFit pt.view → pt.view.inbox pt.view.acting ≡ inbox → o.kernel ≡ pt.kernel → ((q : Pid) → o.view.queue m q ≡ pt.view.queue pt.view.acting q)
+comes_row : (b : Boot) (o pt : Point) (m : ℕ) (i : MsgId) (is : List MsgId) (t : Option PlainMessage) (parts : List Part) (w : Spelled) (h : State None pt) → PairsFit pt.view → pt.view.inbox pt.view.acting ≡ i ∷ is → SeesSame o pt m → o.kernel.bag i ≡ t
+    → rule.comes_to b o m i t ≡ Some parts → spelled pt parts ≡ Some w → State None w.point
+comes_row b o pt m i is None parts w h fits front sees there e n =
+    hears_row b o pt m i is (o.view.told i) parts w h fits front (ap (λ (s : OneKernel). s.bag i) (sym sees.kernel) ∙ there) sees e n
+comes_row b o pt m i is (Some msg) parts w h fits front sees there e n =
+    let here : pt.kernel.bag i ≡ Some msg = ap (λ (s : OneKernel). s.bag i) (sym sees.kernel) ∙ there in
+    handles_by b o pt m i is msg (msg.to.num == 0) (pid_eq msg.to switchboard) (pid_eq msg.to manager) parts w h fits front here sees.kernel (sees.queue msg.to) refl refl e n
+
+pub turns_row : (b : Boot) (o pt : Point) (m : ℕ) (inbox : List MsgId) (parts : List Part) (w : Spelled) (h : State None pt) → PairsFit pt.view → pt.view.inbox pt.view.acting ≡ inbox → SeesSame o pt m
     → rule.turns b o m inbox ≡ Some parts → spelled pt parts ≡ Some w → State None w.point
-turns_row b o pt m [] parts w h fits front same queue e n = goes_round_row b o pt m (rule.first_runnable o.kernel (o.view.queue m) (o.view.ring m)) parts w h fits same queue e n
-turns_row b o pt m (i ∷ is) parts w h fits front same queue e n =
-    let (msg, there, rest) = bind-is (o.kernel.bag i) (rule.handles b o m i) parts e in
-    let here : pt.kernel.bag i ≡ Some msg = ap (λ (s : OneKernel). s.bag i) (sym same) ∙ there in
-    handles_by b o pt m i is msg (msg.to.num == 0) (pid_eq msg.to switchboard) (pid_eq msg.to manager) parts w h fits front here same (queue msg.to) refl refl rest n
+turns_row b o pt m [] parts w h fits front sees e n = goes_round_row b o pt m (rule.first_runnable o.kernel (o.view.queue m) (o.view.ring m)) parts w h fits sees.kernel sees.queue e n
+turns_row b o pt m (i ∷ is) parts w h fits front sees e n = comes_row b o pt m i is (o.kernel.bag i) parts w h fits front sees refl e n

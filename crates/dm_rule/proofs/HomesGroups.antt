@@ -28,6 +28,7 @@ use Rattle.dm_schedule.specs.declared.Step.TheVariants as directive
 use Rattle.dm_rule.specs.View.{actor, begins, marked, marked_at, Sent, after_head, About, NothingElse}
 use Rattle.dm_rule.specs.Rule as rule
 use Rattle.dm_rule.specs.Rule.{group_of, outcome, headed}
+use Rattle.dm_rule.specs.Laws.{IsStill}
 use Rattle.dm_rule.proofs.HomesParts.{PartAnywhere, PartsAnywhere, parts_keep, part_keeps}
 
 -- the first part of a group: one that may stand anywhere, a label said where it belongs, or a message that is queued
@@ -44,7 +45,7 @@ acting_queued v id (Some p) = refl
 
 rings_queued : (v : View) (id : MsgId) (o : Option Pid) → RingsHome v → RingsHome (queued_for v id o)
 rings_queued v id None h = h
-rings_queued v id (Some p) h = record { moves = h.moves; ring = h.ring }
+rings_queued v id (Some p) h = record { moves = h.moves; ring = h.ring; known = h.known }
 
 queued_keeps : (r e : MsgId → ℕ) (pt pt' : Point) (id : MsgId) → stands pt.kernel e pt.view.acting id ≡ true → Home r e pt → after pt (line.Queued id ∷ []) ≡ Some pt' → Kept pt.view.acting pt'
 queued_keeps r e pt pt' id at h is =
@@ -53,7 +54,7 @@ queued_keeps r e pt pt' id at h is =
     subst (Kept pt.view.acting) f (record {
       r = r;
       e = e;
-      home = record { sound = h.sound; at = h.at; rings = rings_queued w id (view.receiver_of (pt.view.told id)) (rings_same pt.view w refl refl h.rings); lists = queue_lists pt.kernel e pt.view id at h.lists };
+      home = record { sound = h.sound; at = h.at; rings = rings_queued w id (view.receiver_of (pt.view.told id)) (rings_same pt.view w refl refl refl h.rings); lists = queue_lists pt.kernel e pt.view id at h.lists };
       acting = acting_queued w id (view.receiver_of (pt.view.told id));
     })
 
@@ -84,7 +85,7 @@ good_keep none (p ∷ ps) r e m pt w acting at h is =
 
 -- the head
 pub begun_home : (r e : MsgId → ℕ) (pt : Point) (m : ℕ) → Home r e pt → Home r e (record { kernel = pt.kernel; view = begins pt.view m NothingElse; addresses = pt.addresses })
-begun_home r e pt m h = record { sound = h.sound; at = h.at; rings = record { moves = h.rings.moves; ring = h.rings.ring }; lists = record { inbox = h.lists.inbox; queue = h.lists.queue; untaken = h.lists.untaken } }
+begun_home r e pt m h = record { sound = h.sound; at = h.at; rings = record { moves = h.rings.moves; ring = h.rings.ring; known = h.rings.known }; lists = record { inbox = h.lists.inbox; queue = h.lists.queue; untaken = h.lists.untaken } }
 
 spells : NoneReplaced → (r e : MsgId → ℕ) (m : ℕ) (begun : Point) (ps : List Part) (d : Step) (w : Spelled) → begun.view.acting ≡ m → PartsGood begun.kernel e m ps → Home r e begun → bind (spelled begun ps) (λ (z : Spelled). Some (headed (line.Head d) z)) ≡ Some w → Kept m w.point
 spells none r e m begun ps d w acting good h is =
@@ -93,21 +94,21 @@ spells none r e m begun ps d w acting good h is =
     subst (λ (x : Spelled). Kept m x.point) f (good_keep none ps r e m begun z acting good h more)
 
 -- a group whose parts are good where the run stands
-pub group_keeps : NoneReplaced → (b : Boot) (r e : MsgId → ℕ) (pt : Point) (d : Step) (w : Spelled) → group_of b pt d ≡ Some w → Home r e pt → ((ps : List Part) → outcome b pt d ≡ Some ps → PartsGood pt.kernel e (actor d) ps) → Kept (actor d) w.point
-group_keeps none b r e pt (directive.Turn m) w is h good =
+pub group_keeps : NoneReplaced → (b : Boot) (r e : MsgId → ℕ) (pt : Point) (d : Step) (w : Spelled) → IsStill d → group_of b pt d ≡ Some w → Home r e pt → ((ps : List Part) → outcome b pt d ≡ Some ps → PartsGood pt.kernel e (actor d) ps) → Kept (actor d) w.point
+group_keeps none b r e pt (directive.Turn m) w still is h good =
     let (ps, comes, rest) = bind-is (outcome b pt (directive.Turn m)) (λ (xs : List Part). bind (after_line pt (line.Head (directive.Turn m))) (λ (q : Point). bind (spelled q xs) (λ (z : Spelled). Some (headed (line.Head (directive.Turn m)) z)))) w is in
     spells none r e m (moved pt (line.Head (directive.Turn m)) pt.kernel) ps (directive.Turn m) w refl (good ps comes) (begun_home r e pt m h) rest
-group_keeps none b r e pt (directive.Tick m) w is h good =
+group_keeps none b r e pt (directive.Tick m) w still is h good =
     let (ps, comes, rest) = bind-is (outcome b pt (directive.Tick m)) (λ (xs : List Part). bind (after_line pt (line.Head (directive.Tick m))) (λ (q : Point). bind (spelled q xs) (λ (z : Spelled). Some (headed (line.Head (directive.Tick m)) z)))) w is in
     spells none r e m (moved pt (line.Head (directive.Tick m)) pt.kernel) ps (directive.Tick m) w refl (good ps comes) (begun_home r e pt m h) rest
-group_keeps none b r e pt (directive.Deliver a c k) w is h good =
+group_keeps none b r e pt (directive.Deliver a c k) w still is h good =
     let (ps, comes, rest) = bind-is (outcome b pt (directive.Deliver a c k)) (λ (xs : List Part). bind (after_line pt (line.Head (directive.Deliver a c k))) (λ (q : Point). bind (spelled q xs) (λ (z : Spelled). Some (headed (line.Head (directive.Deliver a c k)) z)))) w is in
     let v = begins pt.view c NothingElse in
     let begun = begun_home r e pt c h in
     let p = marked (pt.view.pair a c) k in
     spells none r e c (moved pt (line.Head (directive.Deliver a c k)) pt.kernel) ps (directive.Deliver a c k) w refl (good ps comes)
-    (record { sound = h.sound; at = h.at; rings = rings_same v (view.with_pair v a c p) refl refl begun.rings; lists = same_lists pt.kernel e v a c p refl refl begun.lists }) rest
-group_keeps none b r e pt (directive.Migrate p m) w is h good = cc
+    (record { sound = h.sound; at = h.at; rings = rings_same v (view.with_pair v a c p) refl refl refl begun.rings; lists = same_lists pt.kernel e v a c p refl refl begun.lists }) rest
+group_keeps none b r e pt (directive.Migrate p m) w still is h good = absurd still
 
 -- parts that may stand anywhere
 parts_append : (m : ℕ) (ps qs : List Part) → PartsAnywhere m ps → PartsAnywhere m qs → PartsAnywhere m (ps ++ qs)
@@ -151,13 +152,13 @@ anywhere_good s e m (p ∷ ps) h = (inl h.0, h.1)
 
 pub tick_keeps : NoneReplaced → (b : Boot) (r e : MsgId → ℕ) (pt : Point) (m : ℕ) (w : Spelled) → group_of b pt (directive.Tick m) ≡ Some w → Home r e pt → Kept m w.point
 tick_keeps none b r e pt m w is h =
-    group_keeps none b r e pt (directive.Tick m) w is h
+    group_keeps none b r e pt (directive.Tick m) w tt is h
     (λ ps comes. let f : Says (line.Resent m (rule.outstanding pt.view m pt.kernel.machines)) ∷ rule.resends pt.view m pt.kernel.machines ≡ ps = cc in
     subst (PartsGood pt.kernel e m) f (inl tt, resends_good m m pt.view pt.kernel.machines))
 
 pub deliver_keeps : NoneReplaced → (b : Boot) (r e : MsgId → ℕ) (pt : Point) (a c k : ℕ) (w : Spelled) → group_of b pt (directive.Deliver a c k) ≡ Some w → Home r e pt → Kept c w.point
 deliver_keeps none b r e pt a c k w is h =
-    group_keeps none b r e pt (directive.Deliver a c k) w is h
+    group_keeps none b r e pt (directive.Deliver a c k) w tt is h
     (λ ps comes. let parts = rule.arrives a c (pt.view.pair a c) (pt.view.pair c a) (slice_get (pt.view.pair a c).wire k) in
     let f : parts ≡ ps = cc in
     subst (PartsGood pt.kernel e c) f (anywhere_good pt.kernel e c parts (arrives_good c a c (pt.view.pair a c) (pt.view.pair c a) (slice_get (pt.view.pair a c).wire k))))

@@ -1,4 +1,4 @@
--- Each label keeps addresses at homes, and what it does to the rings too.
+-- Each label keeps addresses where they may be, as at homes, and what it does to the rings too.
 use Rattle.std.proofs.Common.{◌≡◌, ℕ, ◌==◌, ◌&&◌, Bool, true, false, not, List, [], ◌∷◌, ◌++◌, refl, ap, ◌∙◌, sym, inl, inr, arith}
 use Rattle.std.specs.Prelude.{⊤, if◌then◌else◌, filter}
 use Rattle.std.specs.declared.option.Option.{Option}
@@ -6,7 +6,7 @@ use Rattle.std.specs.declared.option.Option.TheVariants.{None, Some}
 use Rattle.std.proofs.lemmas.Bool.{cases_Bool}
 use Rattle.std.proofs.lemmas.Bool.Decides.{nat_tests}
 use Rattle.dm_link.specs.declared.Pid.{Pid}
-use Rattle.dm_link.specs.Names.{pid_eq}
+use Rattle.dm_link.specs.Names.{Place, pid_eq}
 use Rattle.dm_message.specs.declared.MsgId.{MsgId}
 use Rattle.dm_message.specs.declared.kind.MessageKind.{MessageKind}
 use Rattle.dm_message.specs.declared.kind.MessageKind.TheVariants as kind
@@ -14,15 +14,15 @@ use Rattle.dm_onekernel.specs.declared.label.Label.{Label}
 use Rattle.dm_onekernel.specs.declared.label.Label.TheVariants as label
 use Rattle.dm_onekernel.specs.Kernel.{OneKernel}
 use Rattle.dm_onekernel.specs.Step as kernel
-use Rattle.dm_rule.specs.Sets.{at_machine, without, moved_back}
+use Rattle.dm_rule.specs.Sets.{at_machine, at_record, without, moved_back}
 use Rattle.dm_rule.specs.View as view
-use Rattle.dm_rule.specs.View.{View, Told, after_label, served_told, kills, ended, serving, handled}
+use Rattle.dm_rule.specs.View.{View, Told, Known, Unknown, Here, Frozen, Incoming, Forward, after_label, served_told, kills, ended, serving, handled}
 use Rattle.dm_rule.specs.Addresses.{Addresses, given, gives, unmoved, here}
 use Rattle.dm_rule.specs.Homes.{are_home}
-use Rattle.dm_rule.proofs.Homes.{AtHome}
+use Rattle.dm_rule.proofs.Homes.{IsHome, AtHome}
 use Rattle.dm_rule.proofs.HomesSteps.{ran_home, call_home, send_home, wait_home, out_home, end_home}
 use Rattle.dm_rule.proofs.HomesReceives.{receive_home, refuse_home}
-use Rattle.dm_rule.proofs.HomesServes.{Named, ReceivedAt, dropped_home, gone_home, no_space_home, served_home, created_home}
+use Rattle.dm_rule.proofs.HomesServes.{Named, ReceivedAt, ServedAt, EndedAt, dropped_home, gone_home, no_space_home, served_home, created_home}
 use Rattle.dm_rule.proofs.HomesManager.{took_home}
 
 -- a label is said where its process is at home, or where its message's receiver is
@@ -45,21 +45,60 @@ SaidAt s m (label.NoSpace id f b) = ReceivedAt s m id
 here_home : (v : View) (p : Pid) → ((q : Pid) → v.moves q ≡ 0) → p.home ≡ v.acting → here v p ≡ unmoved p.home
 here_home v p still at = ap (λ (n : ℕ). record { at = v.acting; moves = n }) (still p) ∙ ap unmoved (sym at)
 
-pub label_home : (s t : OneKernel) (v : View) (a : Addresses) (l : Label) → kernel.step s l ≡ Some t → Named s → ((q : Pid) → v.moves q ≡ 0) → SaidAt s v.acting l → AtHome s a → AtHome t (given a (gives s v a l))
-label_home s t v a (label.Ran p k) is named still at h = ran_home s t v a p k is h
-label_home s t v a (label.Call p n c) is named still at h = call_home s t v a p n c is (here_home v p still at) h
-label_home s t v a (label.Send p id) is named still at h = send_home s t v a p id is (here_home v p still at) h
-label_home s t v a (label.Wait p) is named still at h = wait_home s t v a p is (here_home v p still at) h
-label_home s t v a (label.Out p w) is named still at h = out_home s t v a p w is (here_home v p still at) h
-label_home s t v a (label.End p y) is named still at h = end_home s t a p y is h
-label_home s t v a (label.Receive p id) is named still at h = receive_home s t v a p id is h
-label_home s t v a (label.Refuse p id c) is named still at h = refuse_home s t a p id c is h
-label_home s t v a (label.Dropped id) is named still at h = dropped_home s t a id is h
-label_home s t v a (label.Served id) is named still at h = served_home s t v a id is named still at h
-label_home s t v a (label.Gone id) is named still at h = gone_home s t v a id is named at h
-label_home s t v a (label.Took id) is named still at h = took_home s t v a id is named at h
-label_home s t v a (label.Created id child) is named still at h = created_home s t v a id child is named at.0 h
-label_home s t v a (label.NoSpace id f b) is named still at h = no_space_home s t v a id f b is named at h
+-- a label is said where its process is, where its message's receiver is or has ended, or at a server's or a kernel's home
+abbrev pub SaidOn : (Pid → Place → Type 0) → OneKernel → View → Addresses → Label → Type 0
+SaidOn P s v a (label.Ran p k) = ⊤
+SaidOn P s v a (label.Call p n c) = P p (here v p)
+SaidOn P s v a (label.Send p id) = P p (here v p)
+SaidOn P s v a (label.Wait p) = P p (here v p)
+SaidOn P s v a (label.Out p w) = P p (here v p)
+SaidOn P s v a (label.End p y) = ⊤
+SaidOn P s v a (label.Receive p id) = ⊤
+SaidOn P s v a (label.Refuse p id c) = ⊤
+SaidOn P s v a (label.Dropped id) = ⊤
+SaidOn P s v a (label.Served id) = ServedAt P s v id
+SaidOn P s v a (label.Gone id) = EndedAt P s v a id
+SaidOn P s v a (label.Took id) = ReceivedAt s v.acting id
+SaidOn P s v a (label.Created id child) = ReceivedAt s v.acting id
+SaidOn P s v a (label.NoSpace id f b) = ReceivedAt s v.acting id
+
+-- each label keeps addresses where they may be
+pub label_on : (P : Pid → Place → Type 0) (s t : OneKernel) (v : View) (a : Addresses) (l : Label) → kernel.step s l ≡ Some t → Named s → SaidOn P s v a l → AtHome P s a → AtHome P t (given a (gives s v a l))
+label_on P s t v a (label.Ran p k) is named at h = ran_home P s t v a p k is h
+label_on P s t v a (label.Call p n c) is named at h = call_home P s t v a p n c is at h
+label_on P s t v a (label.Send p id) is named at h = send_home P s t v a p id is at h
+label_on P s t v a (label.Wait p) is named at h = wait_home P s t v a p is at h
+label_on P s t v a (label.Out p w) is named at h = out_home P s t v a p w is at h
+label_on P s t v a (label.End p y) is named at h = end_home P s t a p y is h
+label_on P s t v a (label.Receive p id) is named at h = receive_home P s t v a p id is h
+label_on P s t v a (label.Refuse p id c) is named at h = refuse_home P s t a p id c is h
+label_on P s t v a (label.Dropped id) is named at h = dropped_home P s t a id is h
+label_on P s t v a (label.Served id) is named at h = served_home P s t v a id is named at h
+label_on P s t v a (label.Gone id) is named at h = gone_home P s t v a id is named at h
+label_on P s t v a (label.Took id) is named at h = took_home P s t v a id is named at h
+label_on P s t v a (label.Created id child) is named at h = created_home P s t v a id child is named at h
+label_on P s t v a (label.NoSpace id f b) is named at h = no_space_home P s t v a id f b is named at h
+
+-- as long as nothing moves
+said_home : (s : OneKernel) (v : View) (a : Addresses) (l : Label) → ((q : Pid) → v.moves q ≡ 0) → SaidAt s v.acting l → AtHome IsHome s a → SaidOn IsHome s v a l
+said_home s v a (label.Ran p k) still at h = tt
+said_home s v a (label.Call p n c) still at h = here_home v p still at
+said_home s v a (label.Send p id) still at h = here_home v p still at
+said_home s v a (label.Wait p) still at h = here_home v p still at
+said_home s v a (label.Out p w) still at h = here_home v p still at
+said_home s v a (label.End p y) still at h = tt
+said_home s v a (label.Receive p id) still at h = tt
+said_home s v a (label.Refuse p id c) still at h = tt
+said_home s v a (label.Dropped id) still at h = tt
+said_home s v a (label.Served id) still at h = λ m there. here_home v m.to still (at m there)
+said_home s v a (label.Gone id) still at h = λ m there.
+    ap (λ (n : ℕ). record { at = v.acting; moves = n }) (ap (λ (p : Place). p.moves) (h.messages id m there).receiver) ∙ ap unmoved (sym (at m there))
+said_home s v a (label.Took id) still at h = at
+said_home s v a (label.Created id child) still at h = at.0
+said_home s v a (label.NoSpace id f b) still at h = at
+
+pub label_home : (s t : OneKernel) (v : View) (a : Addresses) (l : Label) → kernel.step s l ≡ Some t → Named s → ((q : Pid) → v.moves q ≡ 0) → SaidAt s v.acting l → AtHome IsHome s a → AtHome IsHome t (given a (gives s v a l))
+label_home s t v a l is named still at h = label_on IsHome s t v a l is named (said_home s v a l still at h) h
 
 -- rings
 both : (b c : Bool) → (b && c) ≡ true → (b ≡ true) × (c ≡ true)
@@ -86,9 +125,26 @@ joins_home m p (q ∷ qs) e h =
     ap (λ (c : Bool). c && are_home m (qs ++ p ∷ [])) k.0 ∙ joins_home m p qs e k.1
 
 -- rings whose processes are at home, and no process has moved
+-- what a machine knows of a process as long as nothing moves
+abbrev pub is_still : Known → Bool
+is_still Unknown = true
+is_still Here = true
+is_still (Frozen to) = false
+is_still (Incoming from) = false
+is_still (Forward at moves) = false
+is_still view.Ended = true
+
 pub record RingsHome (v : View) : Type 0 where
   pub moves : (p : Pid) → v.moves p ≡ 0
   pub ring : (m : ℕ) → are_home m (v.ring m) ≡ true
+  pub known : (m : ℕ) (p : Pid) → is_still (v.known m p) ≡ true
+
+known_if : (b : Bool) (k j : Known) → is_still k ≡ true → is_still j ≡ true → is_still (if b then k else j) ≡ true
+known_if true k j h i = h
+known_if false k j h i = i
+
+known_set : (v : View) (a : ℕ) (p : Pid) (k : Known) → is_still k ≡ true → RingsHome v → (m : ℕ) (q : Pid) → is_still (at_record v.known a p k m q) ≡ true
+known_set v a p k h r m q = known_if ((a == m) && pid_eq p q) k (v.known m q) h (r.known m q)
 
 -- the acting machine has another ring
 ring_set : (f : ℕ → List Pid) (m : ℕ) (ps : List Pid) → are_home m ps ≡ true → ((n : ℕ) → are_home n (f n) ≡ true) → (n : ℕ) → are_home n (at_machine f m ps n) ≡ true
@@ -99,20 +155,22 @@ ring_set f m ps h k n = elim (cases_Bool (m == n)) [
   | inr apart ↦ ap (λ (c : Bool). are_home n (if c then ps else f n)) apart ∙ k n
 ]
 
-pub rings_set : (v w : View) (ps : List Pid) → w.moves ≡ v.moves → w.ring ≡ at_machine v.ring v.acting ps → are_home v.acting ps ≡ true → RingsHome v → RingsHome w
-rings_set v w ps moves ring h k = record {
+pub rings_set : (v w : View) (ps : List Pid) → w.moves ≡ v.moves → w.ring ≡ at_machine v.ring v.acting ps → ((m : ℕ) (p : Pid) → is_still (w.known m p) ≡ true) → are_home v.acting ps ≡ true → RingsHome v → RingsHome w
+rings_set v w ps moves ring known h k = record {
+  known = known;
   moves = λ p. ap (λ (f : Pid → ℕ). f p) moves ∙ k.moves p;
   ring = λ m. ap (λ (f : ℕ → List Pid). are_home m (f m)) ring ∙ ring_set v.ring v.acting ps h k.ring m;
 }
 
-pub rings_same : (v w : View) → w.moves ≡ v.moves → w.ring ≡ v.ring → RingsHome v → RingsHome w
-rings_same v w moves ring k = record {
+pub rings_same : (v w : View) → w.moves ≡ v.moves → w.ring ≡ v.ring → w.known ≡ v.known → RingsHome v → RingsHome w
+rings_same v w moves ring known k = record {
+  known = λ m p. ap (λ (f : ℕ → Pid → Known). is_still (f m p)) known ∙ k.known m p;
   moves = λ p. ap (λ (f : Pid → ℕ). f p) moves ∙ k.moves p;
   ring = λ m. ap (λ (f : ℕ → List Pid). are_home m (f m)) ring ∙ k.ring m;
 }
 
 kills_rings : (v : View) (k : MessageKind) (o : Option Pid) → RingsHome v → RingsHome (kills k v o)
-kills_rings v kind.Kill (Some p) h = rings_set v (ended v p) (without p (v.ring v.acting)) refl refl (without_home v.acting p (v.ring v.acting) (h.ring v.acting)) h
+kills_rings v kind.Kill (Some p) h = rings_set v (ended v p) (without p (v.ring v.acting)) refl refl (known_set v v.acting p view.Ended refl h) (without_home v.acting p (v.ring v.acting) (h.ring v.acting)) h
 kills_rings v kind.User o h = h
 kills_rings v kind.Stop o h = h
 kills_rings v kind.Resume o h = h
@@ -145,27 +203,27 @@ told_rings v None h = h
 told_rings v (Some t) h = kills_rings v t.kind (Some t.receiver) h
 
 handled_rings : (v : View) (id : MsgId) → RingsHome v → RingsHome (handled v id)
-handled_rings v id h = record { moves = h.moves; ring = h.ring }
+handled_rings v id h = record { moves = h.moves; ring = h.ring; known = h.known }
 
 dropped_rings : (v : View) (id : MsgId) (o : Option Pid) → RingsHome v → RingsHome (view.dropped_for v id o)
 dropped_rings v id None h = h
-dropped_rings v id (Some p) h = record { moves = h.moves; ring = h.ring }
+dropped_rings v id (Some p) h = record { moves = h.moves; ring = h.ring; known = h.known }
 
 back_home : (v : View) (p : Pid) → p.home ≡ v.acting → RingsHome v → are_home v.acting (moved_back p (v.ring v.acting)) ≡ true
 back_home v p at h = joins_home v.acting p (without p (v.ring v.acting)) at (without_home v.acting p (v.ring v.acting) (h.ring v.acting))
 
 pub label_rings : (s : OneKernel) (v : View) (l : Label) → SaidAt s v.acting l → RingsHome v → RingsHome (after_label v l)
-label_rings s v (label.Ran p k) at h = rings_set v (after_label v (label.Ran p k)) (moved_back p (v.ring v.acting)) refl refl (back_home v p at h) h
+label_rings s v (label.Ran p k) at h = rings_set v (after_label v (label.Ran p k)) (moved_back p (v.ring v.acting)) refl refl h.known (back_home v p at h) h
 label_rings s v (label.Call p n c) at h = h
 label_rings s v (label.Send p id) at h = h
 label_rings s v (label.Wait p) at h = h
 label_rings s v (label.Out p w) at h = h
-label_rings s v (label.End p y) at h = rings_set v (after_label v (label.End p y)) (without p (v.ring v.acting)) refl refl (without_home v.acting p (v.ring v.acting) (h.ring v.acting)) h
-label_rings s v (label.Receive p id) at h = rings_set v (after_label v (label.Receive p id)) (moved_back p (v.ring v.acting)) refl refl (back_home v p at h) h
-label_rings s v (label.Refuse p id c) at h = rings_set v (after_label v (label.Refuse p id c)) (moved_back p (v.ring v.acting)) refl refl (back_home v p at h) h
+label_rings s v (label.End p y) at h = rings_set v (after_label v (label.End p y)) (without p (v.ring v.acting)) refl refl (known_set v v.acting p view.Ended refl h) (without_home v.acting p (v.ring v.acting) (h.ring v.acting)) h
+label_rings s v (label.Receive p id) at h = rings_set v (after_label v (label.Receive p id)) (moved_back p (v.ring v.acting)) refl refl h.known (back_home v p at h) h
+label_rings s v (label.Refuse p id c) at h = rings_set v (after_label v (label.Refuse p id c)) (moved_back p (v.ring v.acting)) refl refl h.known (back_home v p at h) h
 label_rings s v (label.Dropped id) at h = dropped_rings (handled v id) id (view.receiver_of (v.told id)) (handled_rings v id h)
 label_rings s v (label.Served id) at h = told_rings (handled v id) (v.told id) (handled_rings v id h)
 label_rings s v (label.Gone id) at h = handled_rings v id h
 label_rings s v (label.Took id) at h = handled_rings v id h
-label_rings s v (label.Created id p) at h = rings_set v (after_label v (label.Created id p)) (v.ring v.acting ++ p ∷ []) refl refl (joins_home v.acting p (v.ring v.acting) at.1 (h.ring v.acting)) h
+label_rings s v (label.Created id p) at h = rings_set v (after_label v (label.Created id p)) (v.ring v.acting ++ p ∷ []) refl refl (known_set v v.acting p Here refl h) (joins_home v.acting p (v.ring v.acting) at.1 (h.ring v.acting)) h
 label_rings s v (label.NoSpace id f b) at h = handled_rings v id h

@@ -1,5 +1,5 @@
 -- Each line that is said where it belongs keeps all of it: addresses, rings and lists; so do the parts of a group.
-use Rattle.std.proofs.Common.{◌≡◌, ℕ, ◌+◌, ◌≤◌, ◌==◌, ◌&&◌, Bool, true, false, List, [], ◌∷◌, ◌++◌, length, drop, refl, ap, ◌∙◌, subst, is_some, is_none, arith, nat_le}
+use Rattle.std.proofs.Common.{◌≡◌, ℕ, ◌+◌, ◌≤◌, ◌==◌, ◌&&◌, Bool, true, false, List, [], ◌∷◌, ◌++◌, length, drop, refl, ap, ◌∙◌, sym, subst, is_some, is_none, arith, nat_le}
 use Rattle.std.specs.Prelude.{if◌then◌else◌}
 use Rattle.std.specs.declared.option.Option.{Option}
 use Rattle.std.specs.declared.option.Option.TheVariants.{None, Some}
@@ -28,13 +28,20 @@ use Rattle.dm_rule.specs.declared.line.Load.TheVariants as load
 use Rattle.dm_rule.specs.Spots.{untaken}
 use Rattle.dm_rule.specs.View as view
 use Rattle.dm_rule.specs.View.{View, Pair, Told, after_label, after_put, after_packet, after_taken, after_early, after_acked, queued_for, handled}
-use Rattle.dm_rule.specs.Addresses.{Receiver}
+use Rattle.std.specs.Prelude.{◌||◌}
+use Rattle.dm_link.specs.Names.{pid_eq}
+use Rattle.dm_message.specs.Plain as what
+use Rattle.dm_message.specs.Plain.{PlainWhat}
+use Rattle.dm_onekernel.specs.declared.boot.BootProcess.{BootProcess}
+use Rattle.dm_onekernel.specs.Boot.{switchboard, manager}
+use Rattle.dm_rule.specs.View.{Known, Unknown, Here, known_at}
+use Rattle.dm_rule.specs.Addresses.{Addresses, Receiver, Gets, given, own_gives, first_gives, addresses_after}
 use Rattle.dm_rule.specs.Point.{Point, first_point, after, after_line, moved}
 use Rattle.dm_rule.specs.Parts.{Routes, lines_of, puts, packet_line, goes_out}
 use Rattle.dm_rule.specs.Homes.{Homes, is_for_home}
-use Rattle.dm_rule.proofs.Homes.{AtHome, homes_are}
+use Rattle.dm_rule.proofs.Homes.{IsHome, AtHome, homes_are}
 use Rattle.dm_rule.proofs.HomesStart.{start_at_home, Homes-start}
-use Rattle.dm_rule.proofs.HomesLabels.{SaidAt, label_home, RingsHome, rings_same, label_rings}
+use Rattle.dm_rule.proofs.HomesLabels.{SaidAt, label_home, RingsHome, is_still, rings_same, label_rings}
 use Rattle.dm_rule.proofs.HomesLists.{stands, all_stand, ListsHome, Old, lists_on, label_lists, put_lists, pair_set, are_for}
 
 -- a step leaves a message of the bag as it is, or takes it out
@@ -44,13 +51,13 @@ NoneReplaced = (r e : MsgId → ℕ) (s t : OneKernel) (l : Label) → kernel.st
 -- all that holds as long as nothing moves, with the receptions and entries so far
 pub record Home (r e : MsgId → ℕ) (pt : Point) : Type 0 where
   pub sound : Sound r e pt.kernel
-  pub at : AtHome pt.kernel pt.addresses
+  pub at : AtHome IsHome pt.kernel pt.addresses
   pub rings : RingsHome pt.view
   pub lists : ListsHome pt.kernel e pt.view
 
 pub homes_of : (r e : MsgId → ℕ) (pt : Point) → Home r e pt → Homes pt
 homes_of r e pt h = record {
-  home = homes_are pt.kernel pt.addresses h.at;
+  home = homes_are IsHome pt.kernel pt.addresses h.at;
   moves = h.rings.moves;
   ring = h.rings.ring;
   inbox = λ m. are_for pt.kernel e m (pt.view.inbox m) (h.lists.inbox m);
@@ -59,11 +66,19 @@ homes_of r e pt h = record {
   untaken = λ a m. are_for pt.kernel e m (untaken (pt.view.pair a m)) (h.lists.untaken a m);
 }
 
+start_if : (c : Bool) (k : Known) → is_still k ≡ true → is_still (if c then Here else k) ≡ true
+start_if true k h = refl
+start_if false k h = h
+
+start_known : (ps : List BootProcess) (m : ℕ) (q : Pid) → is_still (known_at ps m q) ≡ true
+start_known [] m q = start_if ((m == 0) && (pid_eq q switchboard || pid_eq q manager)) Unknown refl
+start_known (p ∷ ps) m q = start_if (pid_eq p.pid q && (p.pid.home == m)) (known_at ps m q) (start_known ps m q)
+
 pub home_start : (b : Boot) → IsValid b → Home (λ i. 0) (λ i. 0) (first_point b)
 home_start b valid = record {
   sound = start-sound b valid;
   at = start_at_home b valid;
-  rings = let h = Homes-start b valid in record { moves = h.moves; ring = h.ring };
+  rings = let h = Homes-start b valid in record { moves = h.moves; ring = h.ring; known = λ m p. start_known b.processes m p };
   lists = record { inbox = λ m. refl; queue = λ m p. refl; untaken = λ a m. refl };
 }
 
@@ -129,7 +144,7 @@ acting_dropped : (v : View) (id : MsgId) (o : Option Pid) → (view.dropped_for 
 acting_dropped v id None = refl
 acting_dropped v id (Some p) = refl
 
-acting_label : (v : View) (l : Label) → (after_label v l).acting ≡ v.acting
+pub acting_label : (v : View) (l : Label) → (after_label v l).acting ≡ v.acting
 acting_label v (label.Dropped id) = acting_dropped (handled v id) id (view.receiver_of (v.told id))
 acting_label v (label.Served id) = acting_told (handled v id) (v.told id)
 acting_label v (label.Ran p k) = refl
@@ -157,7 +172,34 @@ pub packet_line_home : (r e : MsgId → ℕ) (pt : Point) (a b k : ℕ) (l : Loa
 packet_line_home r e pt a b k l h =
     let p = pt.view.pair a b in
     let q : Pair = record p { gone = view.gone_after l p.gone; wire = p.wire ++ record { load = l; delivered = false } ∷ [] } in
-    record { sound = h.sound; at = h.at; rings = rings_same pt.view (view.with_pair pt.view a b q) refl refl h.rings; lists = same_lists pt.kernel e pt.view a b q refl refl h.lists }
+    record { sound = h.sound; at = h.at; rings = rings_same pt.view (view.with_pair pt.view a b q) refl refl refl h.rings; lists = same_lists pt.kernel e pt.view a b q refl refl h.lists }
+
+-- a message of the bag has its places from the label that sent it
+own_none : (s : OneKernel) (v : View) (a : Addresses) (id : MsgId) (q : Pid) (w : PlainWhat) → own_gives s v a id q (plain_kind w) ≡ []
+own_none s v a id q (what.User x1 x2 x3 x4) = refl
+own_none s v a id q what.Stop = refl
+own_none s v a id q what.Resume = refl
+own_none s v a id q what.Kill = refl
+own_none s v a id q (what.Read x1 x2) = refl
+own_none s v a id q (what.Write x1 x2) = refl
+own_none s v a id q (what.Block x1) = refl
+own_none s v a id q what.Written = refl
+own_none s v a id q what.Gone = refl
+own_none s v a id q (what.Create x1 x2) = refl
+own_none s v a id q (what.Created x1) = refl
+own_none s v a id q what.NoRoom = refl
+own_none s v a id q (what.Move x1) = refl
+own_none s v a id q (what.Moved x1) = refl
+
+first_none : (o : Option Told) (gs : List Gets) → gs ≡ [] → first_gives o gs ≡ []
+first_none None gs e = e
+first_none (Some t) gs e = refl
+
+pub put_places : (s : OneKernel) (v : View) (a : Addresses) (from b : ℕ) (id : MsgId) (w : PlainWhat) (q : Pid) → addresses_after s v a (line.Put from b id (plain_kind w) q) ≡ a
+put_places s v a from b id w q = ap (given a) (first_none (v.told id) (own_gives s v a id q (plain_kind w)) (own_none s v a id q w))
+
+put_at_home : (s : OneKernel) (v : View) (a : Addresses) (from b : ℕ) (id : MsgId) (w : PlainWhat) (q : Pid) → AtHome IsHome s a → AtHome IsHome s (addresses_after s v a (line.Put from b id (plain_kind w) q))
+put_at_home s v a from b id w q h = subst (AtHome IsHome s) (sym (put_places s v a from b id w q)) h
 
 -- a routed message
 routed_home : (r e : MsgId → ℕ) (pt : Point) (id : MsgId) (m : PlainMessage) (b : ℕ) → pt.kernel.bag id ≡ Some m → b ≡ m.to.home → Home r e pt → Home r e (moved pt (line.Put pt.view.acting b id (plain_kind m.what) m.to) pt.kernel)
@@ -169,7 +211,7 @@ routed_home r e pt id m b there is h =
     let first : nat_le 1 (e id) ≡ true = grind (arith, nat_tests) in
     let second : is_for_home b (pt.kernel.bag id) ≡ true = ap (is_for_home b) there ∙ (let f : (m.to.home == b) ≡ true = grind (arith, nat_tests) in f) in
     let at : stands pt.kernel e b id ≡ true = ap (λ (c : Bool). c && is_for_home b (pt.kernel.bag id)) first ∙ second in
-    record { sound = h.sound; at = h.at; rings = rings_same pt.view w refl refl h.rings; lists = put_lists pt.kernel e pt.view pt.view.acting b id (plain_kind m.what) m.to at h.lists }
+    record { sound = h.sound; at = put_at_home pt.kernel pt.view pt.addresses pt.view.acting b id m.what m.to h.at; rings = rings_same pt.view w refl refl refl h.rings; lists = put_lists pt.kernel e pt.view pt.view.acting b id (plain_kind m.what) m.to at h.lists }
 
 -- its packet goes out at once, or later
 packet_if : (r e : MsgId → ℕ) (pt pt' : Point) (c d : Bool) (a b k : ℕ) (l : Load) → Home r e pt → after pt (if c then [] else if d then line.Packet a b k l ∷ [] else []) ≡ Some pt' → Kept pt.view.acting pt'
@@ -182,8 +224,8 @@ packet_if r e pt pt' false true a b k l h is =
 pub routes_keep : (r e : MsgId → ℕ) (pt pt' : Point) (id : MsgId) (ls : List Line) → Home r e pt → lines_of pt (Routes id) ≡ Some ls → after pt ls ≡ Some pt' → Kept pt.view.acting pt'
 routes_keep r e pt pt' id ls h is next =
     let b = (pt.addresses (Receiver id)).at in
-    let (m, there, last) = bind-is (pt.kernel.bag id) (λ (x : PlainMessage). Some (puts pt.view b id x)) ls is in
-    let f : puts pt.view b id m ≡ ls = cc in
+    let (m, there, last) = bind-is (pt.kernel.bag id) (λ (x : PlainMessage). Some (puts pt.view b id (plain_kind x.what) x.to)) ls is in
+    let f : puts pt.view b id (plain_kind m.what) m.to ≡ ls = cc in
     let at : b ≡ m.to.home = ap (λ (p : Place). p.at) (h.at.messages id m there).receiver in
     let c = pt.view.acting in
     let rest = if (c == b) then [] else if goes_out (pt.view.pair c b) then packet_line pt.view c b (load.Data (length (pt.view.pair c b).ids)) ∷ [] else [] in

@@ -14,7 +14,7 @@ use Rattle.dm_rule.specs.declared.line.Line.TheVariants as line
 use Rattle.dm_rule.specs.View as view
 use Rattle.dm_rule.specs.View.{View, Pair, Told, after_label, after_put, after_packet, after_taken, after_early, after_acked, queued_for, handled}
 use Rattle.dm_rule.specs.Point.{Point, after, moved}
-use Rattle.dm_rule.specs.Parts.{Part, Says, Routes, Transmits, Spelled, behind, spelled, lines_of, packet_line}
+use Rattle.dm_rule.specs.Parts.{Part, Says, Routes, Again, Owns, Transmits, Spelled, behind, spelled, lines_of, packet_line}
 use Rattle.dm_rule.proofs.HomesLabels.{SaidAt, RingsHome, rings_same}
 use Rattle.dm_rule.proofs.HomesLists.{taken_lists}
 use Rattle.std.specs.Prelude.{not, filter}
@@ -84,6 +84,8 @@ LineAnywhere m (line.End z) = ⊥
 abbrev pub PartAnywhere : ℕ → Part → Type 0
 PartAnywhere m (Says l) = LineAnywhere m l
 PartAnywhere m (Routes id) = ⊤
+PartAnywhere m (Again id b) = ⊥
+PartAnywhere m (Owns k q b) = ⊥
 PartAnywhere m (Transmits a b l) = ⊤
 
 abbrev pub PartsAnywhere : ℕ → List Part → Type 0
@@ -100,7 +102,7 @@ acting_taken v b (Some id) = refl
 
 rings_taken : (v : View) (b : ℕ) (o : Option MsgId) → RingsHome v → RingsHome (view.taken_id v b o)
 rings_taken v b None h = h
-rings_taken v b (Some id) h = record { moves = h.moves; ring = h.ring }
+rings_taken v b (Some id) h = record { moves = h.moves; ring = h.ring; known = h.known }
 
 line_keeps : NoneReplaced → (r e : MsgId → ℕ) (pt pt' : Point) (l : Line) → LineAnywhere pt.view.acting l → Home r e pt → after pt (l ∷ []) ≡ Some pt' → Kept pt.view.acting pt'
 line_keeps none r e pt pt' (line.Label l) at h is = label_keeps none r e pt pt' l (said_at pt.kernel pt.view.acting l at) h is
@@ -122,7 +124,7 @@ line_keeps none r e pt pt' (line.Taken a b n) at h is =
     subst (Kept pt.view.acting) f (record {
       r = r;
       e = e;
-      home = record { sound = h.sound; at = h.at; rings = rings_taken w b (view.oldest p) (rings_same pt.view w refl refl h.rings); lists = taken_lists pt.kernel e pt.view a b n h.lists };
+      home = record { sound = h.sound; at = h.at; rings = rings_taken w b (view.oldest p) (rings_same pt.view w refl refl refl h.rings); lists = taken_lists pt.kernel e pt.view a b n h.lists };
       acting = acting_taken w b (view.oldest p);
     })
 line_keeps none r e pt pt' (line.Early a b n) at h is =
@@ -130,13 +132,13 @@ line_keeps none r e pt pt' (line.Early a b n) at h is =
     let p = pt.view.pair a b in
     let q : Pair = record p { kept = n ∷ filter (λ k. not (k == n)) p.kept } in
     let w = view.with_pair pt.view a b q in
-    subst (Kept pt.view.acting) f (record { r = r; e = e; home = record { sound = h.sound; at = h.at; rings = rings_same pt.view w refl refl h.rings; lists = same_lists pt.kernel e pt.view a b q refl refl h.lists }; acting = refl })
+    subst (Kept pt.view.acting) f (record { r = r; e = e; home = record { sound = h.sound; at = h.at; rings = rings_same pt.view w refl refl refl h.rings; lists = same_lists pt.kernel e pt.view a b q refl refl h.lists }; acting = refl })
 line_keeps none r e pt pt' (line.Acked a b n) at h is =
     let f : moved pt (line.Acked a b n) pt.kernel ≡ pt' = cc in
     let p = pt.view.pair b a in
     let q : Pair = record p { acked = view.at_least p.acked n } in
     let w = view.with_pair pt.view b a q in
-    subst (Kept pt.view.acting) f (record { r = r; e = e; home = record { sound = h.sound; at = h.at; rings = rings_same pt.view w refl refl h.rings; lists = same_lists pt.kernel e pt.view b a q refl refl h.lists }; acting = refl })
+    subst (Kept pt.view.acting) f (record { r = r; e = e; home = record { sound = h.sound; at = h.at; rings = rings_same pt.view w refl refl refl h.rings; lists = same_lists pt.kernel e pt.view b a q refl refl h.lists }; acting = refl })
 line_keeps none r e pt pt' (line.Head s) at h is = absurd at
 line_keeps none r e pt pt' (line.Put a b id k q) at h is = absurd at
 line_keeps none r e pt pt' (line.Queued id) at h is = absurd at
@@ -157,6 +159,8 @@ line_keeps none r e pt pt' (line.End z) at h is = absurd at
 pub part_keeps : NoneReplaced → (r e : MsgId → ℕ) (pt pt' : Point) (p : Part) (ls : List Line) → PartAnywhere pt.view.acting p → Home r e pt → lines_of pt p ≡ Some ls → after pt ls ≡ Some pt' → Kept pt.view.acting pt'
 part_keeps none r e pt pt' (Says l) ls at h is next = let f : l ∷ [] ≡ ls = cc in line_keeps none r e pt pt' l at h (ap (after pt) f ∙ next)
 part_keeps none r e pt pt' (Routes id) ls at h is next = routes_keep r e pt pt' id ls h is next
+part_keeps none r e pt pt' (Again id b) ls at h is next = absurd at
+part_keeps none r e pt pt' (Owns k q b) ls at h is next = absurd at
 part_keeps none r e pt pt' (Transmits a b l) ls at h is next =
     let f : packet_line pt.view a b l ∷ [] ≡ ls = cc in line_keeps none r e pt pt' (packet_line pt.view a b l) tt h (ap (after pt) f ∙ next)
 

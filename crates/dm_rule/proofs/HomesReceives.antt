@@ -1,4 +1,4 @@
--- Receives keep addresses at homes.
+-- Receives keep addresses where they may be.
 use Rattle.std.proofs.Common.{◌≡◌, ℕ, zero, suc, ◌+◌, ◌==◌, ◌&&◌, Bool, true, false, List, [], ◌∷◌, ◌++◌, refl, ap, ◌∙◌, sym, subst, inl, inr, arith, nat_lt, length}
 use Rattle.std.specs.Prelude.{if◌then◌else◌, cond, slice_get, slice_set}
 use Rattle.std.specs.Option.{is_none}
@@ -32,7 +32,7 @@ use Rattle.dm_rule.specs.View.{View}
 use Rattle.dm_rule.specs.Addresses as addresses
 use Rattle.dm_rule.specs.Addresses.{Addresses, Gets, gets, given, gives, Slot, Owner, Receiver, Sender, Enclosed, unmoved, here, fills, fills_by, made, sends_what, receives_links, receives_what, slot_after, owner_in}
 use Rattle.dm_rule.specs.Homes.{links_in}
-use Rattle.dm_rule.proofs.Homes.{HomeProcess, AtHome}
+use Rattle.dm_rule.proofs.Homes.{place_as, pid_as, HomeProcess, AtHome}
 use Rattle.dm_rule.proofs.HomesRows.{at_home_process, at_home_out, home_goes, alive_on}
 use Rattle.dm_rule.proofs.HomesSteps.{OnlySlots, only_none}
 
@@ -84,23 +84,23 @@ stays [] t r j w e = e
 stays (l ∷ ls) t r j w e = stays ls (receiving.place_into t r l (first_empty t.links)) (r + 1) j w (stays_step t r l j w (first_empty t.links) refl e)
 
 -- the links of a message from number n on name homes
-abbrev EnclosedHome : Addresses → MsgId → ℕ → List PlainLink → Type 0
-EnclosedHome a id n ls = (k j : ℕ) (w : PlainLink) → slice_get ls k ≡ Some w → j ≡ n + k → a (Enclosed id j) ≡ unmoved w.to.home
+abbrev EnclosedHome : (Pid → Place → Type 0) → Addresses → MsgId → ℕ → List PlainLink → Type 0
+EnclosedHome P a id n ls = (k j : ℕ) (w : PlainLink) → slice_get ls k ≡ Some w → j ≡ n + k → P w.to (a (Enclosed id j))
 
-after_first : (a : Addresses) (id : MsgId) (n : ℕ) (l : PlainLink) (ls : List PlainLink) → EnclosedHome a id n (l ∷ ls) → EnclosedHome a id (n + 1) ls
-after_first a id n l ls h k j w e f = h (suc k) j w e (omega (arith, f))
+after_first : (P : Pid → Place → Type 0) (a : Addresses) (id : MsgId) (n : ℕ) (l : PlainLink) (ls : List PlainLink) → EnclosedHome P a id n (l ∷ ls) → EnclosedHome P a id (n + 1) ls
+after_first P a id n l ls h k j w e f = h (suc k) j w e (omega (arith, f))
 
 -- each placed link has the place that it had in the message, and the others have theirs
-abbrev PlacedHome : Addresses → Pid → MsgId → List PlainLink → Type 0
-PlacedHome a p id ls =
-    (n r : ℕ) (t : receiving.Placed) (j : ℕ) (w : PlainLink) → EnclosedHome a id n ls → (link_at t.links j ≡ Some w → a (Slot p j) ≡ unmoved w.to.home)
-    → link_at (receiving.place_links t r ls).links j ≡ Some w → given a (receives_links a p id n t.links ls) (Slot p j) ≡ unmoved w.to.home
+abbrev PlacedHome : (Pid → Place → Type 0) → Addresses → Pid → MsgId → List PlainLink → Type 0
+PlacedHome P a p id ls =
+    (n r : ℕ) (t : receiving.Placed) (j : ℕ) (w : PlainLink) → EnclosedHome P a id n ls → (link_at t.links j ≡ Some w → P w.to (a (Slot p j)))
+    → link_at (receiving.place_links t r ls).links j ≡ Some w → P w.to (given a (receives_links a p id n t.links ls) (Slot p j))
 
-placed_step : (a : Addresses) (p : Pid) (id : MsgId) (l : PlainLink) (ls : List PlainLink) (n r : ℕ) (t : receiving.Placed) (j : ℕ) (w : PlainLink) (o : Option ℕ) → PlacedHome a p id ls → first_empty t.links ≡ o → EnclosedHome a id n (l ∷ ls)
-    → (link_at t.links j ≡ Some w → a (Slot p j) ≡ unmoved w.to.home) → link_at (receiving.place_links (receiving.place_into t r l o) (r + 1) ls).links j ≡ Some w
-    → given a (fills p o (a (Enclosed id n)) ++ receives_links a p id (n + 1) (slot_after t.links l o) ls) (Slot p j) ≡ unmoved w.to.home
-placed_step a p id l ls n r t j w None rest is en old e = rest (n + 1) (r + 1) t j w (after_first a id n l ls en) old e
-placed_step a p id l ls n r t j w (Some slot) rest is en old e =
+placed_step : (P : Pid → Place → Type 0) (a : Addresses) (p : Pid) (id : MsgId) (l : PlainLink) (ls : List PlainLink) (n r : ℕ) (t : receiving.Placed) (j : ℕ) (w : PlainLink) (o : Option ℕ) → PlacedHome P a p id ls → first_empty t.links ≡ o → EnclosedHome P a id n (l ∷ ls)
+    → (link_at t.links j ≡ Some w → P w.to (a (Slot p j))) → link_at (receiving.place_links (receiving.place_into t r l o) (r + 1) ls).links j ≡ Some w
+    → P w.to (given a (fills p o (a (Enclosed id n)) ++ receives_links a p id (n + 1) (slot_after t.links l o) ls) (Slot p j))
+placed_step P a p id l ls n r t j w None rest is en old e = rest (n + 1) (r + 1) t j w (after_first P a id n l ls en) old e
+placed_step P a p id l ls n r t j w (Some slot) rest is en old e =
     let u = receiving.place_into t r l (Some slot) in
     let gs = receives_links a p id (n + 1) (slot_after t.links l (Some slot)) ls in
     elim (cases_Bool (slot == j)) [
@@ -110,16 +110,16 @@ placed_step a p id l ls n r t j w (Some slot) rest is en old e =
           let stood : link_at u.links j ≡ Some l = ap (λ (i : ℕ). link_at u.links i) (sym at) ∙ set_at t.links slot (Some l) (is_empty t.links slot is).within in
           let f : Some l ≡ Some w = sym (stays ls u (r + 1) j l stood) ∙ e in
           let lw : l ≡ w = cc in
-          ap (λ (c : Bool). if c then a (Enclosed id n) else given a gs (Slot p j)) all ∙ en 0 n l refl (omega arith) ∙ ap (λ (k : PlainLink). unmoved k.to.home) lw
+          place_as P (ap (λ (c : Bool). if c then a (Enclosed id n) else given a gs (Slot p j)) all) (pid_as P (ap (λ (k : PlainLink). k.to) lw) (en 0 n l refl (omega arith)))
       | inr apart ↦
           let all : (pid_eq p p && (slot == j)) ≡ false = grind (arith, nat_tests) in
-          ap (λ (c : Bool). if c then a (Enclosed id n) else given a gs (Slot p j)) all
-          ∙ rest (n + 1) (r + 1) u j w (after_first a id n l ls en) (λ f. old (sym (set_off t.links slot j (Some l) apart) ∙ f)) e
+          place_as P (ap (λ (c : Bool). if c then a (Enclosed id n) else given a gs (Slot p j)) all)
+          (rest (n + 1) (r + 1) u j w (after_first P a id n l ls en) (λ f. old (sym (set_off t.links slot j (Some l) apart) ∙ f)) e)
     ]
 
-placed_home : (a : Addresses) (p : Pid) (id : MsgId) (ls : List PlainLink) → PlacedHome a p id ls
-placed_home a p id [] n r t j w en old e = old e
-placed_home a p id (l ∷ ls) n r t j w en old e = placed_step a p id l ls n r t j w (first_empty t.links) (placed_home a p id ls) refl en old e
+placed_home : (P : Pid → Place → Type 0) (a : Addresses) (p : Pid) (id : MsgId) (ls : List PlainLink) → PlacedHome P a p id ls
+placed_home P a p id [] n r t j w en old e = old e
+placed_home P a p id (l ∷ ls) n r t j w en old e = placed_step P a p id l ls n r t j w (first_empty t.links) (placed_home P a p id ls) refl en old e
 
 -- only slots of the process get places
 only_more : (a : Addresses) (p : Pid) (o : Option ℕ) (place : Place) (gs : List Gets) → OnlySlots a (given a gs) p → OnlySlots a (given a (fills p o place ++ gs)) p
@@ -137,72 +137,72 @@ only_receives a p id (l ∷ ls) n slots =
     (only_receives a p id ls (n + 1) (slot_after slots l (first_empty slots)))
 
 -- what becomes of a receive
-record HomeReceived (a b : Addresses) (p : Pid) (y : PlainProcess) : Type 0 where
-  process : HomeProcess b p y
+record HomeReceived (P : Pid → Place → Type 0) (a b : Addresses) (p : Pid) (y : PlainProcess) : Type 0 where
+  process : HomeProcess P b p y
   only : OnlySlots a b p
 
-abbrev HomeCompleted : Addresses → Pid → MsgId → PlainProcess → PlainWhat → receiving.Completed → Type 0
-HomeCompleted a p id x w (receiving.Receives y) = HomeReceived a (given a (receives_what a p id x w)) p y
-HomeCompleted a p id x w (receiving.Refuses c y) = HomeProcess a p y
+abbrev HomeCompleted : (Pid → Place → Type 0) → Addresses → Pid → MsgId → PlainProcess → PlainWhat → receiving.Completed → Type 0
+HomeCompleted P a p id x w (receiving.Receives y) = HomeReceived P a (given a (receives_what a p id x w)) p y
+HomeCompleted P a p id x w (receiving.Refuses c y) = HomeProcess P a p y
 
-ready_home : (a : Addresses) (p : Pid) (x : PlainProcess) (regs : Regs) → HomeProcess a p x → HomeProcess a p (record x { regs = regs; status = Ready })
-ready_home a p x regs h = record { slots = h.slots; owner = λ q e. absurd (let f : None ≡ Some q = e in cc) }
+ready_home : (P : Pid → Place → Type 0) (a : Addresses) (p : Pid) (x : PlainProcess) (regs : Regs) → HomeProcess P a p x → HomeProcess P a p (record x { regs = regs; status = Ready })
+ready_home P a p x regs h = record { slots = h.slots; owner = λ q e. absurd (let f : None ≡ Some q = e in cc) }
 
-completes_home : (a : Addresses) (p : Pid) (id : MsgId) (x : PlainProcess) (base code channel : ℕ) (body : List ℕ) (links : List PlainLink) (o : Option Reply) → HomeProcess a p x → EnclosedHome a id 0 links
-    → HomeCompleted a p id x (what.User code channel body links) (receiving.completes_unless o x (receiving.receives x base code channel body links))
-completes_home a p id x base code channel body links (Some c) h en = ready_home a p x (setting x.regs 0 (reply_code c)) h
-completes_home a p id x base code channel body links None h en = record {
+completes_home : (P : Pid → Place → Type 0) (a : Addresses) (p : Pid) (id : MsgId) (x : PlainProcess) (base code channel : ℕ) (body : List ℕ) (links : List PlainLink) (o : Option Reply) → HomeProcess P a p x → EnclosedHome P a id 0 links
+    → HomeCompleted P a p id x (what.User code channel body links) (receiving.completes_unless o x (receiving.receives x base code channel body links))
+completes_home P a p id x base code channel body links (Some c) h en = ready_home P a p x (setting x.regs 0 (reply_code c)) h
+completes_home P a p id x base code channel body links None h en = record {
   process = record {
     slots = λ k l e.
-        placed_home a p id links 0 5 (record { regs = receiving.received_regs x.regs code channel (length body) (length links); links = x.links }) k l en (h.slots k l) e;
+        placed_home P a p id links 0 5 (record { regs = receiving.received_regs x.regs code channel (length body) (length links); links = x.links }) k l en (h.slots k l) e;
     owner = λ q e. absurd (let f : None ≡ Some q = e in cc);
   };
   only = only_receives a p id links 0 x.links;
 }
 
-completes_if : (a : Addresses) (p : Pid) (id : MsgId) (x : PlainProcess) (b : Bool) (w : PlainWhat) (c d : receiving.Completed) → HomeCompleted a p id x w c → (if b then Some c else None) ≡ Some d → HomeCompleted a p id x w d
-completes_if a p id x true w c d h e = let f : c ≡ d = cc in subst (HomeCompleted a p id x w) f h
-completes_if a p id x false w c d h e = cc
+completes_if : (P : Pid → Place → Type 0) (a : Addresses) (p : Pid) (id : MsgId) (x : PlainProcess) (b : Bool) (w : PlainWhat) (c d : receiving.Completed) → HomeCompleted P a p id x w c → (if b then Some c else None) ≡ Some d → HomeCompleted P a p id x w d
+completes_if P a p id x true w c d h e = let f : c ≡ d = cc in subst (HomeCompleted P a p id x w) f h
+completes_if P a p id x false w c d h e = cc
 
-completes_what_home : (a : Addresses) (p : Pid) (id : MsgId) (x : PlainProcess) (m : PlainMessage) (mask base size : ℕ) (w : PlainWhat) (d : receiving.Completed) → HomeProcess a p x → EnclosedHome a id 0 (links_in w)
-    → receiving.completes_what p x m mask base size w ≡ Some d → HomeCompleted a p id x w d
-completes_what_home a p id x m mask base size (what.User code channel body links) d h en e =
-    completes_if a p id x (pid_eq m.to p && on_mask mask channel) (what.User code channel body links) (receiving.completes x base size code channel body links) d
-    (completes_home a p id x base code channel body links (first_failed (receiving.receive_refusals x size body links)) h en) e
-completes_what_home a p id x m mask base size what.Stop d h en e = cc
-completes_what_home a p id x m mask base size what.Resume d h en e = cc
-completes_what_home a p id x m mask base size what.Kill d h en e = cc
-completes_what_home a p id x m mask base size (what.Read f g) d h en e = cc
-completes_what_home a p id x m mask base size (what.Write f g) d h en e = cc
-completes_what_home a p id x m mask base size (what.Block f) d h en e = cc
-completes_what_home a p id x m mask base size what.Written d h en e = cc
-completes_what_home a p id x m mask base size what.Gone d h en e = cc
-completes_what_home a p id x m mask base size (what.Create f g) d h en e = cc
-completes_what_home a p id x m mask base size (what.Created f) d h en e = cc
-completes_what_home a p id x m mask base size what.NoRoom d h en e = cc
-completes_what_home a p id x m mask base size (what.Move f) d h en e = cc
-completes_what_home a p id x m mask base size (what.Moved f) d h en e = cc
+completes_what_home : (P : Pid → Place → Type 0) (a : Addresses) (p : Pid) (id : MsgId) (x : PlainProcess) (m : PlainMessage) (mask base size : ℕ) (w : PlainWhat) (d : receiving.Completed) → HomeProcess P a p x → EnclosedHome P a id 0 (links_in w)
+    → receiving.completes_what p x m mask base size w ≡ Some d → HomeCompleted P a p id x w d
+completes_what_home P a p id x m mask base size (what.User code channel body links) d h en e =
+    completes_if P a p id x (pid_eq m.to p && on_mask mask channel) (what.User code channel body links) (receiving.completes x base size code channel body links) d
+    (completes_home P a p id x base code channel body links (first_failed (receiving.receive_refusals x size body links)) h en) e
+completes_what_home P a p id x m mask base size what.Stop d h en e = cc
+completes_what_home P a p id x m mask base size what.Resume d h en e = cc
+completes_what_home P a p id x m mask base size what.Kill d h en e = cc
+completes_what_home P a p id x m mask base size (what.Read f g) d h en e = cc
+completes_what_home P a p id x m mask base size (what.Write f g) d h en e = cc
+completes_what_home P a p id x m mask base size (what.Block f) d h en e = cc
+completes_what_home P a p id x m mask base size what.Written d h en e = cc
+completes_what_home P a p id x m mask base size what.Gone d h en e = cc
+completes_what_home P a p id x m mask base size (what.Create f g) d h en e = cc
+completes_what_home P a p id x m mask base size (what.Created f) d h en e = cc
+completes_what_home P a p id x m mask base size what.NoRoom d h en e = cc
+completes_what_home P a p id x m mask base size (what.Move f) d h en e = cc
+completes_what_home P a p id x m mask base size (what.Moved f) d h en e = cc
 
-completes_status_home : (a : Addresses) (p : Pid) (id : MsgId) (x : PlainProcess) (m : PlainMessage) (st : PlainStatus) (d : receiving.Completed) → HomeProcess a p x → EnclosedHome a id 0 (links_in m.what)
-    → receiving.completes_status p x m st ≡ Some d → HomeCompleted a p id x m.what d
-completes_status_home a p id x m (Waiting mask base size) d h en e = completes_what_home a p id x m mask base size m.what d h en e
-completes_status_home a p id x m Ready d h en e = cc
-completes_status_home a p id x m (Moving dir owner base own left pending) d h en e = cc
+completes_status_home : (P : Pid → Place → Type 0) (a : Addresses) (p : Pid) (id : MsgId) (x : PlainProcess) (m : PlainMessage) (st : PlainStatus) (d : receiving.Completed) → HomeProcess P a p x → EnclosedHome P a id 0 (links_in m.what)
+    → receiving.completes_status p x m st ≡ Some d → HomeCompleted P a p id x m.what d
+completes_status_home P a p id x m (Waiting mask base size) d h en e = completes_what_home P a p id x m mask base size m.what d h en e
+completes_status_home P a p id x m Ready d h en e = cc
+completes_status_home P a p id x m (Moving dir owner base own left pending) d h en e = cc
 
-completes_with_home : (a : Addresses) (p : Pid) (id : MsgId) (x : PlainProcess) (m : PlainMessage) (b : Bool) (d : receiving.Completed) → HomeProcess a p x → EnclosedHome a id 0 (links_in m.what)
-    → (if b then None else receiving.completes_status p x m x.status) ≡ Some d → HomeCompleted a p id x m.what d
-completes_with_home a p id x m true d h en e = cc
-completes_with_home a p id x m false d h en e = completes_status_home a p id x m x.status d h en e
+completes_with_home : (P : Pid → Place → Type 0) (a : Addresses) (p : Pid) (id : MsgId) (x : PlainProcess) (m : PlainMessage) (b : Bool) (d : receiving.Completed) → HomeProcess P a p x → EnclosedHome P a id 0 (links_in m.what)
+    → (if b then None else receiving.completes_status p x m x.status) ≡ Some d → HomeCompleted P a p id x m.what d
+completes_with_home P a p id x m true d h en e = cc
+completes_with_home P a p id x m false d h en e = completes_status_home P a p id x m x.status d h en e
 
-record Completing (s : OneKernel) (a : Addresses) (p : Pid) (id : MsgId) (d : receiving.Completed) : Type 0 where
+record Completing (P : Pid → Place → Type 0) (s : OneKernel) (a : Addresses) (p : Pid) (id : MsgId) (d : receiving.Completed) : Type 0 where
   x : PlainProcess
   m : PlainMessage
   alive : kernel.alive (s.processes p) ≡ Some x
   there : s.bag id ≡ Some m
-  home : HomeCompleted a p id x m.what d
+  home : HomeCompleted P a p id x m.what d
 
-completing_home : (s : OneKernel) (a : Addresses) (p : Pid) (id : MsgId) (d : receiving.Completed) → AtHome s a → kernel.completing s p id ≡ Some d → Completing s a p id d
-completing_home s a p id d h e =
+completing_home : (P : Pid → Place → Type 0) (s : OneKernel) (a : Addresses) (p : Pid) (id : MsgId) (d : receiving.Completed) → AtHome P s a → kernel.completing s p id ≡ Some d → Completing P s a p id d
+completing_home P s a p id d h e =
     let (x, alive, rest) = bind-is (kernel.alive (s.processes p)) (λ (y : PlainProcess). bind (s.bag id) (receiving.completes_with p y)) d e in
     let (m, there, last) = bind-is (s.bag id) (receiving.completes_with p x) d rest in
     let hm = h.messages id m there in
@@ -211,32 +211,32 @@ completing_home s a p id d h e =
       m = m;
       alive = alive;
       there = there;
-      home = completes_with_home a p id x m x.stopped d (h.processes p x alive) (λ k j w f g. let jk : j ≡ k = omega (arith, g) in ap (λ (i : ℕ). a (Enclosed id i)) jk ∙ hm.enclosed k w f) last;
+      home = completes_with_home P a p id x m x.stopped d (h.processes p x alive) (λ k j w f g. let jk : j ≡ k = omega (arith, g) in place_as P (ap (λ (i : ℕ). a (Enclosed id i)) jk) (hm.enclosed k w f)) last;
     }
 
-receive_row : (s t : OneKernel) (v : View) (a : Addresses) (p : Pid) (id : MsgId) (d : receiving.Completed) → Completing s a p id d → kernel.receives s p id d ≡ Some t → AtHome s a → AtHome t (given a (gives s v a (label.Receive p id)))
-receive_row s t v a p id (receiving.Receives y) w e h =
+receive_row : (P : Pid → Place → Type 0) (s t : OneKernel) (v : View) (a : Addresses) (p : Pid) (id : MsgId) (d : receiving.Completed) → Completing P s a p id d → kernel.receives s p id d ≡ Some t → AtHome P s a → AtHome P t (given a (gives s v a (label.Receive p id)))
+receive_row P s t v a p id (receiving.Receives y) w e h =
     let eq : kernel.goes_on (without_message s id) p y ≡ t = cc in
     let gs = receives_what a p id w.x w.m.what in
     let gs_is : gs ≡ gives s v a (label.Receive p id) = ap (addresses.receives a p id (Some w.x)) (sym w.there) ∙ ap (λ (o : Option PlainProcess). addresses.receives a p id o (s.bag id)) (sym w.alive) in
     let o = w.home.only in
-    subst (λ (u : OneKernel). AtHome u (given a (gives s v a (label.Receive p id)))) eq
-    (subst (λ (g : List Gets). AtHome (kernel.goes_on (without_message s id) p y) (given a g)) gs_is
-    (at_home_process (without_message s id) a (given a gs) p (Alive y) (at_home_out s a id h) o.others (alive_on (given a gs) p y w.home.process) o.messages o.servers))
-receive_row s t v a p id (receiving.Refuses c y) w e h = cc
+    subst (λ (u : OneKernel). AtHome P u (given a (gives s v a (label.Receive p id)))) eq
+    (subst (λ (g : List Gets). AtHome P (kernel.goes_on (without_message s id) p y) (given a g)) gs_is
+    (at_home_process P (without_message s id) a (given a gs) p (Alive y) (at_home_out P s a id h) o.others (alive_on P (given a gs) p y w.home.process) o.messages o.servers))
+receive_row P s t v a p id (receiving.Refuses c y) w e h = cc
 
-pub receive_home : (s t : OneKernel) (v : View) (a : Addresses) (p : Pid) (id : MsgId) → kernel.step s (label.Receive p id) ≡ Some t → AtHome s a → AtHome t (given a (gives s v a (label.Receive p id)))
-receive_home s t v a p id is h =
+pub receive_home : (P : Pid → Place → Type 0) (s t : OneKernel) (v : View) (a : Addresses) (p : Pid) (id : MsgId) → kernel.step s (label.Receive p id) ≡ Some t → AtHome P s a → AtHome P t (given a (gives s v a (label.Receive p id)))
+receive_home P s t v a p id is h =
     let (d, c, rest) = bind-is (kernel.completing s p id) (kernel.receives s p id) t is in
-    receive_row s t v a p id d (completing_home s a p id d h c) rest h
+    receive_row P s t v a p id d (completing_home P s a p id d h c) rest h
 
-refuse_row : (s t : OneKernel) (a : Addresses) (p : Pid) (id : MsgId) (c : Reply) (d : receiving.Completed) → Completing s a p id d → kernel.refuses s p c d ≡ Some t → AtHome s a → AtHome t a
-refuse_row s t a p id c (receiving.Receives y) w e h = cc
-refuse_row s t a p id c (receiving.Refuses r y) w e h =
+refuse_row : (P : Pid → Place → Type 0) (s t : OneKernel) (a : Addresses) (p : Pid) (id : MsgId) (c : Reply) (d : receiving.Completed) → Completing P s a p id d → kernel.refuses s p c d ≡ Some t → AtHome P s a → AtHome P t a
+refuse_row P s t a p id c (receiving.Receives y) w e h = cc
+refuse_row P s t a p id c (receiving.Refuses r y) w e h =
     let k = when-is (reply_eq c r) (kernel.goes_on s p y) t e in
-    subst (λ (u : OneKernel). AtHome u a) k.1 (home_goes s a p y h w.home)
+    subst (λ (u : OneKernel). AtHome P u a) k.1 (home_goes P s a p y h w.home)
 
-pub refuse_home : (s t : OneKernel) (a : Addresses) (p : Pid) (id : MsgId) (c : Reply) → kernel.step s (label.Refuse p id c) ≡ Some t → AtHome s a → AtHome t a
-refuse_home s t a p id c is h =
+pub refuse_home : (P : Pid → Place → Type 0) (s t : OneKernel) (a : Addresses) (p : Pid) (id : MsgId) (c : Reply) → kernel.step s (label.Refuse p id c) ≡ Some t → AtHome P s a → AtHome P t a
+refuse_home P s t a p id c is h =
     let (d, k, rest) = bind-is (kernel.completing s p id) (kernel.refuses s p c) t is in
-    refuse_row s t a p id c d (completing_home s a p id d h k) rest h
+    refuse_row P s t a p id c d (completing_home P s a p id d h k) rest h

@@ -1,4 +1,4 @@
--- What processes do keeps addresses at homes.
+-- What processes do keeps addresses where they may be.
 use Rattle.std.proofs.Common.{◌≡◌, ℕ, zero, suc, ◌+◌, ◌==◌, ◌&&◌, Bool, true, false, List, [], ◌∷◌, refl, ap, ◌∙◌, sym, subst, inl, inr, arith}
 use Rattle.std.specs.Prelude.{if◌then◌else◌, slice_get}
 use Rattle.std.specs.declared.option.Option.TheVariants.{None, Some}
@@ -17,7 +17,7 @@ use Rattle.dm_laws.proofs.Equal.{pid_eq-is, id_eq-is, id_eq-same}
 use Rattle.dm_laws.proofs.Movers.{sent_at, sent_off, stayed}
 use Rattle.dm_laws.proofs.Steps.{bind-is}
 use Rattle.dm_rule.specs.Addresses.{Addresses, given, Slot, Owner, Receiver, Sender, Enclosed, Child, Name, Answer, encloses}
-use Rattle.dm_rule.proofs.Homes.{HomeProcess, HomeMessage, AtHome}
+use Rattle.dm_rule.proofs.Homes.{place_as, HomeProcess, HomeMessage, AtHome}
 
 -- a process's addresses stay, and a message's
 pub record SameProcess (a b : Addresses) (p : Pid) : Type 0 where
@@ -35,93 +35,96 @@ pub record SameServers (a b : Addresses) : Type 0 where
   pub name : (n : ℕ) → b (Name n) ≡ a (Name n)
   pub answer : (n : ℕ) → b (Answer n) ≡ a (Answer n)
 
-pub process_same : (a b : Addresses) (p : Pid) (x : PlainProcess) → SameProcess a b p → HomeProcess a p x → HomeProcess b p x
-process_same a b p x w h = record { slots = λ k l e. w.slot k ∙ h.slots k l e; owner = λ q e. w.owner ∙ h.owner q e }
+pub process_same : (P : Pid → Place → Type 0) (a b : Addresses) (p : Pid) (x : PlainProcess) → SameProcess a b p → HomeProcess P a p x → HomeProcess P b p x
+process_same P a b p x w h = record { slots = λ k l e. place_as P (w.slot k) (h.slots k l e); owner = λ q e. place_as P w.owner (h.owner q e) }
 
-pub message_same : (a b : Addresses) (i : MsgId) (m : PlainMessage) → SameMessage a b i → HomeMessage a i m → HomeMessage b i m
-message_same a b i m w h = record { receiver = w.receiver ∙ h.receiver; sender = w.sender ∙ h.sender; enclosed = λ k l e. w.enclosed k ∙ h.enclosed k l e }
+pub message_same : (P : Pid → Place → Type 0) (a b : Addresses) (i : MsgId) (m : PlainMessage) → SameMessage a b i → HomeMessage P a i m → HomeMessage P b i m
+message_same P a b i m w h = record { receiver = place_as P w.receiver h.receiver; sender = place_as P w.sender h.sender; enclosed = λ k l e. place_as P (w.enclosed k) (h.enclosed k l e) }
 
 -- the processes once one was set
-pub set_home : (s : OneKernel) (a b : Addresses) (p : Pid) (life : Life) → AtHome s a → ((q : Pid) → pid_eq p q ≡ false → SameProcess a b q) → ((y : PlainProcess) → kernel.alive (Some life) ≡ Some y → HomeProcess b p y)
-    → (q : Pid) (x : PlainProcess) → kernel.alive ((with_process s p life).processes q) ≡ Some x → HomeProcess b q x
-set_home s a b p life h off on q x e = elim (cases_Bool (pid_eq p q)) [
+pub set_home : (P : Pid → Place → Type 0) (s : OneKernel) (a b : Addresses) (p : Pid) (life : Life) → AtHome P s a → ((q : Pid) → pid_eq p q ≡ false → SameProcess a b q) → ((y : PlainProcess) → kernel.alive (Some life) ≡ Some y → HomeProcess P b p y)
+    → (q : Pid) (x : PlainProcess) → kernel.alive ((with_process s p life).processes q) ≡ Some x → HomeProcess P b q x
+set_home P s a b p life h off on q x e = elim (cases_Bool (pid_eq p q)) [
   | inl same ↦
-      subst (λ (v : Pid). HomeProcess b v x) (pid_eq-is p q same) (on x (sym (ap (λ (c : Bool). kernel.alive (if c then Some life else s.processes q)) same) ∙ e))
+      subst (λ (v : Pid). HomeProcess P b v x) (pid_eq-is p q same) (on x (sym (ap (λ (c : Bool). kernel.alive (if c then Some life else s.processes q)) same) ∙ e))
   | inr apart ↦
-      process_same a b q x (off q apart) (h.processes q x (sym (ap (λ (c : Bool). kernel.alive (if c then Some life else s.processes q)) apart) ∙ e))
+      process_same P a b q x (off q apart) (h.processes q x (sym (ap (λ (c : Bool). kernel.alive (if c then Some life else s.processes q)) apart) ∙ e))
 ]
 
 -- the messages once one came
-pub sent_home : (s : OneKernel) (a b : Addresses) (m : PlainMessage) → ((i : MsgId) (x : PlainMessage) → s.bag i ≡ Some x → HomeMessage a i x) → ((i : MsgId) → id_eq m.id i ≡ false → SameMessage a b i) → HomeMessage b m.id m
-    → (i : MsgId) (x : PlainMessage) → (with_sent s (Some m)).bag i ≡ Some x → HomeMessage b i x
-sent_home s a b m h off on i x e = elim (cases_Bool (id_eq m.id i)) [
+pub sent_home : (P : Pid → Place → Type 0) (s : OneKernel) (a b : Addresses) (m : PlainMessage) → ((i : MsgId) (x : PlainMessage) → s.bag i ≡ Some x → HomeMessage P a i x) → ((i : MsgId) → id_eq m.id i ≡ false → SameMessage a b i) → HomeMessage P b m.id m
+    → (i : MsgId) (x : PlainMessage) → (with_sent s (Some m)).bag i ≡ Some x → HomeMessage P b i x
+sent_home P s a b m h off on i x e = elim (cases_Bool (id_eq m.id i)) [
   | inl same ↦
       let f : Some m ≡ Some x = sym (sent_at s m i same) ∙ e in
       let g : m ≡ x = cc in
-      subst (λ (v : PlainMessage). HomeMessage b i v) g (subst (λ (j : MsgId). HomeMessage b j m) (id_eq-is m.id i same) on)
-  | inr apart ↦ message_same a b i x (off i apart) (h i x (sym (sent_off s m i apart) ∙ e))
+      subst (λ (v : PlainMessage). HomeMessage P b i v) g (subst (λ (j : MsgId). HomeMessage P b j m) (id_eq-is m.id i same) on)
+  | inr apart ↦ message_same P a b i x (off i apart) (h i x (sym (sent_off s m i apart) ∙ e))
 ]
 
 -- only a process's addresses are given
-pub at_home_process : (s : OneKernel) (a b : Addresses) (p : Pid) (life : Life) → AtHome s a → ((q : Pid) → pid_eq p q ≡ false → SameProcess a b q) → ((y : PlainProcess) → kernel.alive (Some life) ≡ Some y → HomeProcess b p y)
-    → ((i : MsgId) → SameMessage a b i) → SameServers a b → AtHome (with_process s p life) b
-at_home_process s a b p life h off on messages servers = record {
-  processes = set_home s a b p life h off on;
-  messages = λ i m e. message_same a b i m (messages i) (h.messages i m e);
-  children = λ n q e. servers.child n ∙ h.children n q e;
-  named = λ n k e. servers.name n ∙ h.named n k e;
-  answers = λ n r e. servers.answer n ∙ h.answers n r e;
+pub at_home_process : (P : Pid → Place → Type 0) (s : OneKernel) (a b : Addresses) (p : Pid) (life : Life) → AtHome P s a → ((q : Pid) → pid_eq p q ≡ false → SameProcess a b q) → ((y : PlainProcess) → kernel.alive (Some life) ≡ Some y → HomeProcess P b p y)
+    → ((i : MsgId) → SameMessage a b i) → SameServers a b → AtHome P (with_process s p life) b
+at_home_process P s a b p life h off on messages servers = record {
+  processes = set_home P s a b p life h off on;
+  messages = λ i m e. message_same P a b i m (messages i) (h.messages i m e);
+  children = λ n q e. place_as P (servers.child n) (h.children n q e);
+  named = λ n k e. place_as P (servers.name n) (h.named n k e);
+  answers = λ n r e. place_as P (servers.answer n) (h.answers n r e);
+  rooted = h.rooted;
   pending = h.pending;
 }
 
 -- a process's and a message's
-pub at_home_sends : (s : OneKernel) (a b : Addresses) (p : Pid) (life : Life) (m : PlainMessage) → AtHome s a → ((q : Pid) → pid_eq p q ≡ false → SameProcess a b q) → ((y : PlainProcess) → kernel.alive (Some life) ≡ Some y → HomeProcess b p y)
-    → ((i : MsgId) → id_eq m.id i ≡ false → SameMessage a b i) → HomeMessage b m.id m → SameServers a b → AtHome (with_sent (with_process s p life) (Some m)) b
-at_home_sends s a b p life m h off on messages sent servers = record {
-  processes = set_home s a b p life h off on;
-  messages = sent_home s a b m h.messages messages sent;
-  children = λ n q e. servers.child n ∙ h.children n q e;
-  named = λ n k e. servers.name n ∙ h.named n k e;
-  answers = λ n r e. servers.answer n ∙ h.answers n r e;
+pub at_home_sends : (P : Pid → Place → Type 0) (s : OneKernel) (a b : Addresses) (p : Pid) (life : Life) (m : PlainMessage) → AtHome P s a → ((q : Pid) → pid_eq p q ≡ false → SameProcess a b q) → ((y : PlainProcess) → kernel.alive (Some life) ≡ Some y → HomeProcess P b p y)
+    → ((i : MsgId) → id_eq m.id i ≡ false → SameMessage a b i) → HomeMessage P b m.id m → SameServers a b → AtHome P (with_sent (with_process s p life) (Some m)) b
+at_home_sends P s a b p life m h off on messages sent servers = record {
+  processes = set_home P s a b p life h off on;
+  messages = sent_home P s a b m h.messages messages sent;
+  children = λ n q e. place_as P (servers.child n) (h.children n q e);
+  named = λ n k e. place_as P (servers.name n) (h.named n k e);
+  answers = λ n r e. place_as P (servers.answer n) (h.answers n r e);
+  rooted = h.rooted;
   pending = h.pending;
 }
 
-pub at_home_out : (s : OneKernel) (a : Addresses) (id : MsgId) → AtHome s a → AtHome (without_message s id) a
-at_home_out s a id h = record {
+pub at_home_out : (P : Pid → Place → Type 0) (s : OneKernel) (a : Addresses) (id : MsgId) → AtHome P s a → AtHome P (without_message s id) a
+at_home_out P s a id h = record {
   processes = h.processes;
   messages = λ i m e. h.messages i m (stayed s id i m e);
   children = h.children;
   named = h.named;
   answers = h.answers;
+  rooted = h.rooted;
   pending = h.pending;
 }
 
-pub at_home_goes : (s : OneKernel) (a : Addresses) (p : Pid) (life : Life) → AtHome s a → ((y : PlainProcess) → kernel.alive (Some life) ≡ Some y → HomeProcess a p y) → AtHome (with_process s p life) a
-at_home_goes s a p life h on =
-    at_home_process s a a p life h (λ q e. record { slot = λ k. refl; owner = refl }) on (λ i. record { receiver = refl; sender = refl; enclosed = λ k. refl })
+pub at_home_goes : (P : Pid → Place → Type 0) (s : OneKernel) (a : Addresses) (p : Pid) (life : Life) → AtHome P s a → ((y : PlainProcess) → kernel.alive (Some life) ≡ Some y → HomeProcess P a p y) → AtHome P (with_process s p life) a
+at_home_goes P s a p life h on =
+    at_home_process P s a a p life h (λ q e. record { slot = λ k. refl; owner = refl }) on (λ i. record { receiver = refl; sender = refl; enclosed = λ k. refl })
     (record { child = λ n. refl; name = λ n. refl; answer = λ n. refl })
 
-pub alive_on : (a : Addresses) (p : Pid) (x : PlainProcess) → HomeProcess a p x → (y : PlainProcess) → kernel.alive (Some (Alive x)) ≡ Some y → HomeProcess a p y
-alive_on a p x h y e = let f : x ≡ y = cc in subst (HomeProcess a p) f h
+pub alive_on : (P : Pid → Place → Type 0) (a : Addresses) (p : Pid) (x : PlainProcess) → HomeProcess P a p x → (y : PlainProcess) → kernel.alive (Some (Alive x)) ≡ Some y → HomeProcess P a p y
+alive_on P a p x h y e = let f : x ≡ y = cc in subst (HomeProcess P a p) f h
 
 -- a process goes on
-pub home_goes : (s : OneKernel) (a : Addresses) (p : Pid) (y : PlainProcess) → AtHome s a → HomeProcess a p y → AtHome (kernel.goes_on s p y) a
-home_goes s a p y h k = at_home_goes s a p (Alive y) h (alive_on a p y k)
+pub home_goes : (P : Pid → Place → Type 0) (s : OneKernel) (a : Addresses) (p : Pid) (y : PlainProcess) → AtHome P s a → HomeProcess P a p y → AtHome P (kernel.goes_on s p y) a
+home_goes P s a p y h k = at_home_goes P s a p (Alive y) h (alive_on P a p y k)
 
 -- the process that executes
-running_home_if : (a : Addresses) (p : Pid) (y : PlainProcess) (c : Bool) (x : PlainProcess) → HomeProcess a p y → (if c then None else Some y) ≡ Some x → HomeProcess a p x
-running_home_if a p y true x h e = cc
-running_home_if a p y false x h e = let f : y ≡ x = cc in subst (HomeProcess a p) f h
+running_home_if : (P : Pid → Place → Type 0) (a : Addresses) (p : Pid) (y : PlainProcess) (c : Bool) (x : PlainProcess) → HomeProcess P a p y → (if c then None else Some y) ≡ Some x → HomeProcess P a p x
+running_home_if P a p y true x h e = cc
+running_home_if P a p y false x h e = let f : y ≡ x = cc in subst (HomeProcess P a p) f h
 
-running_home_of : (a : Addresses) (p : Pid) (y : PlainProcess) (st : PlainStatus) (x : PlainProcess) → HomeProcess a p y → kernel.if_ready y st ≡ Some x → HomeProcess a p x
-running_home_of a p y Ready x h e = running_home_if a p y y.stopped x h e
-running_home_of a p y (Waiting mask base size) x h e = cc
-running_home_of a p y (Moving dir owner base own left pending) x h e = cc
+running_home_of : (P : Pid → Place → Type 0) (a : Addresses) (p : Pid) (y : PlainProcess) (st : PlainStatus) (x : PlainProcess) → HomeProcess P a p y → kernel.if_ready y st ≡ Some x → HomeProcess P a p x
+running_home_of P a p y Ready x h e = running_home_if P a p y y.stopped x h e
+running_home_of P a p y (Waiting mask base size) x h e = cc
+running_home_of P a p y (Moving dir owner base own left pending) x h e = cc
 
-pub running_home : (s : OneKernel) (a : Addresses) (p : Pid) (x : PlainProcess) → AtHome s a → kernel.running s p ≡ Some x → HomeProcess a p x
-running_home s a p x h e =
+pub running_home : (P : Pid → Place → Type 0) (s : OneKernel) (a : Addresses) (p : Pid) (x : PlainProcess) → AtHome P s a → kernel.running s p ≡ Some x → HomeProcess P a p x
+running_home P s a p x h e =
     let (y, is, ready) = bind-is (kernel.alive (s.processes p)) (λ (v : PlainProcess). kernel.if_ready v v.status) x e in
-    running_home_of a p y y.status x (h.processes p y is) ready
+    running_home_of P a p y y.status x (h.processes p y is) ready
 
 -- links of an enclosing list
 encloses_slot : (a : Addresses) (id : MsgId) (n : ℕ) (ps : List Place) (q : Pid) (k : ℕ) → given a (encloses id n ps) (Slot q k) ≡ a (Slot q k)

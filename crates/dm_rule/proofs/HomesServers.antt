@@ -1,4 +1,4 @@
--- What servers do keeps addresses at homes.
+-- What servers do keeps addresses where they may be.
 use Rattle.std.proofs.Common.{◌≡◌, ℕ, zero, suc, ◌+◌, ◌==◌, ◌&&◌, Bool, true, false, List, [], ◌∷◌, ◌++◌, refl, ap, ◌∙◌, sym, subst, ◌⊎◌, inl, inr, arith, nat_lt, nat_le, length}
 use Rattle.std.specs.Prelude.{if◌then◌else◌, slice_get}
 use Rattle.std.specs.declared.option.Option.{Option}
@@ -25,7 +25,7 @@ use Rattle.dm_onekernel.specs.Switchboard as board
 use Rattle.dm_onekernel.specs.Manager as manage
 use Rattle.dm_rule.specs.Addresses.{Child, Name, Answer, place_named, board_finds, board_keeps, board_takes}
 use Rattle.dm_rule.specs.Homes.{links_in, ascends}
-use Rattle.dm_rule.proofs.Homes.{AtHome}
+use Rattle.dm_rule.proofs.Homes.{place_as, pid_as, acts_at, AtHome}
 use Rattle.dm_rule.proofs.HomesRows.{SameProcess, SameMessage, sent_home, at_home_out, process_same}
 use Rattle.dm_rule.proofs.HomesServes.{two, two_off}
 
@@ -148,22 +148,22 @@ still_pending (p ∷ ps) from to n k r e f =
     ]
 
 -- the switchboard
-pub record AskedHome (a b : Addresses) (sent : MsgId) (k : board.Asked) : Type 0 where
-  pub named : (n : ℕ) (w : NamedLink) → slice_get k.names n ≡ Some w → b (Name n) ≡ unmoved w.link.to.home
-  pub enclosed : (n : ℕ) (l : PlainLink) → slice_get (board.links_of_answer k.answer) n ≡ Some l → b (Enclosed sent n) ≡ unmoved l.to.home
+pub record AskedHome (P : Pid → Place → Type 0) (a b : Addresses) (sent : MsgId) (k : board.Asked) : Type 0 where
+  pub named : (n : ℕ) (w : NamedLink) → slice_get k.names n ≡ Some w → P w.link.to (b (Name n))
+  pub enclosed : (n : ℕ) (l : PlainLink) → slice_get (board.links_of_answer k.answer) n ≡ Some l → P l.to (b (Enclosed sent n))
   pub process : (q : Pid) → SameProcess a b q
   pub message : (i : MsgId) → id_eq sent i ≡ false → SameMessage a b i
   pub child : (n : ℕ) → b (Child n) ≡ a (Child n)
   pub answer : (n : ℕ) → b (Answer n) ≡ a (Answer n)
 
-abbrev NamesHome : Addresses → List NamedLink → Type 0
-NamesHome a names = (n : ℕ) (w : NamedLink) → slice_get names n ≡ Some w → a (Name n) ≡ unmoved w.link.to.home
+abbrev NamesHome : (Pid → Place → Type 0) → Addresses → List NamedLink → Type 0
+NamesHome P a names = (n : ℕ) (w : NamedLink) → slice_get names n ≡ Some w → P w.link.to (a (Name n))
 
-abbrev AsksHome : Addresses → MsgId → MsgId → List NamedLink → List ℕ → board.Asked → Type 0
-AsksHome a id sent names body k = AskedHome a (given a (board_finds a sent names body k.answer ++ board_keeps a id names k.answer)) sent k
+abbrev AsksHome : (Pid → Place → Type 0) → Addresses → MsgId → MsgId → List NamedLink → List ℕ → board.Asked → Type 0
+AsksHome P a id sent names body k = AskedHome P a (given a (board_finds a sent names body k.answer ++ board_keeps a id names k.answer)) sent k
 
-plain_asked : (a : Addresses) (sent : MsgId) (names : List NamedLink) (k : board.Answer) → board.links_of_answer k ≡ [] → NamesHome a names → AskedHome a a sent (record { names = names; answer = k })
-plain_asked a sent names k none h = record {
+plain_asked : (P : Pid → Place → Type 0) (a : Addresses) (sent : MsgId) (names : List NamedLink) (k : board.Answer) → board.links_of_answer k ≡ [] → NamesHome P a names → AskedHome P a a sent (record { names = names; answer = k })
+plain_asked P a sent names k none h = record {
   named = h;
   enclosed = λ n l e. absurd (let f : None ≡ Some l = ap (λ (ls : List PlainLink). slice_get ls n) (sym none) ∙ e in cc);
   process = λ q. record { slot = λ n. refl; owner = refl };
@@ -172,9 +172,9 @@ plain_asked a sent names k none h = record {
   answer = λ n. refl;
 }
 
-asks_if : (a : Addresses) (id sent : MsgId) (names : List NamedLink) (body : List ℕ) (b : Bool) (k l : board.Asked) → AsksHome a id sent names body k → AsksHome a id sent names body l → AsksHome a id sent names body (if b then k else l)
-asks_if a id sent names body true k l h j = h
-asks_if a id sent names body false k l h j = j
+asks_if : (P : Pid → Place → Type 0) (a : Addresses) (id sent : MsgId) (names : List NamedLink) (body : List ℕ) (b : Bool) (k l : board.Asked) → AsksHome P a id sent names body k → AsksHome P a id sent names body l → AsksHome P a id sent names body (if b then k else l)
+asks_if P a id sent names body true k l h j = h
+asks_if P a id sent names body false k l h j = j
 
 pub record FoundAt (name : List ℕ) (names : List NamedLink) (n : ℕ) (l : PlainLink) : Type 0 where
   pub i : ℕ
@@ -196,37 +196,37 @@ found_at name (k ∷ ks) n l e = elim (cases_Bool (board.bytes_eq k.name name)) 
       record { i = suc hi; k = h.k; there = h.there; link = h.link; place = ap (λ (b : Bool). if b then n else place_named name ks (n + 1)) apart ∙ hp ∙ (let g : (n + 1) + hi ≡ n + suc hi = omega arith in g) }
 ]
 
-found_one : (a : Addresses) (sent : MsgId) (pl : Place) (l : PlainLink) → pl ≡ unmoved l.to.home → (n : ℕ) (w : PlainLink) → slice_get (l ∷ []) n ≡ Some w → given a (gets (Enclosed sent 0) pl ∷ []) (Enclosed sent n) ≡ unmoved w.to.home
-found_one a sent pl l at zero w e =
+found_one : (P : Pid → Place → Type 0) (a : Addresses) (sent : MsgId) (pl : Place) (l : PlainLink) → P l.to pl → (n : ℕ) (w : PlainLink) → slice_get (l ∷ []) n ≡ Some w → P w.to (given a (gets (Enclosed sent 0) pl ∷ []) (Enclosed sent n))
+found_one P a sent pl l at zero w e =
     let f : l ≡ w = cc in
     let same : (id_eq sent sent && (0 == 0)) ≡ true = let g = id_eq-same sent in grind (arith, nat_tests) in
-    ap (λ (c : Bool). if c then pl else a (Enclosed sent 0)) same ∙ at ∙ ap (λ (k : PlainLink). unmoved k.to.home) f
-found_one a sent pl l at (suc n) w e = absurd (let f : None ≡ Some w = e in cc)
+    place_as P (ap (λ (c : Bool). if c then pl else a (Enclosed sent 0)) same) (pid_as P (ap (λ (k : PlainLink). k.to) f) at)
+found_one P a sent pl l at (suc n) w e = absurd (let f : None ≡ Some w = e in cc)
 
-looks_up_home : (a : Addresses) (id sent : MsgId) (names : List NamedLink) (op : ℕ) (name : List ℕ) (o : Option PlainLink) → board.link_named name names ≡ o → NamesHome a names
-    → AsksHome a id sent names (op ∷ name) (record { names = names; answer = board.found_or_unknown o })
-looks_up_home a id sent names op name None is h = plain_asked a sent names board.Unknown refl h
-looks_up_home a id sent names op name (Some l) is h =
+looks_up_home : (P : Pid → Place → Type 0) (a : Addresses) (id sent : MsgId) (names : List NamedLink) (op : ℕ) (name : List ℕ) (o : Option PlainLink) → board.link_named name names ≡ o → NamesHome P a names
+    → AsksHome P a id sent names (op ∷ name) (record { names = names; answer = board.found_or_unknown o })
+looks_up_home P a id sent names op name None is h = plain_asked P a sent names board.Unknown refl h
+looks_up_home P a id sent names op name (Some l) is h =
     let f = found_at name names 0 l is in
     let place : place_named name names 0 ≡ f.i = let p = f.place in omega (arith, p) in
-    let at : a (Name (place_named name names 0)) ≡ unmoved l.to.home = ap (λ (n : ℕ). a (Name n)) place ∙ h f.i f.k f.there ∙ ap (λ (w : PlainLink). unmoved w.to.home) f.link in
+    let at : P l.to (a (Name (place_named name names 0))) = place_as P (ap (λ (n : ℕ). a (Name n)) place) (pid_as P (ap (λ (w : PlainLink). w.to) f.link) (h f.i f.k f.there)) in
     let pl = a (Name (place_named name names 0)) in
     record {
       named = h;
-      enclosed = λ n w e. found_one a sent pl l at n w e;
+      enclosed = λ n w e. found_one P a sent pl l at n w e;
       process = λ q. record { slot = λ n. refl; owner = refl };
       message = λ i e. record { receiver = refl; sender = refl; enclosed = λ n. ap (λ (c : Bool). if c && (0 == n) then pl else a (Enclosed i n)) e };
       child = λ n. refl;
       answer = λ n. refl;
     }
 
-registers_home : (a : Addresses) (id sent : MsgId) (names : List NamedLink) (op : ℕ) (name : List ℕ) (l : PlainLink) (o : Option PlainLink) → a (Enclosed id 1) ≡ unmoved l.to.home → NamesHome a names
-    → AsksHome a id sent names (op ∷ name) (board.registers_new names name l o)
-registers_home a id sent names op name l (Some k) at h = plain_asked a sent names board.Taken refl h
-registers_home a id sent names op name l None at h = record {
+registers_home : (P : Pid → Place → Type 0) (a : Addresses) (id sent : MsgId) (names : List NamedLink) (op : ℕ) (name : List ℕ) (l : PlainLink) (o : Option PlainLink) → P l.to (a (Enclosed id 1)) → NamesHome P a names
+    → AsksHome P a id sent names (op ∷ name) (board.registers_new names name l o)
+registers_home P a id sent names op name l (Some k) at h = plain_asked P a sent names board.Taken refl h
+registers_home P a id sent names op name l None at h = record {
   named = λ n w e. elim (get_last names (record { name = name; link = l }) n w e) [
-    | inl g ↦ ap (λ (c : Bool). if c then a (Enclosed id 1) else a (Name n)) g.0 ∙ at ∙ ap (λ (k : NamedLink). unmoved k.link.to.home) g.1
-    | inr g ↦ ap (λ (c : Bool). if c then a (Enclosed id 1) else a (Name n)) g.0 ∙ h n w g.1
+    | inl g ↦ place_as P (ap (λ (c : Bool). if c then a (Enclosed id 1) else a (Name n)) g.0) (pid_as P (ap (λ (k : NamedLink). k.link.to) g.1) at)
+    | inr g ↦ place_as P (ap (λ (c : Bool). if c then a (Enclosed id 1) else a (Name n)) g.0) (h n w g.1)
   ];
   enclosed = λ n w e. absurd (let f : None ≡ Some w = e in cc);
   process = λ q. record { slot = λ n. refl; owner = refl };
@@ -235,76 +235,77 @@ registers_home a id sent names op name l None at h = record {
   answer = λ n. refl;
 }
 
-to_register : (a : Addresses) (id sent : MsgId) (names : List NamedLink) (op : ℕ) (name : List ℕ) (ls : List PlainLink) → ((n : ℕ) (w : PlainLink) → slice_get ls n ≡ Some w → a (Enclosed id (suc n)) ≡ unmoved w.to.home) → NamesHome a names
-    → AsksHome a id sent names (op ∷ name) (board.asks_to_register names name ls)
-to_register a id sent names op name [] en h = plain_asked a sent names board.BadRequest refl h
-to_register a id sent names op name (l ∷ []) en h =
-    asks_if a id sent names (op ∷ name) (board.is_name name) (board.registers names name l) (board.bad_request names)
-    (asks_if a id sent names (op ∷ name) (is_general l.kind) (board.registers_new names name l (board.link_named name names)) (record { names = names; answer = board.BadLink })
-    (registers_home a id sent names op name l (board.link_named name names) (en 0 l refl) h) (plain_asked a sent names board.BadLink refl h))
-    (plain_asked a sent names board.BadRequest refl h)
-to_register a id sent names op name (l ∷ k ∷ ks) en h = plain_asked a sent names board.BadRequest refl h
+to_register : (P : Pid → Place → Type 0) (a : Addresses) (id sent : MsgId) (names : List NamedLink) (op : ℕ) (name : List ℕ) (ls : List PlainLink) → ((n : ℕ) (w : PlainLink) → slice_get ls n ≡ Some w → P w.to (a (Enclosed id (suc n)))) → NamesHome P a names
+    → AsksHome P a id sent names (op ∷ name) (board.asks_to_register names name ls)
+to_register P a id sent names op name [] en h = plain_asked P a sent names board.BadRequest refl h
+to_register P a id sent names op name (l ∷ []) en h =
+    asks_if P a id sent names (op ∷ name) (board.is_name name) (board.registers names name l) (board.bad_request names)
+    (asks_if P a id sent names (op ∷ name) (is_general l.kind) (board.registers_new names name l (board.link_named name names)) (record { names = names; answer = board.BadLink })
+    (registers_home P a id sent names op name l (board.link_named name names) (en 0 l refl) h) (plain_asked P a sent names board.BadLink refl h))
+    (plain_asked P a sent names board.BadRequest refl h)
+to_register P a id sent names op name (l ∷ k ∷ ks) en h = plain_asked P a sent names board.BadRequest refl h
 
-to_look_up : (a : Addresses) (id sent : MsgId) (names : List NamedLink) (op : ℕ) (name : List ℕ) (ls : List PlainLink) → NamesHome a names → AsksHome a id sent names (op ∷ name) (board.asks_to_look_up names name ls)
-to_look_up a id sent names op name [] h =
-    asks_if a id sent names (op ∷ name) (board.is_name name) (board.looks_up names name) (board.bad_request names) (looks_up_home a id sent names op name (board.link_named name names) refl h) (plain_asked a sent names board.BadRequest refl h)
-to_look_up a id sent names op name (l ∷ ls) h = plain_asked a sent names board.BadRequest refl h
+to_look_up : (P : Pid → Place → Type 0) (a : Addresses) (id sent : MsgId) (names : List NamedLink) (op : ℕ) (name : List ℕ) (ls : List PlainLink) → NamesHome P a names → AsksHome P a id sent names (op ∷ name) (board.asks_to_look_up names name ls)
+to_look_up P a id sent names op name [] h =
+    asks_if P a id sent names (op ∷ name) (board.is_name name) (board.looks_up names name) (board.bad_request names) (looks_up_home P a id sent names op name (board.link_named name names) refl h) (plain_asked P a sent names board.BadRequest refl h)
+to_look_up P a id sent names op name (l ∷ ls) h = plain_asked P a sent names board.BadRequest refl h
 
-asks_home : (a : Addresses) (id sent : MsgId) (names : List NamedLink) (body : List ℕ) (ls : List PlainLink) → ((n : ℕ) (w : PlainLink) → slice_get ls n ≡ Some w → a (Enclosed id (suc n)) ≡ unmoved w.to.home) → NamesHome a names
-    → AsksHome a id sent names body (board.asks names body ls)
-asks_home a id sent names [] ls en h = plain_asked a sent names board.BadRequest refl h
-asks_home a id sent names (op ∷ name) ls en h =
-    asks_if a id sent names (op ∷ name) (op == 1) (board.asks_to_register names name ls) (if op == 2 then board.asks_to_look_up names name ls else board.bad_request names)
-    (to_register a id sent names op name ls en h)
-    (asks_if a id sent names (op ∷ name) (op == 2) (board.asks_to_look_up names name ls) (board.bad_request names) (to_look_up a id sent names op name ls h) (plain_asked a sent names board.BadRequest refl h))
+asks_home : (P : Pid → Place → Type 0) (a : Addresses) (id sent : MsgId) (names : List NamedLink) (body : List ℕ) (ls : List PlainLink) → ((n : ℕ) (w : PlainLink) → slice_get ls n ≡ Some w → P w.to (a (Enclosed id (suc n)))) → NamesHome P a names
+    → AsksHome P a id sent names body (board.asks names body ls)
+asks_home P a id sent names [] ls en h = plain_asked P a sent names board.BadRequest refl h
+asks_home P a id sent names (op ∷ name) ls en h =
+    asks_if P a id sent names (op ∷ name) (op == 1) (board.asks_to_register names name ls) (if op == 2 then board.asks_to_look_up names name ls else board.bad_request names)
+    (to_register P a id sent names op name ls en h)
+    (asks_if P a id sent names (op ∷ name) (op == 2) (board.asks_to_look_up names name ls) (board.bad_request names) (to_look_up P a id sent names op name ls h) (plain_asked P a sent names board.BadRequest refl h))
 
-board_request : (s : OneKernel) (v : View) (a : Addresses) (id : MsgId) (code channel : ℕ) (body : List ℕ) (links : List PlainLink) → ((n : ℕ) (w : PlainLink) → slice_get links n ≡ Some w → a (Enclosed id n) ≡ unmoved w.to.home) → v.acting ≡ 0 → AtHome s a
-    → AtHome (service.switchboard_took s id (board.takes_request s.switchboard body links)) (given a (board_takes s v a id (what.User code channel body links)))
-board_request s v a id code channel body [] en at h =
-    let u = at_home_out s a id h in
-    record { processes = u.processes; messages = u.messages; children = u.children; named = u.named; answers = u.answers; pending = u.pending }
-board_request s v a id code channel body (l ∷ ls) en at h =
-    let u = at_home_out s a id h in
+board_request : (P : Pid → Place → Type 0) (s : OneKernel) (v : View) (a : Addresses) (id : MsgId) (code channel : ℕ) (body : List ℕ) (links : List PlainLink) → ((n : ℕ) (w : PlainLink) → slice_get links n ≡ Some w → P w.to (a (Enclosed id n))) → v.acting ≡ 0 → AtHome P s a
+    → AtHome P (service.switchboard_took s id (board.takes_request s.switchboard body links)) (given a (board_takes s v a id (what.User code channel body links)))
+board_request P s v a id code channel body [] en at h =
+    let u = at_home_out P s a id h in
+    record { processes = u.processes; messages = u.messages; children = u.children; named = u.named; answers = u.answers; rooted = u.rooted; pending = u.pending }
+board_request P s v a id code channel body (l ∷ ls) en at h =
+    let u = at_home_out P s a id h in
     let sent = id_of switchboard s.switchboard.sent in
     let asked = board.asks s.switchboard.names body ls in
-    let k = asks_home a id sent s.switchboard.names body ls (λ n w e. en (suc n) w e) h.named in
+    let k = asks_home P a id sent s.switchboard.names body ls (λ n w e. en (suc n) w e) h.named in
     let b = given a (board_finds a sent s.switchboard.names body asked.answer ++ board_keeps a id s.switchboard.names asked.answer) in
     let to = a (Enclosed id 0) in
     let from = unmoved v.acting in
     let m = board.goes_over switchboard s.switchboard.sent l (board.code_of_answer asked.answer ∷ []) (board.links_of_answer asked.answer) in
     let t = record (without_message s id) { switchboard = (board.takes_request s.switchboard body (l ∷ ls)).switchboard } in
     record {
-      processes = λ q x e. process_same a (given b (two sent to from)) q x (let w = k.process q in record { slot = w.slot; owner = w.owner }) (h.processes q x e);
-      messages = sent_home t a (given b (two sent to from)) m u.messages
+      processes = λ q x e. process_same P a (given b (two sent to from)) q x (let w = k.process q in record { slot = w.slot; owner = w.owner }) (h.processes q x e);
+      messages = sent_home P t a (given b (two sent to from)) m u.messages
           (λ i e. let w = k.message i e in let z = two_off b sent to from i e in record { receiver = z.receiver ∙ w.receiver; sender = z.sender ∙ w.sender; enclosed = w.enclosed })
           (record {
-            receiver = ap (λ (c : Bool). if c then to else b (Receiver sent)) (id_eq-same sent) ∙ en 0 l refl;
-            sender = ap (λ (c : Bool). if c then from else b (Sender sent)) (id_eq-same sent) ∙ ap unmoved at;
+            receiver = place_as P (ap (λ (c : Bool). if c then to else b (Receiver sent)) (id_eq-same sent)) (en 0 l refl);
+            sender = place_as P (ap (λ (c : Bool). if c then from else b (Sender sent)) (id_eq-same sent)) (acts_at P switchboard v.acting (h.rooted switchboard) at);
             enclosed = k.enclosed;
           });
-      children = λ n q e. k.child n ∙ h.children n q e;
+      children = λ n q e. place_as P (k.child n) (h.children n q e);
       named = k.named;
-      answers = λ n r e. k.answer n ∙ h.answers n r e;
+      answers = λ n r e. place_as P (k.answer n) (h.answers n r e);
+      rooted = h.rooted;
       pending = h.pending;
     }
 
-pub board_row : (s t : OneKernel) (v : View) (a : Addresses) (id : MsgId) (m : PlainMessage) (w : PlainWhat) → m.what ≡ w → s.bag id ≡ Some m → v.acting ≡ 0 → AtHome s a
-    → bind (board.takes s.switchboard m w) (λ (k : board.Took). Some (service.switchboard_took s id k)) ≡ Some t → AtHome t (given a (board_takes s v a id w))
-board_row s t v a id m (what.User code channel body links) is there at h e =
+pub board_row : (P : Pid → Place → Type 0) (s t : OneKernel) (v : View) (a : Addresses) (id : MsgId) (m : PlainMessage) (w : PlainWhat) → m.what ≡ w → s.bag id ≡ Some m → v.acting ≡ 0 → AtHome P s a
+    → bind (board.takes s.switchboard m w) (λ (k : board.Took). Some (service.switchboard_took s id k)) ≡ Some t → AtHome P t (given a (board_takes s v a id w))
+board_row P s t v a id m (what.User code channel body links) is there at h e =
     let k : service.switchboard_took s id (board.takes_request s.switchboard body links) ≡ t = cc in
     let hm = h.messages id m there in
-    subst (λ (u : OneKernel). AtHome u (given a (board_takes s v a id (what.User code channel body links)))) k
-    (board_request s v a id code channel body links (λ n w f. hm.enclosed n w (ap (λ (x : PlainWhat). slice_get (links_in x) n) is ∙ f)) at h)
-board_row s t v a id m what.Stop is there at h e = cc
-board_row s t v a id m what.Resume is there at h e = cc
-board_row s t v a id m what.Kill is there at h e = cc
-board_row s t v a id m (what.Read f g) is there at h e = cc
-board_row s t v a id m (what.Write f g) is there at h e = cc
-board_row s t v a id m (what.Block f) is there at h e = cc
-board_row s t v a id m what.Written is there at h e = cc
-board_row s t v a id m what.Gone is there at h e = cc
-board_row s t v a id m (what.Create f g) is there at h e = cc
-board_row s t v a id m (what.Created f) is there at h e = cc
-board_row s t v a id m what.NoRoom is there at h e = cc
-board_row s t v a id m (what.Move f) is there at h e = cc
-board_row s t v a id m (what.Moved f) is there at h e = cc
+    subst (λ (u : OneKernel). AtHome P u (given a (board_takes s v a id (what.User code channel body links)))) k
+    (board_request P s v a id code channel body links (λ n w f. hm.enclosed n w (ap (λ (x : PlainWhat). slice_get (links_in x) n) is ∙ f)) at h)
+board_row P s t v a id m what.Stop is there at h e = cc
+board_row P s t v a id m what.Resume is there at h e = cc
+board_row P s t v a id m what.Kill is there at h e = cc
+board_row P s t v a id m (what.Read f g) is there at h e = cc
+board_row P s t v a id m (what.Write f g) is there at h e = cc
+board_row P s t v a id m (what.Block f) is there at h e = cc
+board_row P s t v a id m what.Written is there at h e = cc
+board_row P s t v a id m what.Gone is there at h e = cc
+board_row P s t v a id m (what.Create f g) is there at h e = cc
+board_row P s t v a id m (what.Created f) is there at h e = cc
+board_row P s t v a id m what.NoRoom is there at h e = cc
+board_row P s t v a id m (what.Move f) is there at h e = cc
+board_row P s t v a id m (what.Moved f) is there at h e = cc

@@ -1,4 +1,4 @@
--- What kernels do with messages keeps addresses at homes.
+-- What kernels do with messages keeps addresses where they may be.
 use Rattle.std.proofs.Common.{◌≡◌, ℕ, zero, suc, ◌+◌, ◌==◌, ◌&&◌, Bool, true, false, List, [], ◌∷◌, ◌++◌, refl, ap, ◌∙◌, sym, subst, arith, nat_le, length}
 use Rattle.std.specs.Prelude.{⊤, if◌then◌else◌, map, slice_get}
 use Rattle.std.specs.declared.option.Option.{Option}
@@ -38,7 +38,7 @@ use Rattle.dm_onekernel.specs.Start.{begun}
 use Rattle.dm_link.specs.Names.{pid_of}
 use Rattle.dm_rule.specs.Addresses.{answers, serves_what, lands, child_links}
 use Rattle.dm_rule.specs.Homes.{links_in}
-use Rattle.dm_rule.proofs.Homes.{HomeProcess, HomeMessage, AtHome}
+use Rattle.dm_rule.proofs.Homes.{place_as, pid_as, acts_at, HomeProcess, HomeMessage, AtHome}
 use Rattle.dm_rule.proofs.HomesRows.{SameProcess, SameMessage, SameServers, sent_home, at_home_process, at_home_out, home_goes, alive_on, process_same}
 use Rattle.dm_rule.proofs.HomesSteps.{OnlySlots, only_none, at_home_ended}
 
@@ -59,38 +59,39 @@ two_off a i to from j e = record {
   enclosed = λ k. refl;
 }
 
-pub two_home : (a : Addresses) (m : PlainMessage) (to from : Place) → links_in m.what ≡ [] → to ≡ unmoved m.to.home → from ≡ unmoved m.sender.home → HomeMessage (given a (two m.id to from)) m.id m
-two_home a m to from none e f = record {
-  receiver = ap (λ (c : Bool). if c then to else a (Receiver m.id)) (id_eq-same m.id) ∙ e;
-  sender = ap (λ (c : Bool). if c then from else a (Sender m.id)) (id_eq-same m.id) ∙ f;
+pub two_home : (P : Pid → Place → Type 0) (a : Addresses) (m : PlainMessage) (to from : Place) → links_in m.what ≡ [] → P m.to to → P m.sender from → HomeMessage P (given a (two m.id to from)) m.id m
+two_home P a m to from none e f = record {
+  receiver = place_as P (ap (λ (c : Bool). if c then to else a (Receiver m.id)) (id_eq-same m.id)) e;
+  sender = place_as P (ap (λ (c : Bool). if c then from else a (Sender m.id)) (id_eq-same m.id)) f;
   enclosed = λ k l there. absurd (let g : None ≡ Some l = ap (λ (ls : List PlainLink). slice_get ls k) (sym none) ∙ there in cc);
 }
 
 -- a message without links comes, and a process goes on or not
-pub two_sends : (s : OneKernel) (a : Addresses) (m : PlainMessage) (to from : Place) → AtHome s a → links_in m.what ≡ [] → to ≡ unmoved m.to.home → from ≡ unmoved m.sender.home → AtHome (with_sent s (Some m)) (given a (two m.id to from))
-two_sends s a m to from h none e f = record {
-  processes = λ q x alive. process_same a (given a (two m.id to from)) q x (two_process a m.id to from q) (h.processes q x alive);
-  messages = sent_home s a (given a (two m.id to from)) m h.messages (two_off a m.id to from) (two_home a m to from none e f);
+pub two_sends : (P : Pid → Place → Type 0) (s : OneKernel) (a : Addresses) (m : PlainMessage) (to from : Place) → AtHome P s a → links_in m.what ≡ [] → P m.to to → P m.sender from → AtHome P (with_sent s (Some m)) (given a (two m.id to from))
+two_sends P s a m to from h none e f = record {
+  processes = λ q x alive. process_same P a (given a (two m.id to from)) q x (two_process a m.id to from q) (h.processes q x alive);
+  messages = sent_home P s a (given a (two m.id to from)) m h.messages (two_off a m.id to from) (two_home P a m to from none e f);
   children = h.children;
   named = h.named;
   answers = h.answers;
+  rooted = h.rooted;
   pending = h.pending;
 }
 
 -- an answer goes back, where the message's name is its own
-answer_sent : (s u : OneKernel) (a : Addresses) (id : MsgId) (m : PlainMessage) (w : PlainWhat) (from : Place) → m.id ≡ id → s.bag id ≡ Some m → AtHome s a → AtHome u a → links_in w ≡ [] → from ≡ unmoved m.to.home
-    → AtHome (with_sent u (Some (answer_to m w))) (given a (answers a id from))
-answer_sent s u a id m w from name there h k none is =
-    subst (λ (i : MsgId). AtHome (with_sent u (Some (answer_to m w))) (given a (two (answer_id i) (a (Sender id)) from))) name
-    (two_sends u a (answer_to m w) (a (Sender id)) from k none (h.messages id m there).sender is)
+answer_sent : (P : Pid → Place → Type 0) (s u : OneKernel) (a : Addresses) (id : MsgId) (m : PlainMessage) (w : PlainWhat) (from : Place) → m.id ≡ id → s.bag id ≡ Some m → AtHome P s a → AtHome P u a → links_in w ≡ [] → P m.to from
+    → AtHome P (with_sent u (Some (answer_to m w))) (given a (answers a id from))
+answer_sent P s u a id m w from name there h k none is =
+    subst (λ (i : MsgId). AtHome P (with_sent u (Some (answer_to m w))) (given a (two (answer_id i) (a (Sender id)) from))) name
+    (two_sends P u a (answer_to m w) (a (Sender id)) from k none (h.messages id m there).sender is)
 
 -- dropped
-pub dropped_home : (s t : OneKernel) (a : Addresses) (id : MsgId) → kernel.step s (label.Dropped id) ≡ Some t → AtHome s a → AtHome t a
-dropped_home s t a id is h =
+pub dropped_home : (P : Pid → Place → Type 0) (s t : OneKernel) (a : Addresses) (id : MsgId) → kernel.step s (label.Dropped id) ≡ Some t → AtHome P s a → AtHome P t a
+dropped_home P s t a id is h =
     let (m, there, rest) = bind-is (s.bag id) (λ (w : PlainMessage). bind (kernel.ended (s.processes w.to)) (kernel.drops s id w)) t is in
     let (y, gone, last) = bind-is (kernel.ended (s.processes m.to)) (kernel.drops s id m) t rest in
     let k = when-is (service.is_dropped m.what) (without_message s id) t last in
-    subst (λ (u : OneKernel). AtHome u a) k.1 (at_home_out s a id h)
+    subst (λ (u : OneKernel). AtHome P u a) k.1 (at_home_out P s a id h)
 
 -- the names of messages are their own
 abbrev pub Named : OneKernel → Type 0
@@ -100,128 +101,133 @@ Named s = (i : MsgId) (m : PlainMessage) → s.bag i ≡ Some m → m.id ≡ i
 abbrev pub ReceivedAt : OneKernel → ℕ → MsgId → Type 0
 ReceivedAt s acting id = (m : PlainMessage) → s.bag id ≡ Some m → m.to.home ≡ acting
 
+-- where the acting machine serves its receiver, or knows that it has ended
+abbrev pub ServedAt : (Pid → Place → Type 0) → OneKernel → View → MsgId → Type 0
+ServedAt P s v id = (m : PlainMessage) → s.bag id ≡ Some m → P m.to (here v m.to)
+
+abbrev pub EndedAt : (Pid → Place → Type 0) → OneKernel → View → Addresses → MsgId → Type 0
+EndedAt P s v a id = (m : PlainMessage) → s.bag id ≡ Some m → P m.to (record { at = v.acting; moves = (a (Receiver id)).moves })
+
 -- gone
-pub gone_home : (s t : OneKernel) (v : View) (a : Addresses) (id : MsgId) → kernel.step s (label.Gone id) ≡ Some t → Named s → ReceivedAt s v.acting id → AtHome s a → AtHome t (given a (gives s v a (label.Gone id)))
-gone_home s t v a id is named at h =
+pub gone_home : (P : Pid → Place → Type 0) (s t : OneKernel) (v : View) (a : Addresses) (id : MsgId) → kernel.step s (label.Gone id) ≡ Some t → Named s → EndedAt P s v a id → AtHome P s a → AtHome P t (given a (gives s v a (label.Gone id)))
+gone_home P s t v a id is named at h =
     let (m, there, rest) = bind-is (s.bag id) (λ (w : PlainMessage). bind (kernel.ended (s.processes w.to)) (kernel.says_gone s id w)) t is in
     let (y, gone, last) = bind-is (kernel.ended (s.processes m.to)) (kernel.says_gone s id m) t rest in
     let k = when-is (service.is_of_memory m.what) (with_sent (without_message s id) (Some (answer_to m what.Gone))) t last in
-    let count : (a (Receiver id)).moves ≡ 0 = ap (λ (p : Place). p.moves) (h.messages id m there).receiver in
     let from : Place = record { at = v.acting; moves = (a (Receiver id)).moves } in
-    let is_home : from ≡ unmoved m.to.home = ap (λ (n : ℕ). record { at = v.acting; moves = n }) count ∙ ap unmoved (sym (at m there)) in
-    subst (λ (u : OneKernel). AtHome u (given a (answers a id from))) k.1
-    (answer_sent s (without_message s id) a id m what.Gone from (named id m there) there h (at_home_out s a id h) refl is_home)
+    subst (λ (u : OneKernel). AtHome P u (given a (answers a id from))) k.1
+    (answer_sent P s (without_message s id) a id m what.Gone from (named id m there) there h (at_home_out P s a id h) refl (at m there))
 
 -- no room
-no_room_row : (s t : OneKernel) (v : View) (a : Addresses) (id : MsgId) (m : PlainMessage) (w : PlainWhat) → service.has_no_room s id m w ≡ Some t → s.bag id ≡ Some m → Named s → ReceivedAt s v.acting id → AtHome s a
-    → AtHome t (given a (answers a id (unmoved v.acting)))
-no_room_row s t v a id m (what.Create image links) is there named at h =
+no_room_row : (P : Pid → Place → Type 0) (s t : OneKernel) (v : View) (a : Addresses) (id : MsgId) (m : PlainMessage) (w : PlainWhat) → service.has_no_room s id m w ≡ Some t → s.bag id ≡ Some m → Named s → ReceivedAt s v.acting id → AtHome P s a
+    → AtHome P t (given a (answers a id (unmoved v.acting)))
+no_room_row P s t v a id m (what.Create image links) is there named at h =
     let k = when-is (service.is_kernel s m.to) (with_sent (without_message s id) (Some (answer_to m what.NoRoom))) t is in
-    subst (λ (u : OneKernel). AtHome u (given a (answers a id (unmoved v.acting)))) k.1
-    (answer_sent s (without_message s id) a id m what.NoRoom (unmoved v.acting) (named id m there) there h (at_home_out s a id h) refl (ap unmoved (sym (at m there))))
-no_room_row s t v a id m (what.User c d f g) is there named at h = cc
-no_room_row s t v a id m what.Stop is there named at h = cc
-no_room_row s t v a id m what.Resume is there named at h = cc
-no_room_row s t v a id m what.Kill is there named at h = cc
-no_room_row s t v a id m (what.Read c d) is there named at h = cc
-no_room_row s t v a id m (what.Write c d) is there named at h = cc
-no_room_row s t v a id m (what.Block c) is there named at h = cc
-no_room_row s t v a id m what.Written is there named at h = cc
-no_room_row s t v a id m what.Gone is there named at h = cc
-no_room_row s t v a id m (what.Created c) is there named at h = cc
-no_room_row s t v a id m what.NoRoom is there named at h = cc
-no_room_row s t v a id m (what.Move c) is there named at h = cc
-no_room_row s t v a id m (what.Moved c) is there named at h = cc
+    subst (λ (u : OneKernel). AtHome P u (given a (answers a id (unmoved v.acting)))) k.1
+    (answer_sent P s (without_message s id) a id m what.NoRoom (unmoved v.acting) (named id m there) there h (at_home_out P s a id h) refl (acts_at P m.to v.acting (h.rooted m.to) (sym (at m there))))
+no_room_row P s t v a id m (what.User c d f g) is there named at h = cc
+no_room_row P s t v a id m what.Stop is there named at h = cc
+no_room_row P s t v a id m what.Resume is there named at h = cc
+no_room_row P s t v a id m what.Kill is there named at h = cc
+no_room_row P s t v a id m (what.Read c d) is there named at h = cc
+no_room_row P s t v a id m (what.Write c d) is there named at h = cc
+no_room_row P s t v a id m (what.Block c) is there named at h = cc
+no_room_row P s t v a id m what.Written is there named at h = cc
+no_room_row P s t v a id m what.Gone is there named at h = cc
+no_room_row P s t v a id m (what.Created c) is there named at h = cc
+no_room_row P s t v a id m what.NoRoom is there named at h = cc
+no_room_row P s t v a id m (what.Move c) is there named at h = cc
+no_room_row P s t v a id m (what.Moved c) is there named at h = cc
 
-pub no_space_home : (s t : OneKernel) (v : View) (a : Addresses) (id : MsgId) (f b : ℕ) → kernel.step s (label.NoSpace id f b) ≡ Some t → Named s → ReceivedAt s v.acting id → AtHome s a → AtHome t (given a (gives s v a (label.NoSpace id f b)))
-no_space_home s t v a id f b is named at h =
+pub no_space_home : (P : Pid → Place → Type 0) (s t : OneKernel) (v : View) (a : Addresses) (id : MsgId) (f b : ℕ) → kernel.step s (label.NoSpace id f b) ≡ Some t → Named s → ReceivedAt s v.acting id → AtHome P s a → AtHome P t (given a (gives s v a (label.NoSpace id f b)))
+no_space_home P s t v a id f b is named at h =
     let (m, there, rest) = bind-is (s.bag id) (λ (w : PlainMessage). service.has_no_room s id w w.what) t is in
-    no_room_row s t v a id m m.what rest there named at h
+    no_room_row P s t v a id m m.what rest there named at h
 
 -- served: the answer to a piece
-abbrev LandedHome : Addresses → Pid → pieces.Landed → Type 0
-LandedHome a p (pieces.Done reply y) = HomeProcess a p y
-LandedHome a p (pieces.Next m y) = HomeProcess a p y × (a (Owner p) ≡ unmoved m.to.home) × (m.sender ≡ p) × (links_in m.what ≡ [])
+abbrev LandedHome : (Pid → Place → Type 0) → Addresses → Pid → pieces.Landed → Type 0
+LandedHome P a p (pieces.Done reply y) = HomeProcess P a p y
+LandedHome P a p (pieces.Next m y) = HomeProcess P a p y × (P m.to (a (Owner p))) × (m.sender ≡ p) × (links_in m.what ≡ [])
 
-done_home : (a : Addresses) (p : Pid) (x : PlainProcess) (c : Reply) → HomeProcess a p x → LandedHome a p (pieces.done c x)
-done_home a p x c h = record { slots = h.slots; owner = λ q e. absurd (let f : None ≡ Some q = e in cc) }
+done_home : (P : Pid → Place → Type 0) (a : Addresses) (p : Pid) (x : PlainProcess) (c : Reply) → HomeProcess P a p x → LandedHome P a p (pieces.done c x)
+done_home P a p x c h = record { slots = h.slots; owner = λ q e. absurd (let f : None ≡ Some q = e in cc) }
 
-if_landed : (a : Addresses) (p : Pid) (b : Bool) (c d : pieces.Landed) → LandedHome a p c → LandedHome a p d → LandedHome a p (if b then c else d)
-if_landed a p true c d h k = h
-if_landed a p false c d h k = k
+if_landed : (P : Pid → Place → Type 0) (a : Addresses) (p : Pid) (b : Bool) (c d : pieces.Landed) → LandedHome P a p c → LandedHome P a p d → LandedHome P a p (if b then c else d)
+if_landed P a p true c d h k = h
+if_landed P a p false c d h k = k
 
-next_home : (a : Addresses) (p : Pid) (x : PlainProcess) (dir : Direction) (owner : Pid) (base own left : ℕ) → HomeProcess a p x → a (Owner p) ≡ unmoved owner.home → LandedHome a p (pieces.next_request (pieces.requests p x dir owner base own left))
-next_home a p x direction.FromArea owner base own left h at = (record { slots = h.slots; owner = λ q e. let f : owner ≡ q = cc in at ∙ ap (λ (w : Pid). unmoved w.home) f }, at, refl, refl)
-next_home a p x direction.IntoArea owner base own left h at = (record { slots = h.slots; owner = λ q e. let f : owner ≡ q = cc in at ∙ ap (λ (w : Pid). unmoved w.home) f }, at, refl, refl)
+next_home : (P : Pid → Place → Type 0) (a : Addresses) (p : Pid) (x : PlainProcess) (dir : Direction) (owner : Pid) (base own left : ℕ) → HomeProcess P a p x → P owner (a (Owner p)) → LandedHome P a p (pieces.next_request (pieces.requests p x dir owner base own left))
+next_home P a p x direction.FromArea owner base own left h at = (record { slots = h.slots; owner = λ q e. let f : owner ≡ q = cc in pid_as P f at }, at, refl, refl)
+next_home P a p x direction.IntoArea owner base own left h at = (record { slots = h.slots; owner = λ q e. let f : owner ≡ q = cc in pid_as P f at }, at, refl, refl)
 
-goes_on_home : (a : Addresses) (p : Pid) (x : PlainProcess) (dir : Direction) (owner : Pid) (base own left piece : ℕ) → HomeProcess a p x → a (Owner p) ≡ unmoved owner.home → LandedHome a p (pieces.goes_on p x dir owner base own left piece)
-goes_on_home a p x dir owner base own left piece h at =
-    if_landed a p (left - piece == 0) (pieces.done reply.Done x) (pieces.next_request (pieces.requests p x dir owner (base + piece) (own + piece) (left - piece)))
-    (done_home a p x reply.Done h) (next_home a p x dir owner (base + piece) (own + piece) (left - piece) h at)
+goes_on_home : (P : Pid → Place → Type 0) (a : Addresses) (p : Pid) (x : PlainProcess) (dir : Direction) (owner : Pid) (base own left piece : ℕ) → HomeProcess P a p x → P owner (a (Owner p)) → LandedHome P a p (pieces.goes_on p x dir owner base own left piece)
+goes_on_home P a p x dir owner base own left piece h at =
+    if_landed P a p (left - piece == 0) (pieces.done reply.Done x) (pieces.next_request (pieces.requests p x dir owner (base + piece) (own + piece) (left - piece)))
+    (done_home P a p x reply.Done h) (next_home P a p x dir owner (base + piece) (own + piece) (left - piece) h at)
 
-some_landed : (a : Addresses) (p : Pid) (b : Bool) (c d : pieces.Landed) → LandedHome a p c → (if b then Some c else None) ≡ Some d → LandedHome a p d
-some_landed a p true c d h e = let f : c ≡ d = cc in subst (LandedHome a p) f h
-some_landed a p false c d h e = cc
+some_landed : (P : Pid → Place → Type 0) (a : Addresses) (p : Pid) (b : Bool) (c d : pieces.Landed) → LandedHome P a p c → (if b then Some c else None) ≡ Some d → LandedHome P a p d
+some_landed P a p true c d h e = let f : c ≡ d = cc in subst (LandedHome P a p) f h
+some_landed P a p false c d h e = cc
 
-lands_what_home : (a : Addresses) (p : Pid) (x : PlainProcess) (dir : Direction) (owner : Pid) (base own left : ℕ) (w : PlainWhat) (d : pieces.Landed) → HomeProcess a p x → a (Owner p) ≡ unmoved owner.home
-    → pieces.lands_what p x dir owner base own left w ≡ Some d → LandedHome a p d
-lands_what_home a p x direction.FromArea owner base own left (what.Block bytes) d h at e =
+lands_what_home : (P : Pid → Place → Type 0) (a : Addresses) (p : Pid) (x : PlainProcess) (dir : Direction) (owner : Pid) (base own left : ℕ) (w : PlainWhat) (d : pieces.Landed) → HomeProcess P a p x → P owner (a (Owner p))
+    → pieces.lands_what p x dir owner base own left w ≡ Some d → LandedHome P a p d
+lands_what_home P a p x direction.FromArea owner base own left (what.Block bytes) d h at e =
     let y = record x { memory = pieces.written_at x.memory own bytes } in
-    some_landed a p ((length bytes == pieces.piece_of left) && nat_le (own + left) (length x.memory)) (pieces.goes_on p y direction.FromArea owner base own left (pieces.piece_of left)) d
-    (goes_on_home a p y direction.FromArea owner base own left (pieces.piece_of left) (record { slots = h.slots; owner = h.owner }) at) e
-lands_what_home a p x direction.IntoArea owner base own left what.Written d h at e =
-    some_landed a p (nat_le (own + left) (length x.memory)) (pieces.goes_on p x direction.IntoArea owner base own left (pieces.piece_of left)) d (goes_on_home a p x direction.IntoArea owner base own left (pieces.piece_of left) h at) e
-lands_what_home a p x direction.FromArea owner base own left what.Gone d h at e = let f : pieces.done reply.Gone x ≡ d = cc in subst (LandedHome a p) f (done_home a p x reply.Gone h)
-lands_what_home a p x direction.FromArea owner base own left (what.User f g i j) d h at e = cc
-lands_what_home a p x direction.FromArea owner base own left what.Stop d h at e = cc
-lands_what_home a p x direction.FromArea owner base own left what.Resume d h at e = cc
-lands_what_home a p x direction.FromArea owner base own left what.Kill d h at e = cc
-lands_what_home a p x direction.FromArea owner base own left (what.Read f g) d h at e = cc
-lands_what_home a p x direction.FromArea owner base own left (what.Write f g) d h at e = cc
-lands_what_home a p x direction.FromArea owner base own left what.Written d h at e = cc
-lands_what_home a p x direction.FromArea owner base own left (what.Create f g) d h at e = cc
-lands_what_home a p x direction.FromArea owner base own left (what.Created f) d h at e = cc
-lands_what_home a p x direction.FromArea owner base own left what.NoRoom d h at e = cc
-lands_what_home a p x direction.FromArea owner base own left (what.Move f) d h at e = cc
-lands_what_home a p x direction.FromArea owner base own left (what.Moved f) d h at e = cc
-lands_what_home a p x direction.IntoArea owner base own left what.Gone d h at e = let f : pieces.done reply.Gone x ≡ d = cc in subst (LandedHome a p) f (done_home a p x reply.Gone h)
-lands_what_home a p x direction.IntoArea owner base own left (what.User f g i j) d h at e = cc
-lands_what_home a p x direction.IntoArea owner base own left what.Stop d h at e = cc
-lands_what_home a p x direction.IntoArea owner base own left what.Resume d h at e = cc
-lands_what_home a p x direction.IntoArea owner base own left what.Kill d h at e = cc
-lands_what_home a p x direction.IntoArea owner base own left (what.Read f g) d h at e = cc
-lands_what_home a p x direction.IntoArea owner base own left (what.Write f g) d h at e = cc
-lands_what_home a p x direction.IntoArea owner base own left (what.Block f) d h at e = cc
-lands_what_home a p x direction.IntoArea owner base own left (what.Create f g) d h at e = cc
-lands_what_home a p x direction.IntoArea owner base own left (what.Created f) d h at e = cc
-lands_what_home a p x direction.IntoArea owner base own left what.NoRoom d h at e = cc
-lands_what_home a p x direction.IntoArea owner base own left (what.Move f) d h at e = cc
-lands_what_home a p x direction.IntoArea owner base own left (what.Moved f) d h at e = cc
+    some_landed P a p ((length bytes == pieces.piece_of left) && nat_le (own + left) (length x.memory)) (pieces.goes_on p y direction.FromArea owner base own left (pieces.piece_of left)) d
+    (goes_on_home P a p y direction.FromArea owner base own left (pieces.piece_of left) (record { slots = h.slots; owner = h.owner }) at) e
+lands_what_home P a p x direction.IntoArea owner base own left what.Written d h at e =
+    some_landed P a p (nat_le (own + left) (length x.memory)) (pieces.goes_on p x direction.IntoArea owner base own left (pieces.piece_of left)) d (goes_on_home P a p x direction.IntoArea owner base own left (pieces.piece_of left) h at) e
+lands_what_home P a p x direction.FromArea owner base own left what.Gone d h at e = let f : pieces.done reply.Gone x ≡ d = cc in subst (LandedHome P a p) f (done_home P a p x reply.Gone h)
+lands_what_home P a p x direction.FromArea owner base own left (what.User f g i j) d h at e = cc
+lands_what_home P a p x direction.FromArea owner base own left what.Stop d h at e = cc
+lands_what_home P a p x direction.FromArea owner base own left what.Resume d h at e = cc
+lands_what_home P a p x direction.FromArea owner base own left what.Kill d h at e = cc
+lands_what_home P a p x direction.FromArea owner base own left (what.Read f g) d h at e = cc
+lands_what_home P a p x direction.FromArea owner base own left (what.Write f g) d h at e = cc
+lands_what_home P a p x direction.FromArea owner base own left what.Written d h at e = cc
+lands_what_home P a p x direction.FromArea owner base own left (what.Create f g) d h at e = cc
+lands_what_home P a p x direction.FromArea owner base own left (what.Created f) d h at e = cc
+lands_what_home P a p x direction.FromArea owner base own left what.NoRoom d h at e = cc
+lands_what_home P a p x direction.FromArea owner base own left (what.Move f) d h at e = cc
+lands_what_home P a p x direction.FromArea owner base own left (what.Moved f) d h at e = cc
+lands_what_home P a p x direction.IntoArea owner base own left what.Gone d h at e = let f : pieces.done reply.Gone x ≡ d = cc in subst (LandedHome P a p) f (done_home P a p x reply.Gone h)
+lands_what_home P a p x direction.IntoArea owner base own left (what.User f g i j) d h at e = cc
+lands_what_home P a p x direction.IntoArea owner base own left what.Stop d h at e = cc
+lands_what_home P a p x direction.IntoArea owner base own left what.Resume d h at e = cc
+lands_what_home P a p x direction.IntoArea owner base own left what.Kill d h at e = cc
+lands_what_home P a p x direction.IntoArea owner base own left (what.Read f g) d h at e = cc
+lands_what_home P a p x direction.IntoArea owner base own left (what.Write f g) d h at e = cc
+lands_what_home P a p x direction.IntoArea owner base own left (what.Block f) d h at e = cc
+lands_what_home P a p x direction.IntoArea owner base own left (what.Create f g) d h at e = cc
+lands_what_home P a p x direction.IntoArea owner base own left (what.Created f) d h at e = cc
+lands_what_home P a p x direction.IntoArea owner base own left what.NoRoom d h at e = cc
+lands_what_home P a p x direction.IntoArea owner base own left (what.Move f) d h at e = cc
+lands_what_home P a p x direction.IntoArea owner base own left (what.Moved f) d h at e = cc
 
-if_lands_home : (a : Addresses) (p : Pid) (x : PlainProcess) (b : Bool) (dir : Direction) (owner : Pid) (base own left : ℕ) (w : PlainWhat) (d : pieces.Landed) → HomeProcess a p x → a (Owner p) ≡ unmoved owner.home
-    → (if b then pieces.lands_what p x dir owner base own left w else None) ≡ Some d → LandedHome a p d
-if_lands_home a p x true dir owner base own left w d h at e = lands_what_home a p x dir owner base own left w d h at e
-if_lands_home a p x false dir owner base own left w d h at e = cc
+if_lands_home : (P : Pid → Place → Type 0) (a : Addresses) (p : Pid) (x : PlainProcess) (b : Bool) (dir : Direction) (owner : Pid) (base own left : ℕ) (w : PlainWhat) (d : pieces.Landed) → HomeProcess P a p x → P owner (a (Owner p))
+    → (if b then pieces.lands_what p x dir owner base own left w else None) ≡ Some d → LandedHome P a p d
+if_lands_home P a p x true dir owner base own left w d h at e = lands_what_home P a p x dir owner base own left w d h at e
+if_lands_home P a p x false dir owner base own left w d h at e = cc
 
-lands_home : (a : Addresses) (p : Pid) (x : PlainProcess) (m : PlainMessage) (st : PlainStatus) (d : pieces.Landed) → x.status ≡ st → HomeProcess a p x → pieces.lands p x m st ≡ Some d → LandedHome a p d
-lands_home a p x m (Moving dir owner base own left pending) d is h e =
-    if_lands_home a p x (m.id.n == pending) dir owner base own left m.what d h (h.owner owner (ap owner_in is)) e
-lands_home a p x m Ready d is h e = cc
-lands_home a p x m (Waiting mask base size) d is h e = cc
+lands_home : (P : Pid → Place → Type 0) (a : Addresses) (p : Pid) (x : PlainProcess) (m : PlainMessage) (st : PlainStatus) (d : pieces.Landed) → x.status ≡ st → HomeProcess P a p x → pieces.lands p x m st ≡ Some d → LandedHome P a p d
+lands_home P a p x m (Moving dir owner base own left pending) d is h e =
+    if_lands_home P a p x (m.id.n == pending) dir owner base own left m.what d h (h.owner owner (ap owner_in is)) e
+lands_home P a p x m Ready d is h e = cc
+lands_home P a p x m (Waiting mask base size) d is h e = cc
 
-landed_home : (s : OneKernel) (v : View) (a : Addresses) (id : MsgId) (m : PlainMessage) (c : pieces.Landed) → LandedHome a m.to c → here v m.to ≡ unmoved m.to.home → AtHome s a
-    → AtHome (service.landed s id m c) (given a (lands v a m.to (Some c)))
-landed_home s v a id m (pieces.Done reply y) w at h = home_goes (without_message s id) a m.to y (at_home_out s a id h) w
-landed_home s v a id m (pieces.Next n y) w at h =
-    two_sends (service.changed s id m y) a n (a (Owner m.to)) (here v m.to) (home_goes (without_message s id) a m.to y (at_home_out s a id h) w.0) w.3 w.1 (at ∙ ap (λ (q : Pid). unmoved q.home) (sym w.2))
+landed_home : (P : Pid → Place → Type 0) (s : OneKernel) (v : View) (a : Addresses) (id : MsgId) (m : PlainMessage) (c : pieces.Landed) → LandedHome P a m.to c → P m.to (here v m.to) → AtHome P s a
+    → AtHome P (service.landed s id m c) (given a (lands v a m.to (Some c)))
+landed_home P s v a id m (pieces.Done reply y) w at h = home_goes P (without_message s id) a m.to y (at_home_out P s a id h) w
+landed_home P s v a id m (pieces.Next n y) w at h =
+    two_sends P (service.changed s id m y) a n (a (Owner m.to)) (here v m.to) (home_goes P (without_message s id) a m.to y (at_home_out P s a id h) w.0) w.3 w.1 (pid_as P (sym w.2) at)
 
-lands_row : (s t : OneKernel) (v : View) (a : Addresses) (id : MsgId) (m : PlainMessage) (x : PlainProcess) → HomeProcess a m.to x → here v m.to ≡ unmoved m.to.home → AtHome s a
-    → bind (pieces.lands m.to x m x.status) (λ (c : pieces.Landed). Some (service.landed s id m c)) ≡ Some t → AtHome t (given a (lands v a m.to (pieces.lands m.to x m x.status)))
-lands_row s t v a id m x hx at h e =
+lands_row : (P : Pid → Place → Type 0) (s t : OneKernel) (v : View) (a : Addresses) (id : MsgId) (m : PlainMessage) (x : PlainProcess) → HomeProcess P a m.to x → P m.to (here v m.to) → AtHome P s a
+    → bind (pieces.lands m.to x m x.status) (λ (c : pieces.Landed). Some (service.landed s id m c)) ≡ Some t → AtHome P t (given a (lands v a m.to (pieces.lands m.to x m x.status)))
+lands_row P s t v a id m x hx at h e =
     let (c, is, last) = bind-is (pieces.lands m.to x m x.status) (λ (w : pieces.Landed). Some (service.landed s id m w)) t e in
     let k : service.landed s id m c ≡ t = cc in
-    subst (λ (u : OneKernel). AtHome u (given a (lands v a m.to (pieces.lands m.to x m x.status)))) k
-    (subst (λ (o : Option pieces.Landed). AtHome (service.landed s id m c) (given a (lands v a m.to o))) (sym is) (landed_home s v a id m c (lands_home a m.to x m x.status c refl hx is) at h))
+    subst (λ (u : OneKernel). AtHome P u (given a (lands v a m.to (pieces.lands m.to x m x.status)))) k
+    (subst (λ (o : Option pieces.Landed). AtHome P (service.landed s id m c) (given a (lands v a m.to o))) (sym is) (landed_home P s v a id m c (lands_home P a m.to x m x.status c refl hx is) at h))
 
 -- where the owner has ended, the move ends, and nothing is sent
 abbrev NothingNext : pieces.Landed → Type 0
@@ -245,63 +251,62 @@ pub nothing_lands : (v : View) (a : Addresses) (p : Pid) (c : pieces.Landed) →
 nothing_lands v a p (pieces.Done reply y) h = refl
 nothing_lands v a p (pieces.Next n y) h = absurd h
 
-gone_row : (s t : OneKernel) (v : View) (a : Addresses) (id : MsgId) (m : PlainMessage) (x : PlainProcess) → m.what ≡ what.Gone → HomeProcess a m.to x → here v m.to ≡ unmoved m.to.home → AtHome s a
-    → bind (pieces.lands m.to x m x.status) (λ (c : pieces.Landed). Some (service.landed s id m c)) ≡ Some t → AtHome t a
-gone_row s t v a id m x what_is hx at h e =
+gone_row : (P : Pid → Place → Type 0) (s t : OneKernel) (v : View) (a : Addresses) (id : MsgId) (m : PlainMessage) (x : PlainProcess) → m.what ≡ what.Gone → HomeProcess P a m.to x → P m.to (here v m.to) → AtHome P s a
+    → bind (pieces.lands m.to x m x.status) (λ (c : pieces.Landed). Some (service.landed s id m c)) ≡ Some t → AtHome P t a
+gone_row P s t v a id m x what_is hx at h e =
     let (c, is, last) = bind-is (pieces.lands m.to x m x.status) (λ (w : pieces.Landed). Some (service.landed s id m w)) t e in
     let k : service.landed s id m c ≡ t = cc in
-    subst (λ (u : OneKernel). AtHome u a) k
-    (subst (λ (gs : List Gets). AtHome (service.landed s id m c) (given a gs)) (nothing_lands v a m.to c (gone_lands m.to x m x.status c what_is is)) (landed_home s v a id m c (lands_home a m.to x m x.status c refl hx is) at h))
+    subst (λ (u : OneKernel). AtHome P u a) k
+    (subst (λ (gs : List Gets). AtHome P (service.landed s id m c) (given a gs)) (nothing_lands v a m.to c (gone_lands m.to x m x.status c what_is is)) (landed_home P s v a id m c (lands_home P a m.to x m x.status c refl hx is) at h))
 
 some_is : {A : Type 0} (b : Bool) (x y : A) → (if b then Some x else None) ≡ Some y → x ≡ y
 some_is true x y e = cc
 some_is false x y e = cc
 
 -- a row a kind
-serve_row : (s t : OneKernel) (v : View) (a : Addresses) (id : MsgId) (m : PlainMessage) (x : PlainProcess) (w : PlainWhat) → m.what ≡ w → service.serves s id m x w ≡ Some t → s.bag id ≡ Some m → m.id ≡ id → HomeProcess a m.to x
-    → here v m.to ≡ unmoved m.to.home → AtHome s a → AtHome t (given a (serves_what v a id m x w))
-serve_row s t v a id m x what.Stop w is there name hx at h =
+serve_row : (P : Pid → Place → Type 0) (s t : OneKernel) (v : View) (a : Addresses) (id : MsgId) (m : PlainMessage) (x : PlainProcess) (w : PlainWhat) → m.what ≡ w → service.serves s id m x w ≡ Some t → s.bag id ≡ Some m → m.id ≡ id → HomeProcess P a m.to x
+    → P m.to (here v m.to) → AtHome P s a → AtHome P t (given a (serves_what v a id m x w))
+serve_row P s t v a id m x what.Stop w is there name hx at h =
     let k : service.changed s id m (record x { stopped = true }) ≡ t = cc in
-    subst (λ (u : OneKernel). AtHome u a) k (home_goes (without_message s id) a m.to (record x { stopped = true }) (at_home_out s a id h) (record { slots = hx.slots; owner = hx.owner }))
-serve_row s t v a id m x what.Resume w is there name hx at h =
+    subst (λ (u : OneKernel). AtHome P u a) k (home_goes P (without_message s id) a m.to (record x { stopped = true }) (at_home_out P s a id h) (record { slots = hx.slots; owner = hx.owner }))
+serve_row P s t v a id m x what.Resume w is there name hx at h =
     let k : service.changed s id m (record x { stopped = false }) ≡ t = cc in
-    subst (λ (u : OneKernel). AtHome u a) k (home_goes (without_message s id) a m.to (record x { stopped = false }) (at_home_out s a id h) (record { slots = hx.slots; owner = hx.owner }))
-serve_row s t v a id m x what.Kill w is there name hx at h =
+    subst (λ (u : OneKernel). AtHome P u a) k (home_goes P (without_message s id) a m.to (record x { stopped = false }) (at_home_out P s a id h) (record { slots = hx.slots; owner = hx.owner }))
+serve_row P s t v a id m x what.Kill w is there name hx at h =
     let k : with_process (without_message s id) m.to (Ended why.Killed) ≡ t = cc in
-    subst (λ (u : OneKernel). AtHome u a) k (at_home_ended (without_message s id) a m.to why.Killed (at_home_out s a id h))
-serve_row s t v a id m x (what.Read base len) w is there name hx at h =
+    subst (λ (u : OneKernel). AtHome P u a) k (at_home_ended P (without_message s id) a m.to why.Killed (at_home_out P s a id h))
+serve_row P s t v a id m x (what.Read base len) w is there name hx at h =
     let (c, served, last) = bind-is (pieces.reads x m base len) (λ (r : pieces.Served). Some (service.answered s id m r)) t is in
     let bytes = take len (drop base x.memory) in
     let k = some_is (nat_le (base + len) (length x.memory)) (record { process = x; answer = answer_to m (what.Block bytes) }) c served in
     let f : service.answered s id m c ≡ t = cc in
-    subst (λ (u : OneKernel). AtHome u (given a (answers a id (here v m.to)))) (ap (service.answered s id m) k ∙ f)
-    (answer_sent s (service.changed s id m x) a id m (what.Block bytes) (here v m.to) name there h (home_goes (without_message s id) a m.to x (at_home_out s a id h) hx) refl at)
-serve_row s t v a id m x (what.Write base bytes) w is there name hx at h =
+    subst (λ (u : OneKernel). AtHome P u (given a (answers a id (here v m.to)))) (ap (service.answered s id m) k ∙ f)
+    (answer_sent P s (service.changed s id m x) a id m (what.Block bytes) (here v m.to) name there h (home_goes P (without_message s id) a m.to x (at_home_out P s a id h) hx) refl at)
+serve_row P s t v a id m x (what.Write base bytes) w is there name hx at h =
     let (c, served, last) = bind-is (pieces.writes x m base bytes) (λ (r : pieces.Served). Some (service.answered s id m r)) t is in
     let y = record x { memory = pieces.written_at x.memory base bytes } in
     let k = some_is (nat_le (base + length bytes) (length x.memory)) (record { process = y; answer = answer_to m what.Written }) c served in
     let f : service.answered s id m c ≡ t = cc in
-    subst (λ (u : OneKernel). AtHome u (given a (answers a id (here v m.to)))) (ap (service.answered s id m) k ∙ f)
-    (answer_sent s (service.changed s id m y) a id m what.Written (here v m.to) name there h (home_goes (without_message s id) a m.to y (at_home_out s a id h) (record { slots = hx.slots; owner = hx.owner })) refl at)
-serve_row s t v a id m x (what.Block bytes) w is there name hx at h = lands_row s t v a id m x hx at h is
-serve_row s t v a id m x what.Written w is there name hx at h = lands_row s t v a id m x hx at h is
-serve_row s t v a id m x what.Gone w is there name hx at h = gone_row s t v a id m x w hx at h is
-serve_row s t v a id m x (what.User b c d f) w is there name hx at h = cc
-serve_row s t v a id m x (what.Create b c) w is there name hx at h = cc
-serve_row s t v a id m x (what.Created b) w is there name hx at h = cc
-serve_row s t v a id m x what.NoRoom w is there name hx at h = cc
-serve_row s t v a id m x (what.Move b) w is there name hx at h = cc
-serve_row s t v a id m x (what.Moved b) w is there name hx at h = cc
+    subst (λ (u : OneKernel). AtHome P u (given a (answers a id (here v m.to)))) (ap (service.answered s id m) k ∙ f)
+    (answer_sent P s (service.changed s id m y) a id m what.Written (here v m.to) name there h (home_goes P (without_message s id) a m.to y (at_home_out P s a id h) (record { slots = hx.slots; owner = hx.owner })) refl at)
+serve_row P s t v a id m x (what.Block bytes) w is there name hx at h = lands_row P s t v a id m x hx at h is
+serve_row P s t v a id m x what.Written w is there name hx at h = lands_row P s t v a id m x hx at h is
+serve_row P s t v a id m x what.Gone w is there name hx at h = gone_row P s t v a id m x w hx at h is
+serve_row P s t v a id m x (what.User b c d f) w is there name hx at h = cc
+serve_row P s t v a id m x (what.Create b c) w is there name hx at h = cc
+serve_row P s t v a id m x (what.Created b) w is there name hx at h = cc
+serve_row P s t v a id m x what.NoRoom w is there name hx at h = cc
+serve_row P s t v a id m x (what.Move b) w is there name hx at h = cc
+serve_row P s t v a id m x (what.Moved b) w is there name hx at h = cc
 
-pub served_home : (s t : OneKernel) (v : View) (a : Addresses) (id : MsgId) → kernel.step s (label.Served id) ≡ Some t → Named s → ((p : Pid) → v.moves p ≡ 0) → ReceivedAt s v.acting id → AtHome s a → AtHome t (given a (gives s v a (label.Served id)))
-served_home s t v a id is named still at h =
+pub served_home : (P : Pid → Place → Type 0) (s t : OneKernel) (v : View) (a : Addresses) (id : MsgId) → kernel.step s (label.Served id) ≡ Some t → Named s → ServedAt P s v id → AtHome P s a → AtHome P t (given a (gives s v a (label.Served id)))
+served_home P s t v a id is named at h =
     let (m, there, rest) = bind-is (s.bag id) (λ (w : PlainMessage). bind (kernel.alive (s.processes w.to)) (λ (p : PlainProcess). service.serves s id w p w.what)) t is in
     let (x, alive, last) = bind-is (kernel.alive (s.processes m.to)) (λ (p : PlainProcess). service.serves s id m p m.what) t rest in
-    let here_is : here v m.to ≡ unmoved m.to.home = ap (λ (n : ℕ). record { at = v.acting; moves = n }) (still m.to) ∙ ap unmoved (sym (at m there)) in
     let gs_is : serves_what v a id m x m.what ≡ gives s v a (label.Served id) =
     ap (addresses.serves_alive v a id m) (sym alive) ∙ ap (addresses.serves s v a id) (sym there) in
-    subst (λ (gs : List Gets). AtHome t (given a gs)) gs_is
-    (serve_row s t v a id m x m.what refl last there (named id m there) (h.processes m.to x alive) here_is h)
+    subst (λ (gs : List Gets). AtHome P t (given a gs)) gs_is
+    (serve_row P s t v a id m x m.what refl last there (named id m there) (h.processes m.to x alive) (at m there) h)
 
 -- created
 begun_link : (links : List PlainLink) (n k : ℕ) (l : PlainLink) → link_at (map Some links ++ replicate n None) k ≡ Some l → slice_get links k ≡ Some l
@@ -336,55 +341,55 @@ only_child a child id (l ∷ ls) n =
 behind_two : (a : Addresses) (i : MsgId) (to from : Place) (gs : List Gets) (h : addresses.Holder) → given a (two i to from ++ gs) h ≡ given (given a gs) (two i to from) h
 behind_two a i to from gs h = refl
 
-begun_at_home : (s : OneKernel) (a : Addresses) (id : MsgId) (m : PlainMessage) (child : Pid) (image : BootImage) (links : List PlainLink) → AtHome s a → s.bag id ≡ Some m → links_in m.what ≡ links
-    → AtHome (service.with_child (without_message s id) child image links) (given a (child_links a child id 0 links))
-begun_at_home s a id m child image links h there is =
+begun_at_home : (P : Pid → Place → Type 0) (s : OneKernel) (a : Addresses) (id : MsgId) (m : PlainMessage) (child : Pid) (image : BootImage) (links : List PlainLink) → AtHome P s a → s.bag id ≡ Some m → links_in m.what ≡ links
+    → AtHome P (service.with_child (without_message s id) child image links) (given a (child_links a child id 0 links))
+begun_at_home P s a id m child image links h there is =
     let b = given a (child_links a child id 0 links) in
     let y = begun s.format image links in
     let o = only_child a child id links 0 in
     let hm = h.messages id m there in
-    let hy : HomeProcess b child y = record {
+    let hy : HomeProcess P b child y = record {
       slots = λ k l e.
           let f = begun_link links (slots_of s.format - length links) k l e in
-          child_at a child id links 0 k k l f (omega arith) ∙ hm.enclosed k l (ap (λ (ls : List PlainLink). slice_get ls k) is ∙ f);
+          place_as P (child_at a child id links 0 k k l f (omega arith)) (hm.enclosed k l (ap (λ (ls : List PlainLink). slice_get ls k) is ∙ f));
       owner = λ q e. absurd (let f : None ≡ Some q = e in cc);
     } in
-    let u = at_home_process (without_message s id) a b child (Alive y) (at_home_out s a id h) o.others (alive_on b child y hy) o.messages o.servers in
-    record { processes = u.processes; messages = u.messages; children = u.children; named = u.named; answers = u.answers; pending = u.pending }
+    let u = at_home_process P (without_message s id) a b child (Alive y) (at_home_out P s a id h) o.others (alive_on P b child y hy) o.messages o.servers in
+    record { processes = u.processes; messages = u.messages; children = u.children; named = u.named; answers = u.answers; rooted = u.rooted; pending = u.pending }
 
-created_row : (s t : OneKernel) (v : View) (a : Addresses) (id : MsgId) (m : PlainMessage) (child : Pid) (links : List PlainLink) (image : BootImage) → service.creates_of s id m child links image ≡ Some t → s.bag id ≡ Some m → links_in m.what ≡ links
-    → Named s → ReceivedAt s v.acting id → AtHome s a → AtHome t (given a (answers a id (unmoved v.acting) ++ child_links a child id 0 links))
-created_row s t v a id m child links image is there links_are named at h =
+created_row : (P : Pid → Place → Type 0) (s t : OneKernel) (v : View) (a : Addresses) (id : MsgId) (m : PlainMessage) (child : Pid) (links : List PlainLink) (image : BootImage) → service.creates_of s id m child links image ≡ Some t → s.bag id ≡ Some m → links_in m.what ≡ links
+    → Named s → ReceivedAt s v.acting id → AtHome P s a → AtHome P t (given a (answers a id (unmoved v.acting) ++ child_links a child id 0 links))
+created_row P s t v a id m child links image is there links_are named at h =
     let u = service.with_child (without_message s id) child image links in
     let b = given a (child_links a child id 0 links) in
     let n = answer_to m (what.Created child) in
     let k = when-is (service.is_kernel s m.to && pid_eq child (pid_of m.to.home (first_number + s.made m.to.home))) (with_sent u (Some n)) t is in
     let name : m.id ≡ id = named id m there in
-    let sent : AtHome (with_sent u (Some n)) (given b (two n.id (a (Sender id)) (unmoved v.acting))) =
-    two_sends u b n (a (Sender id)) (unmoved v.acting) (begun_at_home s a id m child image links h there links_are) refl (h.messages id m there).sender (ap unmoved (sym (at m there))) in
-    subst (λ (w : OneKernel). AtHome w (given a (answers a id (unmoved v.acting) ++ child_links a child id 0 links))) k.1
-    (subst (λ (i : MsgId). AtHome (with_sent u (Some n)) (given a (two (answer_id i) (a (Sender id)) (unmoved v.acting) ++ child_links a child id 0 links))) name sent)
+    let sent : AtHome P (with_sent u (Some n)) (given b (two n.id (a (Sender id)) (unmoved v.acting))) =
+    two_sends P u b n (a (Sender id)) (unmoved v.acting) (begun_at_home P s a id m child image links h there links_are) refl (h.messages id m there).sender (acts_at P m.to v.acting (h.rooted m.to) (sym (at m there))) in
+    subst (λ (w : OneKernel). AtHome P w (given a (answers a id (unmoved v.acting) ++ child_links a child id 0 links))) k.1
+    (subst (λ (i : MsgId). AtHome P (with_sent u (Some n)) (given a (two (answer_id i) (a (Sender id)) (unmoved v.acting) ++ child_links a child id 0 links))) name sent)
 
-creates_row : (s t : OneKernel) (v : View) (a : Addresses) (id : MsgId) (m : PlainMessage) (child : Pid) (w : PlainWhat) → m.what ≡ w → service.creates s id m child w ≡ Some t → s.bag id ≡ Some m → Named s → ReceivedAt s v.acting id → AtHome s a
-    → AtHome t (given a (answers a id (unmoved v.acting) ++ addresses.creates_what a id child w))
-creates_row s t v a id m child (what.Create image links) w is there named at h =
+creates_row : (P : Pid → Place → Type 0) (s t : OneKernel) (v : View) (a : Addresses) (id : MsgId) (m : PlainMessage) (child : Pid) (w : PlainWhat) → m.what ≡ w → service.creates s id m child w ≡ Some t → s.bag id ≡ Some m → Named s → ReceivedAt s v.acting id → AtHome P s a
+    → AtHome P t (given a (answers a id (unmoved v.acting) ++ addresses.creates_what a id child w))
+creates_row P s t v a id m child (what.Create image links) w is there named at h =
     let (i, image_is, last) = bind-is (slice_get s.images image) (service.creates_of s id m child links) t is in
-    created_row s t v a id m child links i last there (ap links_in w) named at h
-creates_row s t v a id m child (what.User f g i j) w is there named at h = cc
-creates_row s t v a id m child what.Stop w is there named at h = cc
-creates_row s t v a id m child what.Resume w is there named at h = cc
-creates_row s t v a id m child what.Kill w is there named at h = cc
-creates_row s t v a id m child (what.Read f g) w is there named at h = cc
-creates_row s t v a id m child (what.Write f g) w is there named at h = cc
-creates_row s t v a id m child (what.Block f) w is there named at h = cc
-creates_row s t v a id m child what.Written w is there named at h = cc
-creates_row s t v a id m child what.Gone w is there named at h = cc
-creates_row s t v a id m child (what.Created f) w is there named at h = cc
-creates_row s t v a id m child what.NoRoom w is there named at h = cc
-creates_row s t v a id m child (what.Move f) w is there named at h = cc
-creates_row s t v a id m child (what.Moved f) w is there named at h = cc
+    created_row P s t v a id m child links i last there (ap links_in w) named at h
+creates_row P s t v a id m child (what.User f g i j) w is there named at h = cc
+creates_row P s t v a id m child what.Stop w is there named at h = cc
+creates_row P s t v a id m child what.Resume w is there named at h = cc
+creates_row P s t v a id m child what.Kill w is there named at h = cc
+creates_row P s t v a id m child (what.Read f g) w is there named at h = cc
+creates_row P s t v a id m child (what.Write f g) w is there named at h = cc
+creates_row P s t v a id m child (what.Block f) w is there named at h = cc
+creates_row P s t v a id m child what.Written w is there named at h = cc
+creates_row P s t v a id m child what.Gone w is there named at h = cc
+creates_row P s t v a id m child (what.Created f) w is there named at h = cc
+creates_row P s t v a id m child what.NoRoom w is there named at h = cc
+creates_row P s t v a id m child (what.Move f) w is there named at h = cc
+creates_row P s t v a id m child (what.Moved f) w is there named at h = cc
 
-pub created_home : (s t : OneKernel) (v : View) (a : Addresses) (id : MsgId) (child : Pid) → kernel.step s (label.Created id child) ≡ Some t → Named s → ReceivedAt s v.acting id → AtHome s a → AtHome t (given a (gives s v a (label.Created id child)))
-created_home s t v a id child is named at h =
+pub created_home : (P : Pid → Place → Type 0) (s t : OneKernel) (v : View) (a : Addresses) (id : MsgId) (child : Pid) → kernel.step s (label.Created id child) ≡ Some t → Named s → ReceivedAt s v.acting id → AtHome P s a → AtHome P t (given a (gives s v a (label.Created id child)))
+created_home P s t v a id child is named at h =
     let (m, there, rest) = bind-is (s.bag id) (λ (w : PlainMessage). service.creates s id w child w.what) t is in
-    subst (λ (gs : List Gets). AtHome t (given a gs)) (ap (addresses.creates v a id child) (sym there)) (creates_row s t v a id m child m.what refl rest there named at h)
+    subst (λ (gs : List Gets). AtHome P t (given a gs)) (ap (addresses.creates v a id child) (sym there)) (creates_row P s t v a id m child m.what refl rest there named at h)

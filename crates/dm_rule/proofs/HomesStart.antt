@@ -25,7 +25,7 @@ use Rattle.dm_rule.specs.View.{ring_at}
 use Rattle.dm_rule.specs.Point.{first_point}
 use Rattle.dm_rule.specs.Addresses.{unmoved, place_in, links_at, home_of, nth_child, first_addresses, owner_in}
 use Rattle.dm_rule.specs.Homes.{Homes, are_home}
-use Rattle.dm_rule.proofs.Homes.{HomeProcess, AtHome, homes_are}
+use Rattle.dm_rule.proofs.Homes.{IsHome, HomeProcess, AtHome, homes_are}
 
 -- a link of the boot file leads to a home
 named_is : (q : Pid) (ps : List BootProcess) (p : BootProcess) → boot.process_named q ps ≡ Some p → p.pid ≡ q
@@ -80,7 +80,7 @@ first_link b (x ∷ xs) n zero l valid e =
 first_link b (x ∷ xs) n (suc k) l valid e = first_link b xs n k l (and-right (boot.link_is_valid b x) (boot.links_are_valid b xs) valid) e
 
 begun_home_of : (b : Boot) (p : BootProcess) (q : Pid) (x : PlainProcess) (o : Option BootImage) → boot.links_are_valid b p.links ≡ true → links_at b.processes q ≡ p.links
-    → kernel.alive (option_map (λ image. Alive (begun b.format image (map plain_link p.links))) o) ≡ Some x → HomeProcess (first_addresses b) q x
+    → kernel.alive (option_map (λ image. Alive (begun b.format image (map plain_link p.links))) o) ≡ Some x → HomeProcess IsHome (first_addresses b) q x
 begun_home_of b p q x None valid at e = cc
 begun_home_of b p q x (Some i) valid at e =
     let f : begun b.format i (map plain_link p.links) ≡ x = cc in
@@ -99,7 +99,7 @@ links_valid b n p e =
     and-right few last (and-right image (few && last) (and-right number (image && (few && last)) (and-right (nat_lt p.pid.home (length b.machines)) (number && (image && (few && last))) e)))
 
 begun_home : (b : Boot) (earlier ps : List BootProcess) (q : Pid) (x : PlainProcess) → processes_are_valid b earlier ps ≡ true → links_at b.processes q ≡ links_at ps q
-    → kernel.alive (life_at b ps q) ≡ Some x → HomeProcess (first_addresses b) q x
+    → kernel.alive (life_at b ps q) ≡ Some x → HomeProcess IsHome (first_addresses b) q x
 begun_home b earlier [] q x valid at e = cc
 begun_home b earlier (p ∷ ps) q x valid at e =
     let mine : boot.process_is_valid b (starting_at p.pid.home earlier) p ≡ true = and-left _ _ valid in
@@ -121,8 +121,9 @@ child_home : (ps : List BootProcess) (n : ℕ) (q : Pid) → manage.child_number
 child_home ps zero q e = cc
 child_home ps (suc n) q e = child_home_of ps n q e
 
-pub start_at_home : (b : Boot) → IsValid b → AtHome (start b) (first_addresses b)
+pub start_at_home : (b : Boot) → IsValid b → AtHome IsHome (start b) (first_addresses b)
 start_at_home b valid = record {
+  rooted = λ q. refl;
   processes = λ q x e. begun_home b [] b.processes q x valid.processes refl e;
   messages = λ i m e. absurd (let f : None ≡ Some m = e in cc);
   children = λ n q e. child_home b.processes n q e;
@@ -141,7 +142,7 @@ ring_home m (p ∷ ps) = ring_home_if (p.pid.home == m) p.pid m (ring_at ps m) r
 
 pub Homes-start : (b : Boot) → IsValid b → Homes (first_point b)
 Homes-start b valid = record {
-  home = homes_are (start b) (first_addresses b) (start_at_home b valid);
+  home = homes_are IsHome (start b) (first_addresses b) (start_at_home b valid);
   moves = λ p. refl;
   ring = λ m. ring_home m b.processes;
   inbox = λ m. refl;

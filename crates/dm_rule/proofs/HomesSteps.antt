@@ -1,4 +1,4 @@
--- Each label of a process keeps addresses at homes.
+-- Each label of a process keeps addresses where they may be.
 use Rattle.std.proofs.Common.{◌≡◌, ℕ, ◌==◌, ◌&&◌, Bool, true, false, List, [], refl, ap, ◌∙◌, sym, subst, arith}
 use Rattle.std.specs.Prelude.{if◌then◌else◌}
 use Rattle.std.specs.declared.option.Option.{Option}
@@ -31,13 +31,13 @@ use Rattle.dm_rule.proofs.HomesRows.{SameProcess, SameMessage, SameServers, runn
 use Rattle.dm_rule.proofs.HomesCalls.{Nexts, next_home, gives_by}
 
 -- ran
-pub ran_home : (s t : OneKernel) (v : View) (a : Addresses) (p : Pid) (k : ℕ) → kernel.step s (label.Ran p k) ≡ Some t → AtHome s a → AtHome t a
-ran_home s t v a p k is h =
+pub ran_home : (P : Pid → Place → Type 0) (s t : OneKernel) (v : View) (a : Addresses) (p : Pid) (k : ℕ) → kernel.step s (label.Ran p k) ≡ Some t → AtHome P s a → AtHome P t a
+ran_home P s t v a p k is h =
     let (x, running, rest) = bind-is (kernel.running s p) (λ (w : PlainProcess). bind (kernel.plain_steps k (kernel.machine_of w)) (λ (m : kernel.Machine). Some (kernel.goes_on s p (kernel.with_machine w m)))) t is in
     let (m, plain, last) = bind-is (kernel.plain_steps k (kernel.machine_of x)) (λ (m : kernel.Machine). Some (kernel.goes_on s p (kernel.with_machine x m))) t rest in
     let eq : kernel.goes_on s p (kernel.with_machine x m) ≡ t = cc in
-    let w = running_home s a p x h running in
-    subst (λ (u : OneKernel). AtHome u a) eq (home_goes s a p (kernel.with_machine x m) h (record { slots = w.slots; owner = w.owner }))
+    let w = running_home P s a p x h running in
+    subst (λ (u : OneKernel). AtHome P u a) eq (home_goes P s a p (kernel.with_machine x m) h (record { slots = w.slots; owner = w.owner }))
 
 -- a call
 is_done : Reply → Bool
@@ -115,8 +115,8 @@ pub only_gives_by : (v : View) (a : Addresses) (p : Pid) (x : PlainProcess) (n :
 only_gives_by v a p x n c =
     subst (λ (gs : List Gets). OnlySlots a (given a gs) p) (sym (gives_code v a p x n c)) (only_if a p (reply_code c == 0) (fills_by v a p x n) (only_fills_by v a p x n))
 
-reply_row : (s t : OneKernel) (v : View) (a : Addresses) (p : Pid) (n : ℕ) (c : Reply) (next : kernel.Next) → Nexts v s a p next → kernel.replies s p n c next ≡ Some t → AtHome s a → AtHome t (given a (made v a p n c (kernel.running s p)))
-reply_row s t v a p n c (kernel.Calls number (calls.Replies d y)) w is h =
+reply_row : (P : Pid → Place → Type 0) (s t : OneKernel) (v : View) (a : Addresses) (p : Pid) (n : ℕ) (c : Reply) (next : kernel.Next) → Nexts P v s a p next → kernel.replies s p n c next ≡ Some t → AtHome P s a → AtHome P t (given a (made v a p n c (kernel.running s p)))
+reply_row P s t v a p n c (kernel.Calls number (calls.Replies d y)) w is h =
     let k = when-is ((n == number) && reply_eq c d) (kernel.goes_on s p y) t is in
     let both = k.0 in
     let number_is : number ≡ n = grind (arith, nat_tests) in
@@ -126,24 +126,24 @@ reply_row s t v a p n c (kernel.Calls number (calls.Replies d y)) w is h =
     let gs_is : gs ≡ made v a p n c (kernel.running s p) =
     sym (gives_same v a p x (calls.call_number number) c d same) ∙ ap (λ (i : ℕ). gives_by v a p x (calls.call_number i) c) number_is ∙ sym (made_is v a p n c x) ∙ ap (made v a p n c) (sym w.running) in
     let o = only_gives_by v a p x (calls.call_number number) d in
-    subst (λ (u : OneKernel). AtHome u (given a (made v a p n c (kernel.running s p)))) k.1
-    (subst (λ (g : List Gets). AtHome (kernel.goes_on s p y) (given a g)) gs_is
-    (at_home_process s a (given a gs) p (Alive y) h o.others (alive_on (given a gs) p y w.home) o.messages o.servers))
-reply_row s t v a p n c (kernel.Calls number (calls.Sends m y)) w is h = cc
-reply_row s t v a p n c (kernel.Calls number (calls.Waits y)) w is h = cc
-reply_row s t v a p n c (kernel.Calls number (calls.Outputs word y)) w is h = cc
-reply_row s t v a p n c (kernel.Calls number (calls.Ends because)) w is h = cc
-reply_row s t v a p n c (kernel.Faults fault) w is h = cc
+    subst (λ (u : OneKernel). AtHome P u (given a (made v a p n c (kernel.running s p)))) k.1
+    (subst (λ (g : List Gets). AtHome P (kernel.goes_on s p y) (given a g)) gs_is
+    (at_home_process P s a (given a gs) p (Alive y) h o.others (alive_on P (given a gs) p y w.home) o.messages o.servers))
+reply_row P s t v a p n c (kernel.Calls number (calls.Sends m y)) w is h = cc
+reply_row P s t v a p n c (kernel.Calls number (calls.Waits y)) w is h = cc
+reply_row P s t v a p n c (kernel.Calls number (calls.Outputs word y)) w is h = cc
+reply_row P s t v a p n c (kernel.Calls number (calls.Ends because)) w is h = cc
+reply_row P s t v a p n c (kernel.Faults fault) w is h = cc
 
-pub call_home : (s t : OneKernel) (v : View) (a : Addresses) (p : Pid) (n : ℕ) (c : Reply) → kernel.step s (label.Call p n c) ≡ Some t → here v p ≡ unmoved p.home → AtHome s a → AtHome t (given a (gives s v a (label.Call p n c)))
-call_home s t v a p n c is at h =
+pub call_home : (P : Pid → Place → Type 0) (s t : OneKernel) (v : View) (a : Addresses) (p : Pid) (n : ℕ) (c : Reply) → kernel.step s (label.Call p n c) ≡ Some t → P p (here v p) → AtHome P s a → AtHome P t (given a (gives s v a (label.Call p n c)))
+call_home P s t v a p n c is at h =
     let (x, next, rest) = bind-is (kernel.next s p) (kernel.replies s p n c) t is in
-    reply_row s t v a p n c x (next_home v s a p x h at next) rest h
+    reply_row P s t v a p n c x (next_home P v s a p x h at next) rest h
 
 -- a sending
-send_row : (s t : OneKernel) (v : View) (a : Addresses) (p : Pid) (id : MsgId) (next : kernel.Next) → kernel.next s p ≡ Some next → Nexts v s a p next → kernel.sends s p id next ≡ Some t → AtHome s a
-    → AtHome t (given a (gives s v a (label.Send p id)))
-send_row s t v a p id (kernel.Calls number (calls.Sends m y)) nx w is h =
+send_row : (P : Pid → Place → Type 0) (s t : OneKernel) (v : View) (a : Addresses) (p : Pid) (id : MsgId) (next : kernel.Next) → kernel.next s p ≡ Some next → Nexts P v s a p next → kernel.sends s p id next ≡ Some t → AtHome P s a
+    → AtHome P t (given a (gives s v a (label.Send p id)))
+send_row P s t v a p id (kernel.Calls number (calls.Sends m y)) nx w is h =
     let k = when-is (id_eq id m.id) (with_sent (kernel.goes_on s p y) (Some m)) t is in
     let name : m.id ≡ id = sym (id_eq-is id m.id k.0) in
     let x = w.x in
@@ -151,68 +151,68 @@ send_row s t v a p id (kernel.Calls number (calls.Sends m y)) nx w is h =
     let gs_is : gs ≡ gives s v a (label.Send p id) =
     ap (λ (i : MsgId). sends_what v a p x i m.what) name ∙ ap (addresses.sends_next v a p x id) (sym nx) ∙ ap (addresses.sends s v a p id) (sym w.running) in
     let o = w.home in
-    subst (λ (u : OneKernel). AtHome u (given a (gives s v a (label.Send p id)))) k.1
-    (subst (λ (g : List Gets). AtHome (with_sent (kernel.goes_on s p y) (Some m)) (given a g)) gs_is
-    (at_home_sends s a (given a gs) p (Alive y) m h o.others (alive_on (given a gs) p y o.process) o.messages o.message o.servers))
-send_row s t v a p id (kernel.Calls number (calls.Replies d y)) nx w is h = cc
-send_row s t v a p id (kernel.Calls number (calls.Waits y)) nx w is h = cc
-send_row s t v a p id (kernel.Calls number (calls.Outputs word y)) nx w is h = cc
-send_row s t v a p id (kernel.Calls number (calls.Ends because)) nx w is h = cc
-send_row s t v a p id (kernel.Faults fault) nx w is h = cc
+    subst (λ (u : OneKernel). AtHome P u (given a (gives s v a (label.Send p id)))) k.1
+    (subst (λ (g : List Gets). AtHome P (with_sent (kernel.goes_on s p y) (Some m)) (given a g)) gs_is
+    (at_home_sends P s a (given a gs) p (Alive y) m h o.others (alive_on P (given a gs) p y o.process) o.messages o.message o.servers))
+send_row P s t v a p id (kernel.Calls number (calls.Replies d y)) nx w is h = cc
+send_row P s t v a p id (kernel.Calls number (calls.Waits y)) nx w is h = cc
+send_row P s t v a p id (kernel.Calls number (calls.Outputs word y)) nx w is h = cc
+send_row P s t v a p id (kernel.Calls number (calls.Ends because)) nx w is h = cc
+send_row P s t v a p id (kernel.Faults fault) nx w is h = cc
 
-pub send_home : (s t : OneKernel) (v : View) (a : Addresses) (p : Pid) (id : MsgId) → kernel.step s (label.Send p id) ≡ Some t → here v p ≡ unmoved p.home → AtHome s a → AtHome t (given a (gives s v a (label.Send p id)))
-send_home s t v a p id is at h =
+pub send_home : (P : Pid → Place → Type 0) (s t : OneKernel) (v : View) (a : Addresses) (p : Pid) (id : MsgId) → kernel.step s (label.Send p id) ≡ Some t → P p (here v p) → AtHome P s a → AtHome P t (given a (gives s v a (label.Send p id)))
+send_home P s t v a p id is at h =
     let (x, next, rest) = bind-is (kernel.next s p) (kernel.sends s p id) t is in
-    send_row s t v a p id x next (next_home v s a p x h at next) rest h
+    send_row P s t v a p id x next (next_home P v s a p x h at next) rest h
 
 -- a receive begins
-wait_row : (s t : OneKernel) (v : View) (a : Addresses) (p : Pid) (next : kernel.Next) → Nexts v s a p next → kernel.waits s p next ≡ Some t → AtHome s a → AtHome t a
-wait_row s t v a p (kernel.Calls number (calls.Waits y)) w is h =
+wait_row : (P : Pid → Place → Type 0) (s t : OneKernel) (v : View) (a : Addresses) (p : Pid) (next : kernel.Next) → Nexts P v s a p next → kernel.waits s p next ≡ Some t → AtHome P s a → AtHome P t a
+wait_row P s t v a p (kernel.Calls number (calls.Waits y)) w is h =
     let eq : kernel.goes_on s p y ≡ t = cc in
-    subst (λ (u : OneKernel). AtHome u a) eq (home_goes s a p y h w.home)
-wait_row s t v a p (kernel.Calls number (calls.Replies d y)) w is h = cc
-wait_row s t v a p (kernel.Calls number (calls.Sends m y)) w is h = cc
-wait_row s t v a p (kernel.Calls number (calls.Outputs word y)) w is h = cc
-wait_row s t v a p (kernel.Calls number (calls.Ends because)) w is h = cc
-wait_row s t v a p (kernel.Faults fault) w is h = cc
+    subst (λ (u : OneKernel). AtHome P u a) eq (home_goes P s a p y h w.home)
+wait_row P s t v a p (kernel.Calls number (calls.Replies d y)) w is h = cc
+wait_row P s t v a p (kernel.Calls number (calls.Sends m y)) w is h = cc
+wait_row P s t v a p (kernel.Calls number (calls.Outputs word y)) w is h = cc
+wait_row P s t v a p (kernel.Calls number (calls.Ends because)) w is h = cc
+wait_row P s t v a p (kernel.Faults fault) w is h = cc
 
-pub wait_home : (s t : OneKernel) (v : View) (a : Addresses) (p : Pid) → kernel.step s (label.Wait p) ≡ Some t → here v p ≡ unmoved p.home → AtHome s a → AtHome t a
-wait_home s t v a p is at h =
+pub wait_home : (P : Pid → Place → Type 0) (s t : OneKernel) (v : View) (a : Addresses) (p : Pid) → kernel.step s (label.Wait p) ≡ Some t → P p (here v p) → AtHome P s a → AtHome P t a
+wait_home P s t v a p is at h =
     let (x, next, rest) = bind-is (kernel.next s p) (kernel.waits s p) t is in
-    wait_row s t v a p x (next_home v s a p x h at next) rest h
+    wait_row P s t v a p x (next_home P v s a p x h at next) rest h
 
-out_row : (s t : OneKernel) (v : View) (a : Addresses) (p : Pid) (word : ℕ) (next : kernel.Next) → Nexts v s a p next → kernel.outputs s p word next ≡ Some t → AtHome s a → AtHome t a
-out_row s t v a p word (kernel.Calls number (calls.Outputs other y)) w is h =
+out_row : (P : Pid → Place → Type 0) (s t : OneKernel) (v : View) (a : Addresses) (p : Pid) (word : ℕ) (next : kernel.Next) → Nexts P v s a p next → kernel.outputs s p word next ≡ Some t → AtHome P s a → AtHome P t a
+out_row P s t v a p word (kernel.Calls number (calls.Outputs other y)) w is h =
     let k = when-is (word == other) (kernel.goes_on s p y) t is in
-    subst (λ (u : OneKernel). AtHome u a) k.1 (home_goes s a p y h w.home)
-out_row s t v a p word (kernel.Calls number (calls.Replies d y)) w is h = cc
-out_row s t v a p word (kernel.Calls number (calls.Sends m y)) w is h = cc
-out_row s t v a p word (kernel.Calls number (calls.Waits y)) w is h = cc
-out_row s t v a p word (kernel.Calls number (calls.Ends because)) w is h = cc
-out_row s t v a p word (kernel.Faults fault) w is h = cc
+    subst (λ (u : OneKernel). AtHome P u a) k.1 (home_goes P s a p y h w.home)
+out_row P s t v a p word (kernel.Calls number (calls.Replies d y)) w is h = cc
+out_row P s t v a p word (kernel.Calls number (calls.Sends m y)) w is h = cc
+out_row P s t v a p word (kernel.Calls number (calls.Waits y)) w is h = cc
+out_row P s t v a p word (kernel.Calls number (calls.Ends because)) w is h = cc
+out_row P s t v a p word (kernel.Faults fault) w is h = cc
 
-pub out_home : (s t : OneKernel) (v : View) (a : Addresses) (p : Pid) (word : ℕ) → kernel.step s (label.Out p word) ≡ Some t → here v p ≡ unmoved p.home → AtHome s a → AtHome t a
-out_home s t v a p word is at h =
+pub out_home : (P : Pid → Place → Type 0) (s t : OneKernel) (v : View) (a : Addresses) (p : Pid) (word : ℕ) → kernel.step s (label.Out p word) ≡ Some t → P p (here v p) → AtHome P s a → AtHome P t a
+out_home P s t v a p word is at h =
     let (x, next, rest) = bind-is (kernel.next s p) (kernel.outputs s p word) t is in
-    out_row s t v a p word x (next_home v s a p x h at next) rest h
+    out_row P s t v a p word x (next_home P v s a p x h at next) rest h
 
 -- the end
-pub at_home_ended : (s : OneKernel) (a : Addresses) (p : Pid) (y : Why) → AtHome s a → AtHome (with_process s p (Ended y)) a
-at_home_ended s a p y h = at_home_goes s a p (Ended y) h (λ x e. absurd (let f : None ≡ Some x = e in cc))
+pub at_home_ended : (P : Pid → Place → Type 0) (s : OneKernel) (a : Addresses) (p : Pid) (y : Why) → AtHome P s a → AtHome P (with_process s p (Ended y)) a
+at_home_ended P s a p y h = at_home_goes P s a p (Ended y) h (λ x e. absurd (let f : None ≡ Some x = e in cc))
 
-end_row : (s t : OneKernel) (a : Addresses) (p : Pid) (y : Why) (next : kernel.Next) → kernel.ends s p y next ≡ Some t → AtHome s a → AtHome t a
-end_row s t a p y (kernel.Calls number (calls.Ends because)) is h =
+end_row : (P : Pid → Place → Type 0) (s t : OneKernel) (a : Addresses) (p : Pid) (y : Why) (next : kernel.Next) → kernel.ends s p y next ≡ Some t → AtHome P s a → AtHome P t a
+end_row P s t a p y (kernel.Calls number (calls.Ends because)) is h =
     let k = when-is (why_eq y because) (with_process s p (Ended y)) t is in
-    subst (λ (u : OneKernel). AtHome u a) k.1 (at_home_ended s a p y h)
-end_row s t a p y (kernel.Faults fault) is h =
+    subst (λ (u : OneKernel). AtHome P u a) k.1 (at_home_ended P s a p y h)
+end_row P s t a p y (kernel.Faults fault) is h =
     let k = when-is (why_eq y (why.Fault fault)) (with_process s p (Ended y)) t is in
-    subst (λ (u : OneKernel). AtHome u a) k.1 (at_home_ended s a p y h)
-end_row s t a p y (kernel.Calls number (calls.Replies d z)) is h = cc
-end_row s t a p y (kernel.Calls number (calls.Sends m z)) is h = cc
-end_row s t a p y (kernel.Calls number (calls.Waits z)) is h = cc
-end_row s t a p y (kernel.Calls number (calls.Outputs word z)) is h = cc
+    subst (λ (u : OneKernel). AtHome P u a) k.1 (at_home_ended P s a p y h)
+end_row P s t a p y (kernel.Calls number (calls.Replies d z)) is h = cc
+end_row P s t a p y (kernel.Calls number (calls.Sends m z)) is h = cc
+end_row P s t a p y (kernel.Calls number (calls.Waits z)) is h = cc
+end_row P s t a p y (kernel.Calls number (calls.Outputs word z)) is h = cc
 
-pub end_home : (s t : OneKernel) (a : Addresses) (p : Pid) (y : Why) → kernel.step s (label.End p y) ≡ Some t → AtHome s a → AtHome t a
-end_home s t a p y is h =
+pub end_home : (P : Pid → Place → Type 0) (s t : OneKernel) (a : Addresses) (p : Pid) (y : Why) → kernel.step s (label.End p y) ≡ Some t → AtHome P s a → AtHome P t a
+end_home P s t a p y is h =
     let (x, next, rest) = bind-is (kernel.next s p) (kernel.ends s p y) t is in
-    end_row s t a p y x rest h
+    end_row P s t a p y x rest h

@@ -20,7 +20,16 @@ use Rattle.dm_rule.specs.Homes.{Homes, is_for_home, are_home}
 use Rattle.dm_rule.proofs.HomesLabels.{SaidAt}
 use Rattle.dm_rule.proofs.HomesLists.{stands, all_stand}
 use Rattle.std.specs.Prelude.{slice_get}
-use Rattle.dm_rule.specs.Laws.{Leads, LeadHomeAlways}
+use Rattle.dm_rule.specs.Laws.{IsStill, AreStill, Leads, LeadHomeAlways}
+use Rattle.std.proofs.Common.{◌≤◌}
+use Rattle.std.proofs.lemmas.Bool.{false≢true}
+use Rattle.dm_rule.specs.View.{is_kernels}
+use Rattle.dm_rule.proofs.HomesLabels.{RingsHome, is_still}
+use Rattle.dm_rule.proofs.States.{State}
+use Rattle.dm_rule.proofs.Letters.{kernels_fresh}
+use Rattle.dm_rule.proofs.MovesStates.{inbox_way, kernels_by}
+use Rattle.dm_rule.proofs.Pairs.{Pairs, Pairs-start, Pairs-group}
+use Rattle.dm_rule.proofs.Groups.{State-start, State-group, fits}
 use Rattle.dm_rule.proofs.HomesLines.{NoneReplaced, homes_of, home_start, Home, Kept}
 use Rattle.dm_schedule.specs.declared.Step.{Step}
 use Rattle.dm_schedule.specs.declared.Step.TheVariants as directive
@@ -202,21 +211,22 @@ alive_handles : (e : MsgId → ℕ) (pt : Point) (m : ℕ) (id : MsgId) (k : Pla
 alive_handles e pt m id k None f = tt
 alive_handles e pt m id k (Some x) f = here_good e pt m id k x k.what f
 
-process_good : (e : MsgId → ℕ) (pt : Point) (m : ℕ) (id : MsgId) (k : PlainMessage) (w : Known) → Front pt.kernel e m id → GoodOf pt.kernel e m (rule.process_handles pt m id k w)
-process_good e pt m id k Unknown f = tt
-process_good e pt m id k Here f = alive_handles e pt m id k (kernel.alive (pt.kernel.processes k.to)) f
-process_good e pt m id k (Frozen to) f = tt
-process_good e pt m id k (Incoming from) f = tt
-process_good e pt m id k (Forward at moves) f = tt
-process_good e pt m id k Ended f = ended_good pt.kernel e m id k.what f
+process_good : (e : MsgId → ℕ) (pt : Point) (m : ℕ) (id : MsgId) (k : PlainMessage) (w : Known) → is_still w ≡ true → Front pt.kernel e m id → GoodOf pt.kernel e m (rule.process_handles pt m id k w)
+process_good e pt m id k Unknown s f = tt
+process_good e pt m id k Here s f = alive_handles e pt m id k (kernel.alive (pt.kernel.processes k.to)) f
+process_good e pt m id k (Frozen to) s f = absurd (false≢true s)
+process_good e pt m id k (Incoming from) s f = absurd (false≢true s)
+process_good e pt m id k (Forward at moves) s f = absurd (false≢true s)
+process_good e pt m id k Ended s f = ended_good pt.kernel e m id k.what f
 
 if_good : (s : OneKernel) (e : MsgId → ℕ) (m : ℕ) (b : Bool) (o p : Option (List Part)) → GoodOf s e m o → GoodOf s e m p → GoodOf s e m (if b then o else p)
 if_good s e m true o p h k = h
 if_good s e m false o p h k = k
 
-handles_good : (b : Boot) (e : MsgId → ℕ) (pt : Point) (m : ℕ) (id : MsgId) (o : Option PlainMessage) → Front pt.kernel e m id → GoodOf pt.kernel e m (bind o (rule.handles b pt m id))
-handles_good b e pt m id None f = tt
-handles_good b e pt m id (Some k) f =
+-- the message at the front is in the bag
+handles_good : (b : Boot) (e : MsgId → ℕ) (pt : Point) (m : ℕ) (id : MsgId) (o : Option PlainMessage) → RingsHome pt.view → (o ≡ None → ⊥) → Front pt.kernel e m id → GoodOf pt.kernel e m (rule.comes_to b pt m id o)
+handles_good b e pt m id None h there f = absurd (there refl)
+handles_good b e pt m id (Some k) h there f =
     let one = rule.kernel_handles b pt m id k.what in
     let two = rule.board_took id (board.takes pt.kernel.switchboard k k.what) in
     let three = rule.manager_took id (manage.takes pt.kernel.manager pt.kernel.machines (length pt.kernel.images) k k.what) in
@@ -224,37 +234,48 @@ handles_good b e pt m id (Some k) f =
     let last = if pid_eq k.to manager then three else four in
     if_good pt.kernel e m (k.to.num == 0) one (if pid_eq k.to switchboard then two else last) (kernel_good b e pt m id k.what f)
     (if_good pt.kernel e m (pid_eq k.to switchboard) two last (board_good pt.kernel e m id (board.takes pt.kernel.switchboard k k.what) f)
-    (if_good pt.kernel e m (pid_eq k.to manager) three four (manager_good pt.kernel e m id (manage.takes pt.kernel.manager pt.kernel.machines (length pt.kernel.images) k k.what) f) (process_good e pt m id k (pt.view.known m k.to) f)))
+    (if_good pt.kernel e m (pid_eq k.to manager) three four (manager_good pt.kernel e m id (manage.takes pt.kernel.manager pt.kernel.machines (length pt.kernel.images) k k.what) f) (process_good e pt m id k (pt.view.known m k.to) (h.known m k.to) f)))
 
 for_home : (m : ℕ) (o : Option PlainMessage) (x : PlainMessage) → is_for_home m o ≡ true → o ≡ Some x → x.to.home ≡ m
 for_home m None x h is = cc
 for_home m (Some y) x h is = let f : y ≡ x = cc in let g : y.to.home ≡ m = grind (arith, nat_tests) in ap (λ (v : PlainMessage). v.to.home) (sym f) ∙ g
 
-pub turns_good : (b : Boot) (r e : MsgId → ℕ) (pt : Point) (m : ℕ) (is : List MsgId) → all_stand pt.kernel e m is ≡ true → Home r e pt → GoodOf pt.kernel e m (rule.turns b pt m is)
-turns_good b r e pt m [] all h =
+pub turns_good : (b : Boot) (r e : MsgId → ℕ) (pt : Point) (m : ℕ) (is : List MsgId) → ((i : MsgId) (js : List MsgId) → is ≡ i ∷ js → nat_le 1 (e i) ≡ true → pt.kernel.bag i ≡ None → ⊥) → all_stand pt.kernel e m is ≡ true → Home r e pt → GoodOf pt.kernel e m (rule.turns b pt m is)
+turns_good b r e pt m [] there all h =
     round_good b e pt m (rule.first_runnable pt.kernel (pt.view.queue m) (pt.view.ring m)) (λ p is. runnable_home pt.kernel (pt.view.queue m) m (pt.view.ring m) p (h.rings.ring m) is)
-turns_good b r e pt m (i ∷ is) all h =
+turns_good b r e pt m (i ∷ is) there all h =
     let k = both (stands pt.kernel e m i) (all_stand pt.kernel e m is) all in
     let home = both (nat_le 1 (e i)) (is_for_home m (pt.kernel.bag i)) k.0 in
-    handles_good b e pt m i (pt.kernel.bag i) (λ x there. for_home m (pt.kernel.bag i) x home.1 there, k.0)
+    handles_good b e pt m i (pt.kernel.bag i) h.rings (there i is refl home.0) (λ x in_. for_home m (pt.kernel.bag i) x home.1 in_, k.0)
 
-pub turn_keeps : NoneReplaced → (b : Boot) (r e : MsgId → ℕ) (pt : Point) (m : ℕ) (w : Spelled) → group_of b pt (directive.Turn m) ≡ Some w → Home r e pt → Kept m w.point
-turn_keeps none b r e pt m w is h =
-    group_keeps none b r e pt (directive.Turn m) w is h (λ ps comes. good_of pt.kernel e m (rule.turns b pt m (pt.view.inbox m)) ps (turns_good b r e pt m (pt.view.inbox m) (h.lists.inbox m) h) comes)
+-- what stands at the front of an inbox and has entered is in the bag
+in_bag_at : (r e : MsgId → ℕ) (pt : Point) (m : ℕ) (i : MsgId) (js : List MsgId) → pt.view.inbox m ≡ i ∷ js → nat_le 1 (e i) ≡ true → State None pt → Home r e pt → pt.kernel.bag i ≡ None → ⊥
+in_bag_at r e pt m i js front entered state h none =
+    let least : 1 ≤ e i = grind (arith, nat_tests) in
+    let (q, way) = inbox_way pt m i js state front in
+    let mine : is_kernels i ≡ true = kernels_by state.own pt.kernel.bag i q (is_kernels i) refl none way in
+    let zero_ : e i ≡ 0 = kernels_fresh r e pt.kernel i h.sound mine in
+    absurd (omega (arith, least, zero_))
+
+pub turn_keeps : NoneReplaced → (b : Boot) (r e : MsgId → ℕ) (pt : Point) (m : ℕ) (w : Spelled) → group_of b pt (directive.Turn m) ≡ Some w → State None pt → Home r e pt → Kept m w.point
+turn_keeps none b r e pt m w is state h =
+    group_keeps none b r e pt (directive.Turn m) w tt is h (λ ps comes. good_of pt.kernel e m (rule.turns b pt m (pt.view.inbox m)) ps (turns_good b r e pt m (pt.view.inbox m) (λ i js front entered. in_bag_at r e pt m i js front entered state h) (h.lists.inbox m) h) comes)
 
 -- each group keeps all of it
-pub home_group : NoneReplaced → (b : Boot) (r e : MsgId → ℕ) (pt : Point) (d : Step) (w : Spelled) → group_of b pt d ≡ Some w → Home r e pt → Kept (actor d) w.point
-home_group none b r e pt (directive.Turn m) w is h = turn_keeps none b r e pt m w is h
-home_group none b r e pt (directive.Tick m) w is h = tick_keeps none b r e pt m w is h
-home_group none b r e pt (directive.Deliver a c k) w is h = deliver_keeps none b r e pt a c k w is h
-home_group none b r e pt (directive.Migrate p m) w is h = cc
+pub home_group : NoneReplaced → (b : Boot) (r e : MsgId → ℕ) (pt : Point) (d : Step) (w : Spelled) → IsStill d → group_of b pt d ≡ Some w → State None pt → Home r e pt → Kept (actor d) w.point
+home_group none b r e pt (directive.Turn m) w still is state h = turn_keeps none b r e pt m w is state h
+home_group none b r e pt (directive.Tick m) w still is state h = tick_keeps none b r e pt m w is h
+home_group none b r e pt (directive.Deliver a c k) w still is state h = deliver_keeps none b r e pt a c k w is h
+home_group none b r e pt (directive.Migrate p m) w still is state h = absurd still
 
 pub none_replaced : NoneReplaced
 none_replaced r e s t l is h i x y was there = (after_step r e s t l is h).only i x y was there
 
-home_on : (b : Boot) (es : List Step) (r e : MsgId → ℕ) (pt end : Point) → Leads b pt es end → Home r e pt → Homes end
-home_on b [] r e pt end leads h = subst Homes leads (homes_of r e pt h)
-home_on b (d ∷ es) r e pt end (w, fits, is, rest) h = let k = home_group none_replaced b r e pt d w is h in home_on b es k.r k.e w.point end rest k.home
+home_on : (b : Boot) (es : List Step) (r e : MsgId → ℕ) (pt end : Point) → AreStill es → Leads b pt es end → Pairs pt.view → State None pt → Home r e pt → Homes end
+home_on b [] r e pt end still leads pairs state h = subst Homes leads (homes_of r e pt h)
+home_on b (d ∷ es) r e pt end still (w, fit, is, rest) pairs state h =
+    let k = home_group none_replaced b r e pt d w still.0 is state h in
+    home_on b es k.r k.e w.point end still.1 rest (Pairs-group b pt d w fit is pairs) (State-group b pt d w is (fits pt.view pairs) state) k.home
 
 pub lead_home_always : LeadHomeAlways
-lead_home_always b es pt valid leads = home_on b es (λ i. 0) (λ i. 0) (first_point b) pt leads (home_start b valid)
+lead_home_always b es pt valid still leads = home_on b es (λ i. 0) (λ i. 0) (first_point b) pt still leads (Pairs-start b) (State-start b valid) (home_start b valid)

@@ -12,7 +12,6 @@ use Rattle.dm_link.specs.Names.{pid_eq}
 use Rattle.dm_message.specs.declared.MsgId.{MsgId}
 use Rattle.dm_message.specs.declared.kind.MessageKind.{MessageKind}
 use Rattle.dm_message.specs.Ids.{id_eq}
-use Rattle.dm_message.specs.Plain.{PlainMessage}
 use Rattle.dm_rule.specs.Sets.{at_machine, at_pair, at_id, at_record, without_id, without_front}
 use Rattle.dm_rule.specs.View.{View, Pair, Told, handled, receiver_of}
 use Rattle.dm_rule.specs.View as view
@@ -21,24 +20,25 @@ use Rattle.dm_laws.proofs.Equal.{pid_eq-is, pid_eq-same, id_eq-is, id_eq-same}
 use Rattle.dm_rule.proofs.Standing.{times-append}
 use Rattle.dm_rule.proofs.Once.{Kept, SameBut, one_of, once_stays, once_comes, once_goes, once_moves}
 
+-- the messages that are under way, and whom they are for
 abbrev pub Bag : Type 0
-Bag = MsgId → Option PlainMessage
+Bag = MsgId → Option Pid
 
 -- the bag without a message
-abbrev pub hidden : Option MsgId → Bag → Bag
+abbrev pub hidden : {M : Type 0} → Option MsgId → (MsgId → Option M) → MsgId → Option M
 hidden None bag i = bag i
 hidden (Some j) bag i = if id_eq j i then None else bag i
 
 -- each message stands once, its put has told its receiver, and what is queued for a process is for it
 pub record Stands (bag : Bag) (v : View) : Type 0 where
   pub kept : Kept bag v
-  pub told : (i : MsgId) (x : PlainMessage) → bag i ≡ Some x → receiver_of (v.told i) ≡ Some x.to
-  pub mine : (m : ℕ) (p : Pid) (i : MsgId) (x : PlainMessage) → 1 ≤ times i (v.queue m p) → bag i ≡ Some x → x.to ≡ p
+  pub told : (i : MsgId) (x : Pid) → bag i ≡ Some x → receiver_of (v.told i) ≡ Some x
+  pub mine : (m : ℕ) (p : Pid) (i : MsgId) (x : Pid) → 1 ≤ times i (v.queue m p) → bag i ≡ Some x → x ≡ p
 
 -- the same bag, pointwise
 pub Stands-same : (bag other : Bag) (v : View) → ((i : MsgId) → other i ≡ bag i) → Stands bag v → Stands other v
 Stands-same bag other v e h = record {
-  kept = λ i. subst (λ (m : Option PlainMessage). StandsAsBag m (standing v i)) (sym (e i)) (h.kept i);
+  kept = λ i. subst (λ (m : Option Pid). StandsAsBag m (standing v i)) (sym (e i)) (h.kept i);
   told = λ i x k. h.told i x (sym (e i) ∙ k);
   mine = λ m p i x least k. h.mine m p i x least (sym (e i) ∙ k);
 }
@@ -51,43 +51,43 @@ Stands-stays bag v w off told h = record {
   mine = λ m p i x least k. h.mine m p i x (subst (λ n. 1 ≤ n) (ap (times i) (off (Queue m p))) least) k;
 }
 
-at_machine_at : {X : Type 0} (f : ℕ → X) (m : ℕ) (x : X) → at_machine f m x m ≡ x
+pub at_machine_at : {X : Type 0} (f : ℕ → X) (m : ℕ) (x : X) → at_machine f m x m ≡ x
 at_machine_at f m x = ap (λ (c : Bool). if c then x else f m) (let k : (m == m) ≡ true = grind (arith, nat_tests) in k)
 
-at_machine_off : {X : Type 0} (f : ℕ → X) (m n : ℕ) (x : X) → (m == n) ≡ false → at_machine f m x n ≡ f n
+pub at_machine_off : {X : Type 0} (f : ℕ → X) (m n : ℕ) (x : X) → (m == n) ≡ false → at_machine f m x n ≡ f n
 at_machine_off f m n x e = ap (λ (c : Bool). if c then x else f n) e
 
-at_record_off : {X : Type 0} (f : ℕ → Pid → X) (m n : ℕ) (p q : Pid) (x : X) → ((m == n) && pid_eq p q) ≡ false → at_record f m p x n q ≡ f n q
+pub at_record_off : {X : Type 0} (f : ℕ → Pid → X) (m n : ℕ) (p q : Pid) (x : X) → ((m == n) && pid_eq p q) ≡ false → at_record f m p x n q ≡ f n q
 at_record_off f m n p q x e = ap (λ (c : Bool). if c then x else f n q) e
 
-eq_self : (m : ℕ) → (m == m) ≡ true
+pub eq_self : (m : ℕ) → (m == m) ≡ true
 eq_self m = grind (arith, nat_tests)
 
-at_record_at : {X : Type 0} (f : ℕ → Pid → X) (m : ℕ) (p : Pid) (x : X) → at_record f m p x m p ≡ x
+pub at_record_at : {X : Type 0} (f : ℕ → Pid → X) (m : ℕ) (p : Pid) (x : X) → at_record f m p x m p ≡ x
 at_record_at f m p x = ap (λ (c : Bool). if c && pid_eq p p then x else f m p) (eq_self m) ∙ ap (λ (c : Bool). if c then x else f m p) (pid_eq-same p)
 
-eq_is : (m n : ℕ) → (m == n) ≡ true → m ≡ n
+pub eq_is : (m n : ℕ) → (m == n) ≡ true → m ≡ n
 eq_is m n e = grind (arith, nat_tests)
 
-not_true : (b : Bool) → (b ≡ true → ⊥) → b ≡ false
+pub not_true : (b : Bool) → (b ≡ true → ⊥) → b ≡ false
 not_true true h = absurd (h refl)
 not_true false h = refl
 
-inbox_apart : (m n : ℕ) → Inbox n ≢ Inbox m → (m == n) ≡ false
+pub inbox_apart : (m n : ℕ) → Inbox n ≢ Inbox m → (m == n) ≡ false
 inbox_apart m n apart = not_true (m == n) (λ e. apart (ap Inbox (sym (eq_is m n e))))
 
-parts : (a b : Bool) → (a && b) ≡ true → (a ≡ true) × (b ≡ true)
+pub parts : (a b : Bool) → (a && b) ≡ true → (a ≡ true) × (b ≡ true)
 parts true b e = (refl, e)
 parts false b e = cc
 
-queue_apart : (m n : ℕ) (p q : Pid) → Queue n q ≢ Queue m p → ((m == n) && pid_eq p q) ≡ false
+pub queue_apart : (m n : ℕ) (p q : Pid) → Queue n q ≢ Queue m p → ((m == n) && pid_eq p q) ≡ false
 queue_apart m n p q apart = not_true ((m == n) && pid_eq p q) (λ e. let k = parts (m == n) (pid_eq p q) e in apart (ap (λ x. Queue x q) (sym (eq_is m n k.0)) ∙ ap (Queue m) (sym (pid_eq-is p q k.1))))
 
 -- the front of the acting machine's inbox goes
-front_goes : (v : View) (i : MsgId) (is : List MsgId) → v.inbox v.acting ≡ i ∷ is → without_front i (v.inbox v.acting) ≡ is
+pub front_goes : (v : View) (i : MsgId) (is : List MsgId) → v.inbox v.acting ≡ i ∷ is → without_front i (v.inbox v.acting) ≡ is
 front_goes v i is e = ap (without_front i) e ∙ ap (λ (c : Bool). if c then is else i ∷ is) (id_eq-same i)
 
-handled_off : (v : View) (i : MsgId) (z : Spot) → z ≢ Inbox v.acting → ids_at (handled v i) z ≡ ids_at v z
+pub handled_off : (v : View) (i : MsgId) (z : Spot) → z ≢ Inbox v.acting → ids_at (handled v i) z ≡ ids_at v z
 handled_off v i (Queue m p) apart = refl
 handled_off v i (Held m p) apart = refl
 handled_off v i (Inbox m) apart = at_machine_off v.inbox v.acting m (without_front i (v.inbox v.acting)) (inbox_apart v.acting m apart)
@@ -96,20 +96,20 @@ handled_off v i (Untaken a b) apart = refl
 one_flip : (i j : MsgId) → (if id_eq i j then 1 else 0) ≡ one_of i j
 one_flip i j = refl
 
-handled_at : (v : View) (i : MsgId) (is : List MsgId) (j : MsgId) → v.inbox v.acting ≡ i ∷ is → times j (ids_at v (Inbox v.acting)) ≡ times j (ids_at (handled v i) (Inbox v.acting)) + one_of j i
+pub handled_at : (v : View) (i : MsgId) (is : List MsgId) (j : MsgId) → v.inbox v.acting ≡ i ∷ is → times j (ids_at v (Inbox v.acting)) ≡ times j (ids_at (handled v i) (Inbox v.acting)) + one_of j i
 handled_at v i is j e =
     let now : ids_at (handled v i) (Inbox v.acting) ≡ is = at_machine_at v.inbox v.acting (without_front i (v.inbox v.acting)) ∙ front_goes v i is e in
     let a : times j (v.inbox v.acting) ≡ times j (i ∷ is) = ap (times j) e in
     let b : times j (ids_at (handled v i) (Inbox v.acting)) ≡ times j is = ap (times j) now in
     omega (arith, a, b)
 
-hidden_at : (bag : Bag) (i : MsgId) → hidden (Some i) bag i ≡ None
+pub hidden_at : (bag : Bag) (i : MsgId) → hidden (Some i) bag i ≡ None
 hidden_at bag i = ap (λ (c : Bool). if c then None else bag i) (id_eq-same i)
 
 pub hidden_off : (bag : Bag) (i : MsgId) → SameBut i bag (hidden (Some i) bag)
 hidden_off bag i j e = ap (λ (c : Bool). if c then None else bag j) e
 
-hidden_some : (bag : Bag) (i j : MsgId) (x : PlainMessage) → hidden (Some i) bag j ≡ Some x → bag j ≡ Some x
+pub hidden_some : (bag : Bag) (i j : MsgId) (x : Pid) → hidden (Some i) bag j ≡ Some x → bag j ≡ Some x
 hidden_some bag i j x e = elim (cases_Bool (id_eq i j)) [
   | inl same ↦ absurd (let k : None ≡ Some x = sym (ap (λ (c : Bool). if c then None else bag j) same) ∙ e in cc)
   | inr apart ↦ sym (hidden_off bag i j apart) ∙ e
@@ -148,12 +148,12 @@ queued_off v i p (Untaken c d) a b = refl
 spots_differ : (m n : ℕ) (p : Pid) → Inbox m ≢ Queue n p
 spots_differ m n p e = let k : true ≡ false = ap is_inbox e in false≢true (sym k)
 
-one_more : (j i : MsgId) (xs : List MsgId) → times j (xs ++ i ∷ []) ≡ times j xs + one_of j i
+pub one_more : (j i : MsgId) (xs : List MsgId) → times j (xs ++ i ∷ []) ≡ times j xs + one_of j i
 one_more j i xs = let a = times-append j xs (i ∷ []) in let b : times j (i ∷ []) ≡ one_of j i + 0 = refl in omega (arith, a, b)
 
 -- whom a queue's messages are for, once one more stands there
-queue_mine : (bag : Bag) (v : View) (i : MsgId) (x : PlainMessage) (p : Pid) → bag i ≡ Some x → x.to ≡ p → Stands bag v → (m : ℕ) (q : Pid) (j : MsgId) (y : PlainMessage)
-    → 1 ≤ times j (at_record v.queue v.acting p (v.queue v.acting p ++ i ∷ []) m q) → bag j ≡ Some y → y.to ≡ q
+queue_mine : (bag : Bag) (v : View) (i : MsgId) (x : Pid) (p : Pid) → bag i ≡ Some x → x ≡ p → Stands bag v → (m : ℕ) (q : Pid) (j : MsgId) (y : Pid)
+    → 1 ≤ times j (at_record v.queue v.acting p (v.queue v.acting p ++ i ∷ []) m q) → bag j ≡ Some y → y ≡ q
 queue_mine bag v i x p there to h m q j y least is = elim (cases_Bool ((v.acting == m) && pid_eq p q)) [
   | inl same ↦
       let both_ = parts (v.acting == m) (pid_eq p q) same in
@@ -165,7 +165,7 @@ queue_mine bag v i x p there to h m q j y least is = elim (cases_Bool ((v.acting
             let ji : j ≡ i = id_eq-is j i is_i in
             let xy : Some x ≡ Some y = sym there ∙ ap bag (sym ji) ∙ is in
             let e : x ≡ y = cc in
-            sym (ap (λ (w : PlainMessage). w.to) e) ∙ to ∙ pq
+            sym e ∙ to ∙ pq
         | inr other ↦
             let zero_ : one_of j i ≡ 0 = ap (λ (c : Bool). if c then 1 else 0) other in
             let was : 1 ≤ times j (v.queue v.acting p) = omega (arith, least, count, zero_) in
@@ -176,18 +176,18 @@ queue_mine bag v i x p there to h m q j y least is = elim (cases_Bool ((v.acting
       h.mine m q j y (subst (λ n. 1 ≤ n) (ap (times j) now) least) is
 ]
 
-pub Stands-queued : (bag : Bag) (v w : View) (i : MsgId) (is : List MsgId) (x : PlainMessage) → v.inbox v.acting ≡ i ∷ is → bag i ≡ Some x → w ≡ view.queued_for (handled v i) i (receiver_of (v.told i))
+pub Stands-queued : (bag : Bag) (v w : View) (i : MsgId) (is : List MsgId) (x : Pid) → v.inbox v.acting ≡ i ∷ is → bag i ≡ Some x → w ≡ view.queued_for (handled v i) i (receiver_of (v.told i))
     → Stands bag v → Stands bag w
 Stands-queued bag v w i is x front there is_w h =
-    let told : receiver_of (v.told i) ≡ Some x.to = h.told i x there in
-    let u = record (handled v i) { queue = at_record v.queue v.acting x.to (v.queue v.acting x.to ++ i ∷ []) } in
-    let e : u ≡ w = sym (queued_is v i x.to (receiver_of (v.told i)) told) ∙ sym is_w in
+    let told : receiver_of (v.told i) ≡ Some x = h.told i x there in
+    let u = record (handled v i) { queue = at_record v.queue v.acting x (v.queue v.acting x ++ i ∷ []) } in
+    let e : u ≡ w = sym (queued_is v i x (receiver_of (v.told i)) told) ∙ sym is_w in
     subst (Stands bag) e
     (record {
-      kept = once_moves v u bag bag i (Inbox v.acting) (Queue v.acting x.to) (spots_differ v.acting v.acting x.to) (λ j. refl) (λ j. handled_at v i is j front)
-          (λ j. ap (times j) (at_record_at v.queue v.acting x.to (v.queue v.acting x.to ++ i ∷ [])) ∙ one_more j i (v.queue v.acting x.to)) (λ z a b. queued_off v i x.to z a b) h.kept;
+      kept = once_moves v u bag bag i (Inbox v.acting) (Queue v.acting x) (spots_differ v.acting v.acting x) (λ j. refl) (λ j. handled_at v i is j front)
+          (λ j. ap (times j) (at_record_at v.queue v.acting x (v.queue v.acting x ++ i ∷ [])) ∙ one_more j i (v.queue v.acting x)) (λ z a b. queued_off v i x z a b) h.kept;
       told = h.told;
-      mine = queue_mine bag v i x x.to there refl h;
+      mine = queue_mine bag v i x x there refl h;
     })
 
 -- a message that stands in a queue is taken out of it, and out of the bag
@@ -247,12 +247,12 @@ Stands-dequeued bag v w i p rest counts same told h =
     })
 
 -- what stands at a place of a list, and what is behind it
-at_place : (xs : List MsgId) (k : ℕ) (x : MsgId) → slice_get xs k ≡ Some x → drop k xs ≡ x ∷ drop (suc k) xs
+pub at_place : (xs : List MsgId) (k : ℕ) (x : MsgId) → slice_get xs k ≡ Some x → drop k xs ≡ x ∷ drop (suc k) xs
 at_place [] k x e = cc
 at_place (y ∷ ys) zero x e = let f : y ≡ x = cc in ap (λ v. v ∷ ys) f
 at_place (y ∷ ys) (suc k) x e = at_place ys k x e
 
-past_place : (xs : List MsgId) (k : ℕ) → slice_get xs k ≡ None → (drop k xs ≡ []) × (drop (suc k) xs ≡ [])
+pub past_place : (xs : List MsgId) (k : ℕ) → slice_get xs k ≡ None → (drop k xs ≡ []) × (drop (suc k) xs ≡ [])
 past_place [] zero e = (refl, refl)
 past_place [] (suc k) e = (refl, refl)
 past_place (y ∷ ys) zero e = cc
@@ -261,10 +261,10 @@ past_place (y ∷ ys) (suc k) e = past_place ys k e
 pair_off : {X : Type 0} (f : ℕ → ℕ → X) (a b c d : ℕ) (x : X) → ((a == c) && (b == d)) ≡ false → at_pair f a b x c d ≡ f c d
 pair_off f a b c d x e = ap (λ (t : Bool). if t then x else f c d) e
 
-pair_at : {X : Type 0} (f : ℕ → ℕ → X) (a b : ℕ) (x : X) → at_pair f a b x a b ≡ x
+pub pair_at : {X : Type 0} (f : ℕ → ℕ → X) (a b : ℕ) (x : X) → at_pair f a b x a b ≡ x
 pair_at f a b x = ap (λ (t : Bool). if t && (b == b) then x else f a b) (eq_self a) ∙ ap (λ (t : Bool). if t then x else f a b) (eq_self b)
 
-untaken_apart : (a b c d : ℕ) → Untaken c d ≢ Untaken a b → ((a == c) && (b == d)) ≡ false
+pub untaken_apart : (a b c d : ℕ) → Untaken c d ≢ Untaken a b → ((a == c) && (b == d)) ≡ false
 untaken_apart a b c d apart = not_true ((a == c) && (b == d)) (λ e. let k = parts (a == c) (b == d) e in apart (ap (λ x. Untaken x d) (sym (eq_is a c k.0)) ∙ ap (Untaken a) (sym (eq_is b d k.1))))
 
 -- a pair that is set to one with the same untaken messages
@@ -284,28 +284,28 @@ inbox_off v b i (Inbox m) a = at_machine_off v.inbox b m (v.inbox b ++ i ∷ [])
 inbox_off v b i (Untaken c d) a = refl
 
 -- the bag with a message under its name
-abbrev pub having : MsgId → PlainMessage → Bag → Bag
+abbrev pub having : MsgId → Pid → Bag → Bag
 having i x bag j = if id_eq i j then Some x else bag j
 
-having_at : (i : MsgId) (x : PlainMessage) (bag : Bag) → having i x bag i ≡ Some x
+pub having_at : (i : MsgId) (x : Pid) (bag : Bag) → having i x bag i ≡ Some x
 having_at i x bag = ap (λ (c : Bool). if c then Some x else bag i) (id_eq-same i)
 
-having_off : (i : MsgId) (x : PlainMessage) (bag : Bag) → SameBut i bag (having i x bag)
+pub having_off : (i : MsgId) (x : Pid) (bag : Bag) → SameBut i bag (having i x bag)
 having_off i x bag j e = ap (λ (c : Bool). if c then Some x else bag j) e
 
 -- a message comes to a spot that is no queue, and its put tells its receiver
-comes_told : (bag : Bag) (v w : View) (i : MsgId) (x : PlainMessage) → ((j : MsgId) → id_eq i j ≡ false → w.told j ≡ v.told j) → receiver_of (w.told i) ≡ Some x.to → Stands bag v
-    → (j : MsgId) (y : PlainMessage) → having i x bag j ≡ Some y → receiver_of (w.told j) ≡ Some y.to
+comes_told : (bag : Bag) (v w : View) (i : MsgId) (x : Pid) → ((j : MsgId) → id_eq i j ≡ false → w.told j ≡ v.told j) → receiver_of (w.told i) ≡ Some x → Stands bag v
+    → (j : MsgId) (y : Pid) → having i x bag j ≡ Some y → receiver_of (w.told j) ≡ Some y
 comes_told bag v w i x others mine h j y is = elim (cases_Bool (id_eq i j)) [
   | inl same ↦
       let e : i ≡ j = id_eq-is i j same in
       let k : Some x ≡ Some y = sym (ap (λ (c : Bool). if c then Some x else bag j) same) ∙ is in
       let xy : x ≡ y = cc in
-      sym (ap (λ t. receiver_of (w.told t)) e) ∙ mine ∙ ap (λ (t : PlainMessage). Some t.to) xy
+      sym (ap (λ t. receiver_of (w.told t)) e) ∙ mine ∙ ap (λ (t : Pid). Some t) xy
   | inr apart ↦ ap receiver_of (others j apart) ∙ h.told j y (sym (having_off i x bag j apart) ∙ is)
 ]
 
-nowhere_at : (m : Option PlainMessage) (f : Spot → ℕ) (z : Spot) → m ≡ None → StandsAsBag m f → f z ≡ 0
+nowhere_at : (m : Option Pid) (f : Spot → ℕ) (z : Spot) → m ≡ None → StandsAsBag m f → f z ≡ 0
 nowhere_at None f z e h = h z
 nowhere_at (Some x) f z e h = cc
 
@@ -313,15 +313,15 @@ nowhere_at (Some x) f z e h = cc
 not_queued : (bag : Bag) (v : View) (m : ℕ) (p : Pid) (i : MsgId) → bag i ≡ None → Stands bag v → times i (v.queue m p) ≡ 0
 not_queued bag v m p i none h = nowhere_at (bag i) (standing v i) (Queue m p) none (h.kept i)
 
-comes_mine : (bag : Bag) (v : View) (i : MsgId) (x : PlainMessage) → bag i ≡ None → Stands bag v → (m : ℕ) (p : Pid) (j : MsgId) (y : PlainMessage) → 1 ≤ times j (v.queue m p) → having i x bag j ≡ Some y → y.to ≡ p
+comes_mine : (bag : Bag) (v : View) (i : MsgId) (x : Pid) → bag i ≡ None → Stands bag v → (m : ℕ) (p : Pid) (j : MsgId) (y : Pid) → 1 ≤ times j (v.queue m p) → having i x bag j ≡ Some y → y ≡ p
 comes_mine bag v i x none h m p j y least is = elim (cases_Bool (id_eq i j)) [
   | inl same ↦ absurd (let e : i ≡ j = id_eq-is i j same in let z : times j (v.queue m p) ≡ 0 = subst (λ t. times t (v.queue m p) ≡ 0) e (not_queued bag v m p i none h) in omega (arith, least, z))
   | inr apart ↦ h.mine m p j y least (sym (having_off i x bag j apart) ∙ is)
 ]
 
 -- a message comes to a spot, and nothing else changes
-pub Stands-comes : (bag : Bag) (v w : View) (i : MsgId) (x : PlainMessage) (y : Spot) → bag i ≡ None → ((j : MsgId) → times j (ids_at w y) ≡ times j (ids_at v y) + one_of j i) → ((z : Spot) → z ≢ y → ids_at w z ≡ ids_at v z)
-    → ((m : ℕ) (p : Pid) → w.queue m p ≡ v.queue m p) → ((j : MsgId) → id_eq i j ≡ false → w.told j ≡ v.told j) → receiver_of (w.told i) ≡ Some x.to → Stands bag v → Stands (having i x bag) w
+pub Stands-comes : (bag : Bag) (v w : View) (i : MsgId) (x : Pid) (y : Spot) → bag i ≡ None → ((j : MsgId) → times j (ids_at w y) ≡ times j (ids_at v y) + one_of j i) → ((z : Spot) → z ≢ y → ids_at w z ≡ ids_at v z)
+    → ((m : ℕ) (p : Pid) → w.queue m p ≡ v.queue m p) → ((j : MsgId) → id_eq i j ≡ false → w.told j ≡ v.told j) → receiver_of (w.told i) ≡ Some x → Stands bag v → Stands (having i x bag) w
 Stands-comes bag v w i x y none at_y off queues others mine h = record {
   kept = once_comes v w bag (having i x bag) i y x none (having_at i x bag) (having_off i x bag) at_y off h.kept;
   told = comes_told bag v w i x others mine h;
@@ -329,9 +329,13 @@ Stands-comes bag v w i x y none at_y off queues others mine h = record {
 }
 
 -- a put: on the pair of a machine with itself the message comes to the inbox, on another to the pair's end
-told_at : (v : View) (i : MsgId) (t : Told) → v.told i ≡ None → receiver_of (at_id v.told i (Some (view.first_told (v.told i) t)) i) ≡ Some t.receiver
-told_at v i t none =
-    ap receiver_of (ap (λ (c : Bool). if c then Some (view.first_told (v.told i) t) else v.told i) (id_eq-same i)) ∙ ap (λ o. Some (view.first_told o t).receiver) none
+told_at : (v : View) (i : MsgId) (t : Told) (q : Pid) → (view.first_told (v.told i) t).receiver ≡ q → receiver_of (at_id v.told i (Some (view.first_told (v.told i) t)) i) ≡ Some q
+told_at v i t q is = ap receiver_of (ap (λ (c : Bool). if c then Some (view.first_told (v.told i) t) else v.told i) (id_eq-same i)) ∙ ap Some is
+
+-- a first put tells of the receiver, and a later one tells nothing else
+pub untold_tells : (o : Option Told) (t : Told) → o ≡ None → (view.first_told o t).receiver ≡ t.receiver
+untold_tells None t e = refl
+untold_tells (Some u) t e = cc
 
 told_off : (v : View) (i j : MsgId) (t : Option Told) → id_eq i j ≡ false → at_id v.told i t j ≡ v.told j
 told_off v i j t e = ap (λ (c : Bool). if c then t else v.told j) e
@@ -363,28 +367,28 @@ put_away_off v a b i k q (Held n p) apart inbox = refl
 put_away_off v a b i k q (Inbox n) apart inbox = ap (λ f. f n) inbox
 put_away_off v a b i k q (Untaken c d) apart inbox = ap untaken (pair_off v.pair a b c d (view.routed_on a b (v.pair a b) i) (untaken_apart a b c d apart))
 
-pub Stands-put-home : (bag : Bag) (v : View) (m : ℕ) (i : MsgId) (k : MessageKind) (x : PlainMessage) → bag i ≡ None → v.told i ≡ None → (v.pair m m).taken ≡ length (v.pair m m).ids
-    → Stands bag v → Stands (having i x bag) (view.after_put v m m i k x.to)
+pub Stands-put-home : (bag : Bag) (v : View) (m : ℕ) (i : MsgId) (k : MessageKind) (x : Pid) → bag i ≡ None → (view.first_told (v.told i) (record { kind = k; receiver = x; about = v.topic })).receiver ≡ x → (v.pair m m).taken ≡ length (v.pair m m).ids
+    → Stands bag v → Stands (having i x bag) (view.after_put v m m i k x)
 Stands-put-home bag v m i k x none untold full h =
-    let w = view.after_put v m m i k x.to in
-    let t : Told = record { kind = k; receiver = x.to; about = v.topic } in
+    let w = view.after_put v m m i k x in
+    let t : Told = record { kind = k; receiver = x; about = v.topic } in
     let home : (m == m) ≡ true = eq_self m in
     let inbox : w.inbox ≡ at_machine v.inbox m (v.inbox m ++ i ∷ []) = ap (λ (c : Bool). if c then at_machine v.inbox m (v.inbox m ++ i ∷ []) else v.inbox) home in
     let pair_same : untaken (view.routed_on m m (v.pair m m) i) ≡ untaken (v.pair m m) = put_home_untaken m (v.pair m m) i full in
     Stands-comes bag v w i x (Inbox m) none
     (λ j. ap (times j) (ap (λ f. f m) inbox ∙ at_machine_at v.inbox m (v.inbox m ++ i ∷ [])) ∙ one_more j i (v.inbox m))
-    (λ z apart. put_home_off v m i k x.to z apart inbox pair_same) (λ n p. refl) (λ j apart. told_off v i j (Some (view.first_told (v.told i) t)) apart) (told_at v i t untold) h
+    (λ z apart. put_home_off v m i k x z apart inbox pair_same) (λ n p. refl) (λ j apart. told_off v i j (Some (view.first_told (v.told i) t)) apart) (told_at v i t x untold) h
 
-pub Stands-put-away : (bag : Bag) (v : View) (a b : ℕ) (i : MsgId) (k : MessageKind) (x : PlainMessage) → (a == b) ≡ false → bag i ≡ None → v.told i ≡ None → (v.pair a b).taken ≤ length (v.pair a b).ids
-    → Stands bag v → Stands (having i x bag) (view.after_put v a b i k x.to)
+pub Stands-put-away : (bag : Bag) (v : View) (a b : ℕ) (i : MsgId) (k : MessageKind) (x : Pid) → (a == b) ≡ false → bag i ≡ None → (view.first_told (v.told i) (record { kind = k; receiver = x; about = v.topic })).receiver ≡ x → (v.pair a b).taken ≤ length (v.pair a b).ids
+    → Stands bag v → Stands (having i x bag) (view.after_put v a b i k x)
 Stands-put-away bag v a b i k x apart none untold within h =
-    let w = view.after_put v a b i k x.to in
-    let t : Told = record { kind = k; receiver = x.to; about = v.topic } in
+    let w = view.after_put v a b i k x in
+    let t : Told = record { kind = k; receiver = x; about = v.topic } in
     let inbox : w.inbox ≡ v.inbox = ap (λ (c : Bool). if c then at_machine v.inbox b (v.inbox b ++ i ∷ []) else v.inbox) apart in
     let more : untaken (view.routed_on a b (v.pair a b) i) ≡ untaken (v.pair a b) ++ i ∷ [] = put_away_untaken a b (v.pair a b) i apart within in
     Stands-comes bag v w i x (Untaken a b) none
     (λ j. ap (times j) (ap untaken (pair_at v.pair a b (view.routed_on a b (v.pair a b) i)) ∙ more) ∙ one_more j i (untaken (v.pair a b)))
-    (λ z off. put_away_off v a b i k x.to z off inbox) (λ n p. refl) (λ j other. told_off v i j (Some (view.first_told (v.told i) t)) other) (told_at v i t untold) h
+    (λ z off. put_away_off v a b i k x z off inbox) (λ n p. refl) (λ j other. told_off v i j (Some (view.first_told (v.told i) t)) other) (told_at v i t x untold) h
 
 -- a message is taken: the oldest that wasn't goes to the inbox, or there is none
 abbrev taken_pair : Pair → ℕ → Pair

@@ -8,7 +8,7 @@ use Rattle.std.specs.declared.option.Option.{Option}
 use Rattle.std.specs.declared.option.Option.TheVariants.{None, Some}
 use Rattle.dm_message.specs.declared.MsgId.{MsgId}
 use Rattle.dm_message.specs.Ids.{id_eq}
-use Rattle.dm_message.specs.Plain.{PlainMessage}
+use Rattle.dm_link.specs.declared.Pid.{Pid}
 use Rattle.dm_rule.specs.View.{View}
 use Rattle.dm_rule.specs.Spots.{Spot, times, ids_at, standing, StandsOnce, StandsNowhere, StandsAsBag}
 use Rattle.dm_laws.proofs.Equal.{id_eq-same, id_eq-is, id_eq-swap}
@@ -19,10 +19,10 @@ abbrev pub one_of : MsgId → MsgId → ℕ
 one_of i id = if id_eq i id then 1 else 0
 
 -- the bag knows the same of all other messages
-abbrev pub SameBut : MsgId → (MsgId → Option PlainMessage) → (MsgId → Option PlainMessage) → Type 0
+abbrev pub SameBut : MsgId → (MsgId → Option Pid) → (MsgId → Option Pid) → Type 0
 SameBut id bag bag' = (i : MsgId) → id_eq id i ≡ false → bag' i ≡ bag i
 
-abbrev pub Kept : (MsgId → Option PlainMessage) → View → Type 0
+abbrev pub Kept : (MsgId → Option Pid) → View → Type 0
 Kept bag v = (i : MsgId) → StandsAsBag (bag i) (standing v i)
 
 one_of-off : (i id : MsgId) → id_eq id i ≡ false → one_of i id ≡ 0
@@ -31,20 +31,20 @@ one_of-off i id e = let h : id_eq i id ≡ false = id_eq-swap i id ∙ e in grin
 one_of-same : (id : MsgId) → one_of id id ≡ 1
 one_of-same id = let h : id_eq id id ≡ true = id_eq-same id in grind (arith, nat_tests)
 
-some_once : (m : Option PlainMessage) (pm : PlainMessage) (f : Spot → ℕ) → m ≡ Some pm → StandsOnce f → StandsAsBag m f
-some_once m pm f e h = subst (λ (n : Option PlainMessage). StandsAsBag n f) (sym e) h
+some_once : (m : Option Pid) (pm : Pid) (f : Spot → ℕ) → m ≡ Some pm → StandsOnce f → StandsAsBag m f
+some_once m pm f e h = subst (λ (n : Option Pid). StandsAsBag n f) (sym e) h
 
-none_nowhere : (m : Option PlainMessage) (f : Spot → ℕ) → m ≡ None → StandsNowhere f → StandsAsBag m f
-none_nowhere m f e h = subst (λ (n : Option PlainMessage). StandsAsBag n f) (sym e) h
+none_nowhere : (m : Option Pid) (f : Spot → ℕ) → m ≡ None → StandsNowhere f → StandsAsBag m f
+none_nowhere m f e h = subst (λ (n : Option Pid). StandsAsBag n f) (sym e) h
 
-nowhere : (m : Option PlainMessage) (f : Spot → ℕ) → m ≡ None → StandsAsBag m f → StandsNowhere f
-nowhere m f e h = subst (λ (n : Option PlainMessage). StandsAsBag n f) e h
+nowhere : (m : Option Pid) (f : Spot → ℕ) → m ≡ None → StandsAsBag m f → StandsNowhere f
+nowhere m f e h = subst (λ (n : Option Pid). StandsAsBag n f) e h
 
-pub once_stays : (v v' : View) (bag bag' : MsgId → Option PlainMessage) → ((i : MsgId) → bag' i ≡ bag i) → ((z : Spot) → ids_at v' z ≡ ids_at v z) → Kept bag v → Kept bag' v'
+pub once_stays : (v v' : View) (bag bag' : MsgId → Option Pid) → ((i : MsgId) → bag' i ≡ bag i) → ((z : Spot) → ids_at v' z ≡ ids_at v z) → Kept bag v → Kept bag' v'
 once_stays v v' bag bag' same off kept i =
-    subst (λ (m : Option PlainMessage). StandsAsBag m (standing v' i)) (sym (same i)) (StandsAsBag-same (bag i) (standing v i) (standing v' i) (λ z. ap (times i) (off z)) (kept i))
+    subst (λ (m : Option Pid). StandsAsBag m (standing v' i)) (sym (same i)) (StandsAsBag-same (bag i) (standing v i) (standing v' i) (λ z. ap (times i) (off z)) (kept i))
 
-pub once_comes : (v v' : View) (bag bag' : MsgId → Option PlainMessage) (id : MsgId) (y : Spot) (pm : PlainMessage)
+pub once_comes : (v v' : View) (bag bag' : MsgId → Option Pid) (id : MsgId) (y : Spot) (pm : Pid)
     → bag id ≡ None → bag' id ≡ Some pm → SameBut id bag bag'
     → ((i : MsgId) → times i (ids_at v' y) ≡ times i (ids_at v y) + one_of i id)
     → ((z : Spot) → z ≢ y → ids_at v' z ≡ ids_at v z) → Kept bag v → Kept bag' v'
@@ -55,14 +55,14 @@ once_comes v v' bag bag' id y pm fresh new same at_y off kept i = elim (cases_Bo
       (comes (standing v id) (standing v' id) y (at_y id ∙ ap (λ (n : ℕ). standing v id y + n) (one_of-same id)) (λ z apart. ap (times id) (off z apart))
       (nowhere (bag id) (standing v id) fresh (kept id))))
   | inr apart ↦
-      subst (λ (m : Option PlainMessage). StandsAsBag m (standing v' i)) (sym (same i apart))
+      subst (λ (m : Option Pid). StandsAsBag m (standing v' i)) (sym (same i apart))
       (StandsAsBag-same (bag i) (standing v i) (standing v' i) (λ z. elim (spot_cases z y) [
         | inl e ↦ subst (λ (w : Spot). standing v' i w ≡ standing v i w) (sym e) (let h = at_y i in let k = one_of-off i id apart in omega (arith, h, k))
         | inr other ↦ ap (times i) (off z other)
       ]) (kept i))
 ]
 
-pub once_goes : (v v' : View) (bag bag' : MsgId → Option PlainMessage) (id : MsgId) (x : Spot)
+pub once_goes : (v v' : View) (bag bag' : MsgId → Option Pid) (id : MsgId) (x : Spot)
     → bag' id ≡ None → SameBut id bag bag'
     → ((i : MsgId) → times i (ids_at v x) ≡ times i (ids_at v' x) + one_of i id)
     → ((z : Spot) → z ≢ x → ids_at v' z ≡ ids_at v z) → Kept bag v → Kept bag' v'
@@ -74,19 +74,19 @@ once_goes v v' bag bag' id x gone same at_x off kept i = elim (cases_Bool (id_eq
       goes (standing v id) (standing v' id) x e (λ z apart. ap (times id) (off z apart))
       (StandsAsBag-once (bag id) (standing v id) x (omega (arith, e)) (kept id))))
   | inr apart ↦
-      subst (λ (m : Option PlainMessage). StandsAsBag m (standing v' i)) (sym (same i apart))
+      subst (λ (m : Option Pid). StandsAsBag m (standing v' i)) (sym (same i apart))
       (StandsAsBag-same (bag i) (standing v i) (standing v' i) (λ z. elim (spot_cases z x) [
         | inl e ↦ subst (λ (w : Spot). standing v' i w ≡ standing v i w) (sym e) (let h = at_x i in let k = one_of-off i id apart in omega (arith, h, k))
         | inr other ↦ ap (times i) (off z other)
       ]) (kept i))
 ]
 
-pub once_moves : (v v' : View) (bag bag' : MsgId → Option PlainMessage) (id : MsgId) (x y : Spot) → x ≢ y
+pub once_moves : (v v' : View) (bag bag' : MsgId → Option Pid) (id : MsgId) (x y : Spot) → x ≢ y
     → ((i : MsgId) → bag' i ≡ bag i)
     → ((i : MsgId) → times i (ids_at v x) ≡ times i (ids_at v' x) + one_of i id)
     → ((i : MsgId) → times i (ids_at v' y) ≡ times i (ids_at v y) + one_of i id)
     → ((z : Spot) → z ≢ x → z ≢ y → ids_at v' z ≡ ids_at v z) → Kept bag v → Kept bag' v'
-once_moves v v' bag bag' id x y ne same at_x at_y off kept i = subst (λ (m : Option PlainMessage). StandsAsBag m (standing v' i)) (sym (same i)) (elim (cases_Bool (id_eq id i)) [
+once_moves v v' bag bag' id x y ne same at_x at_y off kept i = subst (λ (m : Option Pid). StandsAsBag m (standing v' i)) (sym (same i)) (elim (cases_Bool (id_eq id i)) [
   | inl is ↦
       let e : standing v id x ≡ standing v' id x + 1 = at_x id ∙ ap (λ (n : ℕ). standing v' id x + n) (one_of-same id) in
       let d : standing v' id y ≡ standing v id y + 1 = at_y id ∙ ap (λ (n : ℕ). standing v id y + n) (one_of-same id) in

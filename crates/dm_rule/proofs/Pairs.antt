@@ -21,6 +21,9 @@ use Rattle.dm_rule.proofs.PairsMoves.{Paired, marked_goes}
 use Rattle.dm_rule.proofs.PairsLines.{bind-is, line_view, AllFit, keeps}
 use Rattle.dm_rule.proofs.PairsTurns.{turns_fit, resends_fit}
 use Rattle.dm_rule.proofs.PairsComes.{arrives_keep}
+use Rattle.dm_rule.proofs.PairsMigrating.{migrates_fit}
+use Rattle.dm_rule.specs.Migrating.{migrates}
+use Rattle.dm_link.specs.declared.Pid.{Pid}
 
 abbrev pub Pairs : View → Type 0
 Pairs v = Paired v.pair
@@ -92,11 +95,19 @@ deliver_keeps b pt a c k w apart g h =
     let r : Pairs g.rest.point.view = arrives_keep g.begun a c k (f a c) (f c a) (slice_get (f a c).wire k) g.rest refl ac ca there back (h.stand.apart a c ac) (subst Paired (sym is) goes.paired) on in
     subst (λ (q : Point). Pairs q.view) g.end r
 
+migrate_keeps : (b : Boot) (pt : Point) (p : Pid) (m : ℕ) (w : Spelled) → Group b pt (step.Migrate p m) w → Pairs pt.view → Pairs w.point.view
+migrate_keeps b pt p m w g h =
+    let is : g.begun.view.pair ≡ pt.view.pair = ap (λ (v : View). v.pair) (line_view pt g.begun (line.Head (step.Migrate p m)) g.begins) in
+    let parts : migrates pt p ≡ g.parts = let f = g.follows in cc in
+    let fits : AllFit g.begun.view.pair g.parts = subst (AllFit g.begun.view.pair) parts (migrates_fit g.begun.view.pair pt p) in
+    let k : Pairs g.rest.point.view = keeps g.parts g.begun g.rest fits (subst Paired (sym is) h) g.on in
+    subst (λ (q : Point). Pairs q.view) g.end k
+
 pub Pairs-group : (b : Boot) (pt : Point) (e : Step) (w : Spelled) → IsStep pt.kernel.machines e → group_of b pt e ≡ Some w → Pairs pt.view → Pairs w.point.view
 Pairs-group b pt (step.Turn m) w fits is h = turn_keeps b pt m w (group b pt (step.Turn m) w is) h
 Pairs-group b pt (step.Tick m) w fits is h = tick_keeps b pt m w (group b pt (step.Tick m) w is) h
 Pairs-group b pt (step.Deliver a c k) w fits is h = deliver_keeps b pt a c k w fits.2 (group b pt (step.Deliver a c k) w is) h
-Pairs-group b pt (step.Migrate p m) w fits is h = cc
+Pairs-group b pt (step.Migrate p m) w fits is h = migrate_keeps b pt p m w (group b pt (step.Migrate p m) w is) h
 
 Pairs-on : (b : Boot) (es : List Step) (pt end : Point) → Leads b pt es end → Pairs pt.view → Pairs end.view
 Pairs-on b [] pt end leads h = subst (λ (q : Point). Pairs q.view) leads h

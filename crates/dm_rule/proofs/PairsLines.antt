@@ -17,10 +17,10 @@ use Rattle.dm_rule.specs.declared.line.Load.{Load}
 use Rattle.dm_rule.specs.declared.line.Load.TheVariants as load
 use Rattle.dm_rule.specs.declared.line.Stage.{Stage}
 use Rattle.dm_rule.specs.declared.line.Stage.TheVariants as stage
-use Rattle.dm_rule.specs.View.{View, Pair, Told, view_after, after_label, after_stage, after_packet, queued_for, held_for, dropped_for, forwarded_for, served_told, kills, receiver_of, taken_id, handled}
+use Rattle.dm_rule.specs.View.{View, Pair, Told, view_after, after_label, after_stage, after_packet, queued_for, held_for, dropped_for, forwarded_for, served_told, kills, receiver_of, taken_id, handled, own_id, after_proto, follows_up, asks_on, About, NothingElse, Target, Of, Place}
 use Rattle.dm_rule.specs.Addresses.{Receiver}
 use Rattle.dm_rule.specs.Point.{Point, kernel_after, label_of, moved, after_line, after}
-use Rattle.dm_rule.specs.Parts.{Part, Says, Routes, Transmits, Spelled, spelled, behind, lines_of, puts, packet_line, goes_out}
+use Rattle.dm_rule.specs.Parts.{Part, Says, Routes, Again, Owns, Transmits, Spelled, spelled, behind, lines_of, puts, packet_line, goes_out}
 use Rattle.dm_rule.proofs.PairsStand.{Later}
 use Rattle.dm_rule.proofs.PairsMoves.{Paired, Goes, Goes-same, again_goes, ack_goes, route_out, route_packed, route_home}
 
@@ -93,6 +93,44 @@ stage_pair v p stage.MemoryTaken = refl
 stage_pair v p stage.Left = refl
 stage_pair v p stage.Restarted = refl
 
+asks_pair : (v : View) (a : About) → (asks_on v a).pair ≡ v.pair
+asks_pair v NothingElse = refl
+asks_pair v (Target m) = refl
+asks_pair v (Of p) = refl
+asks_pair v (Place p at moves) = refl
+
+follows_pair : (v : View) (a : About) (k : MessageKind) → (follows_up v a k).pair ≡ v.pair
+follows_pair v a kind.Ask = refl
+follows_pair v a kind.Refuse = refl
+follows_pair v a kind.PullState = refl
+follows_pair v a kind.State = asks_pair v a
+follows_pair v a kind.PullBlock = refl
+follows_pair v a kind.Memory = asks_pair v a
+follows_pair v a kind.AllTaken = refl
+follows_pair v a kind.Restart = refl
+follows_pair v a kind.User = refl
+follows_pair v a kind.Stop = refl
+follows_pair v a kind.Resume = refl
+follows_pair v a kind.Kill = refl
+follows_pair v a kind.Read = refl
+follows_pair v a kind.Write = refl
+follows_pair v a kind.Block = refl
+follows_pair v a kind.Written = refl
+follows_pair v a kind.Gone = refl
+follows_pair v a kind.Create = refl
+follows_pair v a kind.Created = refl
+follows_pair v a kind.NoRoom = refl
+follows_pair v a kind.Migrate = refl
+follows_pair v a kind.Update = refl
+follows_pair v a kind.Move = refl
+follows_pair v a kind.Moved = refl
+follows_pair v a kind.CallOff = refl
+follows_pair v a kind.Bury = refl
+
+proto_pair : (v : View) (o : Option Told) → (after_proto v o).pair ≡ v.pair
+proto_pair v None = refl
+proto_pair v (Some t) = follows_pair v t.about t.kind
+
 -- the other lines leave the pairs as they are
 pub pair_same : (v : View) (l : Line) → touches l ≡ false → (view_after v l).pair ≡ v.pair
 pair_same v (line.Head s) e = cc
@@ -116,7 +154,7 @@ pair_same v (line.Lacks p s b) e = refl
 pair_same v (line.Stays p) e = refl
 pair_same v (line.Here id) e = refl
 pair_same v (line.NoMove id) e = refl
-pair_same v (line.Proto id) e = refl
+pair_same v (line.Proto id) e = proto_pair (handled v id) (v.told id)
 pair_same v (line.NoChild p) e = refl
 pair_same v (line.Pinned p) e = refl
 pair_same v (line.End x) e = refl
@@ -179,18 +217,29 @@ puts_goes pt next b id k q false true e f is h =
     let p = packet_line pt.view pt.view.acting b (load.Data (length (pt.view.pair pt.view.acting b).ids)) in
     subst (λ (v : View). Goes pt.view.pair v.pair) (sym (two_views pt next (line.Put pt.view.acting b id k q) p is)) (route_packed pt.view.pair pt.view.acting b id e f h)
 
+puts_lead : (pt next : Point) (b : ℕ) (id : MsgId) (k : MessageKind) (q : Pid) (ls : List Line) → Some (puts pt.view b id k q) ≡ Some ls → after pt ls ≡ Some next → Paired pt.view.pair → Goes pt.view.pair next.view.pair
+puts_lead pt next b id k q ls is leads h =
+    let f : puts pt.view b id k q ≡ ls = cc in
+    puts_goes pt next b id k q (pt.view.acting == b) (goes_out (pt.view.pair pt.view.acting b)) refl refl (ap (after pt) f ∙ leads) h
+
 routes_goes : (pt : Point) (id : MsgId) (ps : List Part) (w : Spelled) (o : Onward pt (Routes id) ps w) → Paired pt.view.pair → Goes pt.view.pair o.next.view.pair
 routes_goes pt id ps w o h =
     let at = (pt.addresses (Receiver id)).at in
-    let (m, there, is) = bind-is (pt.kernel.bag id) (λ m. Some (puts pt.view at id m)) o.lines o.lines_are in
-    let f : puts pt.view at id m ≡ o.lines = cc in
-    puts_goes pt o.next at id (plain_kind m.what) m.to (pt.view.acting == at) (goes_out (pt.view.pair pt.view.acting at)) refl refl (ap (after pt) f ∙ o.leads) h
+    let (m, there, is) = bind-is (pt.kernel.bag id) (λ m. Some (puts pt.view at id (plain_kind m.what) m.to)) o.lines o.lines_are in
+    puts_lead pt o.next at id (plain_kind m.what) m.to o.lines is o.leads h
+
+again_puts : (pt : Point) (id : MsgId) (at : ℕ) (ps : List Part) (w : Spelled) (o : Onward pt (Again id at) ps w) → Paired pt.view.pair → Goes pt.view.pair o.next.view.pair
+again_puts pt id at ps w o h =
+    let (t, there, is) = bind-is (pt.view.told id) (λ t. Some (puts pt.view at id t.kind t.receiver)) o.lines o.lines_are in
+    puts_lead pt o.next at id t.kind t.receiver o.lines is o.leads h
 
 -- parts that keep the pairs wherever they stand: a line that says nothing of pairs, a route, a packet that may go again, an
 -- acknowledgement of what was taken
 abbrev pub Fits : (ℕ → ℕ → Pair) → Part → Type 0
 Fits f (Says l) = touches l ≡ false
 Fits f (Routes id) = ⊤
+Fits f (Again id b) = ⊤
+Fits f (Owns k q b) = ⊤
 Fits f (Transmits a b (load.Data n)) = ((a == b) ≡ false) × (n < (f a b).gone)
 Fits f (Transmits a b (load.Ack n)) = ((a == b) ≡ false) × (n ≤ (f b a).taken)
 
@@ -201,6 +250,8 @@ AllFit f (p ∷ ps) = Fits f p × AllFit f ps
 Fits-later : (f g : ℕ → ℕ → Pair) (p : Part) → Later f g → Fits f p → Fits g p
 Fits-later f g (Says l) k h = h
 Fits-later f g (Routes id) k h = h
+Fits-later f g (Again id b) k h = h
+Fits-later f g (Owns kn q b) k h = h
 Fits-later f g (Transmits a b (load.Data n)) k h = (h.0, let x = k.gone a b in omega (arith, x, h.1))
 Fits-later f g (Transmits a b (load.Ack n)) k h = (h.0, let x = k.taken b a in omega (arith, x, h.1))
 
@@ -217,6 +268,8 @@ fitting_goes pt (Says l) ps w o fits h =
     let is : o.next.view.pair ≡ pt.view.pair = ap (λ (v : View). v.pair) (says_view pt l ps w o) ∙ pair_same pt.view l fits in
     subst (Goes pt.view.pair) (sym is) (Goes-same pt.view.pair h)
 fitting_goes pt (Routes id) ps w o fits h = routes_goes pt id ps w o h
+fitting_goes pt (Again id b) ps w o fits h = again_puts pt id b ps w o h
+fitting_goes pt (Owns k q b) ps w o fits h = puts_lead pt o.next b (own_id pt.view) k q o.lines o.lines_are o.leads h
 fitting_goes pt (Transmits a b (load.Data n)) ps w o fits h =
     subst (λ (v : View). Goes pt.view.pair v.pair) (sym (transmits_view pt a b (load.Data n) ps w o)) (again_goes pt.view.pair a b n fits.0 fits.1 h)
 fitting_goes pt (Transmits a b (load.Ack n)) ps w o fits h =

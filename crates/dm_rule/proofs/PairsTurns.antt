@@ -6,6 +6,7 @@ use Rattle.std.specs.declared.option.Option.TheVariants.{None, Some}
 use Rattle.dm_link.specs.declared.Pid.{Pid}
 use Rattle.dm_link.specs.Names.{pid_of, pid_eq}
 use Rattle.dm_message.specs.declared.MsgId.{MsgId}
+use Rattle.dm_message.specs.Kinds.{plain_kind}
 use Rattle.dm_message.specs.Plain as what
 use Rattle.dm_message.specs.Plain.{PlainMessage, PlainWhat}
 use Rattle.dm_regs.specs.Instructions.{instruction}
@@ -28,8 +29,10 @@ use Rattle.dm_rule.specs.declared.line.Line.TheVariants as line
 use Rattle.dm_rule.specs.View.{View, Pair, Known, Unknown, Here, Frozen, Incoming, Forward, Ended}
 use Rattle.dm_rule.specs.Point.{Point}
 use Rattle.dm_rule.specs.Parts.{Part, Says, Routes}
-use Rattle.dm_rule.specs.Rule.{Ran, Room, says, drops, called, stops, executes, ran, completes, receives, first_awaited, first_runnable, serves_status, goes_round, has_room, free_room, creates, kernel_handles, routes, board_took, manager_took, lands, here_handles, ended_handles, process_handles, handles, turns, numbers_from, repeats, resends}
+use Rattle.dm_rule.specs.Rule.{Ran, Room, says, drops, called, stops, executes, ran, completes, receives, first_awaited, first_runnable, serves_status, goes_round, has_room, free_room, creates, kernel_handles, routes, board_took, manager_took, lands, here_handles, ended_handles, process_handles, comes_to, turns, numbers_from, repeats, resends}
+use Rattle.dm_rule.specs.Migrating.{forwards_on}
 use Rattle.dm_rule.proofs.PairsLines.{bind-is, Fits, AllFit, AllFit-both}
+use Rattle.dm_rule.proofs.PairsMigrating.{forwards_fit, hears_fit}
 
 given : (f : ℕ → ℕ → Pair) (qs ps : List Part) → AllFit f qs → Some qs ≡ Some ps → AllFit f ps
 given f qs ps h e = let k : qs ≡ ps = cc in subst (AllFit f) k h
@@ -169,9 +172,10 @@ process_fit f pt m id msg Unknown ps e = cc
 process_fit f pt m id msg Here ps e =
     let (x, there, is) = bind-is (kernel.alive (pt.kernel.processes msg.to)) (λ x. here_handles pt m id msg x msg.what) ps e in
     here_fit f pt m id msg x msg.what ps is
-process_fit f pt m id msg (Frozen to) ps e = cc
-process_fit f pt m id msg (Incoming from) ps e = cc
-process_fit f pt m id msg (Forward at moves) ps e = cc
+process_fit f pt m id msg (Frozen to) ps e = given f (Says (line.Held id) ∷ []) ps (refl, tt) e
+process_fit f pt m id msg (Incoming from) ps e = given f (Says (line.Held id) ∷ []) ps (refl, tt) e
+process_fit f pt m id msg (Forward at moves) ps e =
+    given f (forwards_on pt.addresses id (plain_kind msg.what) msg.sender at) ps (forwards_fit f pt.addresses id (plain_kind msg.what) msg.sender at) e
 process_fit f pt m id msg Ended ps e = ended_fit f id msg.what ps e
 
 handles_by : (f : ℕ → ℕ → Pair) (b : Boot) (pt : Point) (m : ℕ) (id : MsgId) (msg : PlainMessage) (c d g : Bool) (ps : List Part)
@@ -184,11 +188,13 @@ handles_by f b pt m id msg false true g ps e = board_fit f id (board.takes pt.ke
 handles_by f b pt m id msg false false true ps e = manager_fit f id (manage.takes pt.kernel.manager pt.kernel.machines (length pt.kernel.images) msg msg.what) ps e
 handles_by f b pt m id msg false false false ps e = process_fit f pt m id msg (pt.view.known m msg.to) ps e
 
+comes_fit : (f : ℕ → ℕ → Pair) (b : Boot) (pt : Point) (m : ℕ) (id : MsgId) (o : Option PlainMessage) (ps : List Part) → comes_to b pt m id o ≡ Some ps → AllFit f ps
+comes_fit f b pt m id None ps e = hears_fit f b pt m id (pt.view.told id) ps e
+comes_fit f b pt m id (Some msg) ps e = handles_by f b pt m id msg (msg.to.num == 0) (pid_eq msg.to switchboard) (pid_eq msg.to manager) ps e
+
 pub turns_fit : (f : ℕ → ℕ → Pair) (b : Boot) (pt : Point) (m : ℕ) (ids : List MsgId) (ps : List Part) → turns b pt m ids ≡ Some ps → AllFit f ps
 turns_fit f b pt m [] ps e = round_fit f b pt m (first_runnable pt.kernel (pt.view.queue m) (pt.view.ring m)) ps e
-turns_fit f b pt m (i ∷ is) ps e =
-    let (msg, there, is_) = bind-is (pt.kernel.bag i) (handles b pt m i) ps e in
-    handles_by f b pt m i msg (msg.to.num == 0) (pid_eq msg.to switchboard) (pid_eq msg.to manager) ps is_
+turns_fit f b pt m (i ∷ is) ps e = comes_fit f b pt m i (pt.kernel.bag i) ps e
 
 -- what is out goes out again
 pub repeats_fit : (f : ℕ → ℕ → Pair) (a b n k : ℕ) → (a == b) ≡ false → n + k ≤ (f a b).gone → AllFit f (repeats a b (numbers_from n k))

@@ -69,7 +69,7 @@ spot_cases x y = elim (cases_Bool (same_spot x y)) [
 ]
 
 -- what stands once stands where it is seen, and nowhere else
-once_at : (f : Spot → ℕ) (x : Spot) → StandsOnce f → 1 ≤ f x → (f x ≡ 1) × ((y : Spot) → y ≢ x → f y ≡ 0)
+pub once_at : (f : Spot → ℕ) (x : Spot) → StandsOnce f → 1 ≤ f x → (f x ≡ 1) × ((y : Spot) → y ≢ x → f y ≡ 0)
 once_at f x (spot, one, others) least = elim (spot_cases x spot) [
   | inl e ↦ (ap f e ∙ one, λ y apart. others y (λ h. apart (h ∙ sym e)))
   | inr apart ↦ absurd (let h : f x ≡ 0 = others x apart in omega arith)

@@ -30,42 +30,62 @@ use Rattle.dm_laws.proofs.Equal.{id_eq-is, id_eq-same}
 use Rattle.dm_laws.proofs.Sound.{Sound}
 use Rattle.dm_laws.proofs.Steps.{bind-is}
 use Rattle.dm_laws.proofs.Runs.{after_step}
-use Rattle.dm_rule.proofs.Lines.{Bag, hidden, hidden_off, having, Stands, Stands-same, Stands-stays, Stands-put-home, Stands-put-away, pair_keeps}
+use Rattle.std.proofs.lemmas.Bool.{false≢true}
+use Rattle.dm_link.specs.Names.{pid_of}
+use Rattle.dm_message.specs.Ids.{id_of}
+use Rattle.dm_rule.specs.Sets.{at_machine}
+use Rattle.dm_rule.specs.View.{is_kernels}
+use Rattle.dm_rule.proofs.Hushed.{is_put, hushed}
+use Rattle.dm_rule.proofs.Letters.{letters, letters_step, letter_of, not_kernels}
+use Rattle.dm_rule.proofs.Lines.{Bag, hidden, hidden_off, having, Stands, Stands-same, Stands-stays, Stands-put-home, Stands-put-away, untold_tells, pair_keeps}
 use Rattle.dm_rule.proofs.Bags.{BagStep}
 
--- where a group has come: what is in the bag, but a message that is still to be routed, stands once
+-- where a group has come: what is under way, but a message that is still to be routed, stands once
 pub record State (pend : Option MsgId) (pt : Point) : Type 0 where
   pub r : MsgId → ℕ
   pub e : MsgId → ℕ
   pub sound : Sound r e pt.kernel
-  pub stands : Stands (hidden pend pt.kernel.bag) pt.view
-  pub untold : (i : MsgId) → e i ≡ 0 → pt.view.told i ≡ None
+  -- whom the kernels' own messages are for that are under way
+  pub own : Bag
+  pub stands : Stands (hidden pend (letters own pt.kernel.bag)) pt.view
+  pub untold : (i : MsgId) → e i ≡ 0 → is_kernels i ≡ false → pt.view.told i ≡ None
+  pub numbered : (m n : ℕ) → pt.view.count m ≤ n → pt.view.told (id_of (pid_of m 0) n) ≡ None
   pub pending : (j : MsgId) → pend ≡ Some j → pt.view.told j ≡ None
   pub there : (j : MsgId) → pend ≡ Some j → (x : PlainMessage) × (pt.kernel.bag j ≡ Some x)
 
+-- a kernel's own numbers stay untold
+pub numbered_as : (v w : View) → w.count ≡ v.count → w.told ≡ v.told → ((m n : ℕ) → v.count m ≤ n → v.told (id_of (pid_of m 0) n) ≡ None) → (m n : ℕ) → w.count m ≤ n → w.told (id_of (pid_of m 0) n) ≡ None
+numbered_as v w c t h m n le = ap (λ (f : MsgId → Option Told). f (id_of (pid_of m 0) n)) t ∙ h m n (subst (λ (f : ℕ → ℕ). f m ≤ n) c le)
+
 -- a step of the kernel that one message goes by, and one enters
-pub by_label : (pt : Point) (l : Label) (s : OneKernel) (out put : Option MsgId) (h : State None pt) → kernel.step pt.kernel l ≡ Some s → BagStep h.e pt.kernel s out put
-    → Stands (hidden out pt.kernel.bag) (view_after pt.view (line.Label l)) → ((i : MsgId) → (view_after pt.view (line.Label l)).told i ≡ pt.view.told i) → State put (moved pt (line.Label l) s)
-by_label pt l s out put h is bag stands told =
+pub by_label : (pt : Point) (l : Label) (s : OneKernel) (out put : Option MsgId) (h : State None pt) → kernel.step pt.kernel l ≡ Some s → ((j : MsgId) → out ≡ Some j → is_kernels j ≡ false) → BagStep h.e pt.kernel s out put
+    → Stands (hidden out (letters h.own pt.kernel.bag)) (view_after pt.view (line.Label l)) → ((i : MsgId) → (view_after pt.view (line.Label l)).told i ≡ pt.view.told i) → State put (moved pt (line.Label l) s)
+by_label pt l s out put h is gone bag stands told =
     let a = after_step h.r h.e pt.kernel s l is h.sound in
+    let put_in : (j : MsgId) → put ≡ Some j → is_kernels j ≡ false = λ j k. (let (x, there) = bag.there j k in not_kernels (λ i. h.r i + reception i l) (λ i. h.e i + entry i pt.kernel s) s j x there a.sound) in
+    let hush = hushed pt.view (line.Label l) refl in
     record {
+      own = h.own;
+      numbered = numbered_as pt.view (view_after pt.view (line.Label l)) hush.count hush.told h.numbered;
       r = λ i. h.r i + reception i l;
       e = λ i. h.e i + entry i pt.kernel s;
       sound = a.sound;
-      stands = Stands-same (hidden out pt.kernel.bag) (hidden put s.bag) (view_after pt.view (line.Label l)) bag.same stands;
-      untold = λ i zero_. told i ∙ h.untold i (omega (arith, zero_));
-      pending = λ j k. told j ∙ h.untold j (bag.fresh j k);
+      stands = Stands-same (hidden out (letters h.own pt.kernel.bag)) (hidden put (letters h.own s.bag)) (view_after pt.view (line.Label l)) (letters_step h.e h.own pt.kernel s out put bag gone put_in) stands;
+      untold = λ i zero_ other. told i ∙ h.untold i (omega (arith, zero_)) other;
+      pending = λ j k. told j ∙ h.untold j (bag.fresh j k) (put_in j k);
       there = bag.there;
     }
 
--- a line that is no step
-pub by_line : (pend : Option MsgId) (pt : Point) (l : Line) → State pend pt → Stands (hidden pend pt.kernel.bag) (view_after pt.view l) → ((i : MsgId) → (view_after pt.view l).told i ≡ pt.view.told i) → State pend (moved pt l pt.kernel)
-by_line pend pt l h stands told = record {
+-- a line that is no step and no put
+pub by_line : (pend : Option MsgId) (pt : Point) (l : Line) → is_put l ≡ false → (h : State pend pt) → Stands (hidden pend (letters h.own pt.kernel.bag)) (view_after pt.view l) → ((i : MsgId) → (view_after pt.view l).told i ≡ pt.view.told i) → State pend (moved pt l pt.kernel)
+by_line pend pt l quiet h stands told = record {
+  own = h.own;
+  numbered = (let hush = hushed pt.view l quiet in numbered_as pt.view (view_after pt.view l) hush.count hush.told h.numbered);
   r = h.r;
   e = h.e;
   sound = h.sound;
   stands = stands;
-  untold = λ i zero_. told i ∙ h.untold i zero_;
+  untold = λ i zero_ other. told i ∙ h.untold i zero_ other;
   pending = λ j k. told j ∙ h.pending j k;
   there = h.there;
 }
@@ -120,14 +140,14 @@ packet_off v a b k l (Untaken c d) = pair_keeps v.pair a b _ refl c d
 
 pub by_packet : (pend : Option MsgId) (pt : Point) (a b k : ℕ) (l : Load) → State pend pt → State pend (moved pt (line.Packet a b k l) pt.kernel)
 by_packet pend pt a b k l h =
-    by_line pend pt (line.Packet a b k l) h (Stands-stays (hidden pend pt.kernel.bag) pt.view (view_after pt.view (line.Packet a b k l)) (λ z. packet_off pt.view a b k l z) (λ i. refl) h.stands) (λ i. refl)
+    by_line pend pt (line.Packet a b k l) refl h (Stands-stays (hidden pend (letters h.own pt.kernel.bag)) pt.view (view_after pt.view (line.Packet a b k l)) (λ z. packet_off pt.view a b k l z) (λ i. refl) h.stands) (λ i. refl)
 
 -- each pair has taken at most what was routed, and a machine's pair with itself all of it
 pub record PairsFit (v : View) : Type 0 where
   pub within : (a b : ℕ) → (v.pair a b).taken ≤ length (v.pair a b).ids
   pub home : (a : ℕ) → (v.pair a a).taken ≡ length (v.pair a a).ids
 
-having_back : (bag : Bag) (i : MsgId) (x : PlainMessage) → bag i ≡ Some x → (j : MsgId) → bag j ≡ having i x (hidden (Some i) bag) j
+pub having_back : (bag : Bag) (i : MsgId) (x : Pid) → bag i ≡ Some x → (j : MsgId) → bag j ≡ having i x (hidden (Some i) bag) j
 having_back bag i x e j = elim (cases_Bool (id_eq i j)) [
   | inl same ↦ let is : i ≡ j = id_eq-is i j same in sym (ap bag is) ∙ e ∙ sym (ap (λ (c : Bool). if c then Some x else hidden (Some i) bag j) same)
   | inr apart ↦ sym (hidden_off bag i j apart) ∙ sym (ap (λ (c : Bool). if c then Some x else hidden (Some i) bag j) apart)
@@ -139,10 +159,10 @@ hidden_self bag i = ap (λ (c : Bool). if c then None else bag i) (id_eq-same i)
 in_bag_entered : (r e : MsgId → ℕ) (s : OneKernel) (i : MsgId) (x : PlainMessage) → s.bag i ≡ Some x → Sound r e s → 1 ≤ e i
 in_bag_entered r e s i x is h = let f = h.entered.fewer i in let g : in_bag (s.bag i) ≡ 1 = ap in_bag is in omega (arith, f, g)
 
-put_told_off : (v : View) (a b : ℕ) (i j : MsgId) (k : MessageKind) (q : Pid) → id_eq i j ≡ false → (view.after_put v a b i k q).told j ≡ v.told j
+pub put_told_off : (v : View) (a b : ℕ) (i j : MsgId) (k : MessageKind) (q : Pid) → id_eq i j ≡ false → (view.after_put v a b i k q).told j ≡ v.told j
 put_told_off v a b i j k q apart = ap (λ (c : Bool). if c then Some (view.first_told (v.told i) (record { kind = k; receiver = q; about = v.topic })) else v.told j) apart
 
-not_true : (b : Bool) → (b ≡ true → ⊥) → b ≡ false
+pub not_true : (b : Bool) → (b ≡ true → ⊥) → b ≡ false
 not_true true h = absurd (h refl)
 not_true false h = refl
 
@@ -152,68 +172,90 @@ not_same e i j least zero_ = not_true (id_eq i j) (λ k. let is : i ≡ j = id_e
 eq_is : (m n : ℕ) → (m == n) ≡ true → m ≡ n
 eq_is m n e = grind (arith, nat_tests)
 
-put_stands : (bag : Bag) (v : View) (b : ℕ) (i : MsgId) (x : PlainMessage) (c : Bool) → (v.acting == b) ≡ c → v.told i ≡ None → PairsFit v → Stands (hidden (Some i) bag) v
-    → Stands (having i x (hidden (Some i) bag)) (view.after_put v v.acting b i (plain_kind x.what) x.to)
-put_stands bag v b i x true is untold fits h =
+pub put_stands : (bag : Bag) (v : View) (b : ℕ) (i : MsgId) (k : MessageKind) (q : Pid) (c : Bool) → (v.acting == b) ≡ c → bag i ≡ None → (view.first_told (v.told i) (record { kind = k; receiver = q; about = v.topic })).receiver ≡ q
+    → PairsFit v → Stands bag v → Stands (having i q bag) (view.after_put v v.acting b i k q)
+put_stands bag v b i k q true is none tells fits h =
     let e : v.acting ≡ b = eq_is v.acting b is in
-    subst (λ m. Stands (having i x (hidden (Some i) bag)) (view.after_put v v.acting m i (plain_kind x.what) x.to)) e
-    (Stands-put-home (hidden (Some i) bag) v v.acting i (plain_kind x.what) x (hidden_self bag i) untold (fits.home v.acting) h)
-put_stands bag v b i x false is untold fits h =
-    Stands-put-away (hidden (Some i) bag) v v.acting b i (plain_kind x.what) x is (hidden_self bag i) untold (fits.within v.acting b) h
+    subst (λ m. Stands (having i q bag) (view.after_put v v.acting m i k q)) e
+    (Stands-put-home bag v v.acting i k q none tells (fits.home v.acting) h)
+put_stands bag v b i k q false is none tells fits h = Stands-put-away bag v v.acting b i k q is none tells (fits.within v.acting b) h
+
+-- a put of a message that is no kernel's own leaves the kernels' counts, and what is told of theirs
+not_own : (i : MsgId) (o : Option Told) → is_kernels i ≡ false → o ≡ None → view.is_own i o ≡ false
+not_own i None k e = k
+not_own i (Some t) k e = refl
+
+pub kernels_id : (i : MsgId) (m n : ℕ) → is_kernels i ≡ false → id_eq i (id_of (pid_of m 0) n) ≡ false
+kernels_id i m n k = not_true (id_eq i (id_of (pid_of m 0) n)) (λ e. let is = id_eq-is i (id_of (pid_of m 0) n) e in false≢true (sym k ∙ ap is_kernels is))
+
+pub numbered_put : (v : View) (a b : ℕ) (i : MsgId) (k : MessageKind) (q : Pid) → is_kernels i ≡ false → v.told i ≡ None → ((m n : ℕ) → v.count m ≤ n → v.told (id_of (pid_of m 0) n) ≡ None)
+    → (m n : ℕ) → (view.after_put v a b i k q).count m ≤ n → (view.after_put v a b i k q).told (id_of (pid_of m 0) n) ≡ None
+numbered_put v a b i k q other untold h m n le =
+    let count : (view.after_put v a b i k q).count ≡ v.count = ap (λ (c : Bool). if c then at_machine v.count i.from.home (v.count i.from.home + 1) else v.count) (not_own i (v.told i) other untold) in
+    put_told_off v a b i (id_of (pid_of m 0) n) k q (kernels_id i m n other) ∙ h m n (subst (λ (f : ℕ → ℕ). f m ≤ n) count le)
 
 pub by_put : (pt : Point) (b : ℕ) (i : MsgId) (x : PlainMessage) → pt.kernel.bag i ≡ Some x → PairsFit pt.view → State (Some i) pt → State None (moved pt (line.Put pt.view.acting b i (plain_kind x.what) x.to) pt.kernel)
 by_put pt b i x is fits h =
     let l = line.Put pt.view.acting b i (plain_kind x.what) x.to in
     let v = pt.view in
-    let bag = pt.kernel.bag in
+    let bag = letters h.own pt.kernel.bag in
     let untold : v.told i ≡ None = h.pending i refl in
     let least = in_bag_entered h.r h.e pt.kernel i x is h.sound in
+    let others = not_kernels h.r h.e pt.kernel i x is h.sound in
+    let there = letter_of h.r h.e h.own pt.kernel i x is h.sound in
     record {
+      own = h.own;
+      numbered = numbered_put v v.acting b i (plain_kind x.what) x.to others untold h.numbered;
       r = h.r;
       e = h.e;
       sound = h.sound;
-      stands = Stands-same (having i x (hidden (Some i) bag)) bag (view_after v l) (having_back bag i x is) (put_stands bag v b i x (v.acting == b) refl untold fits h.stands);
-      untold = λ j zero_. put_told_off v v.acting b i j (plain_kind x.what) x.to (not_same h.e i j least zero_) ∙ h.untold j zero_;
+      stands = Stands-same (having i x.to (hidden (Some i) bag)) bag (view_after v l) (having_back bag i x.to there) (put_stands (hidden (Some i) bag) v b i (plain_kind x.what) x.to (v.acting == b) refl (hidden_self bag i) (untold_tells (v.told i) (record { kind = plain_kind x.what; receiver = x.to; about = v.topic }) untold) fits h.stands);
+      untold = λ j zero_ other. put_told_off v v.acting b i j (plain_kind x.what) x.to (not_same h.e i j least zero_) ∙ h.untold j zero_ other;
       pending = λ j k. cc;
       there = λ j k. cc;
     }
 
--- a message of the bag is routed
-pub record RoutesNext (pt : Point) (ps : List Part) (w : Spelled) : Type 0 where
+-- a message is put, and goes out where it may: what a put and packets keep is kept
+pub record PutNext (P : Point → Type 0) (ps : List Part) (w : Spelled) : Type 0 where
   pub next : Point
-  pub stands : State None next
+  pub stands : P next
   pub rest : Spelled
   pub more : spelled next ps ≡ Some rest
   pub point : rest.point ≡ w.point
 
-packets_or_none : (pt : Point) (b : ℕ) (i : MsgId) (x : PlainMessage) (ps : List Part) (w : Spelled) (mid : Point) (c d : Bool) → State None mid → mid.kernel ≡ pt.kernel
-    → bind (after mid (if c then [] else if d then packet_line pt.view pt.view.acting b (load.Data (length (pt.view.pair pt.view.acting b).ids)) ∷ [] else [])) (λ n. bind (spelled n ps) (λ v. Some (behind (puts pt.view b i x) v))) ≡ Some w
-    → RoutesNext pt ps w
-packets_or_none pt b i x ps w mid true d h same e =
-    let (v, more, last) = bind-is (spelled mid ps) (λ v. Some (behind (puts pt.view b i x) v)) w e in
-    let f : behind (puts pt.view b i x) v ≡ w = cc in
-    record { next = mid; stands = h; rest = v; more = more; point = ap (λ (t : Spelled). t.point) f }
-packets_or_none pt b i x ps w mid false false h same e =
-    let (v, more, last) = bind-is (spelled mid ps) (λ v. Some (behind (puts pt.view b i x) v)) w e in
-    let f : behind (puts pt.view b i x) v ≡ w = cc in
-    record { next = mid; stands = h; rest = v; more = more; point = ap (λ (t : Spelled). t.point) f }
-packets_or_none pt b i x ps w mid false true h same e =
-    let l = packet_line pt.view pt.view.acting b (load.Data (length (pt.view.pair pt.view.acting b).ids)) in
-    let (n, took, rest) = bind-is (after mid (l ∷ [])) (λ n. bind (spelled n ps) (λ v. Some (behind (puts pt.view b i x) v))) w e in
-    let (v, more, last) = bind-is (spelled n ps) (λ v. Some (behind (puts pt.view b i x) v)) w rest in
+abbrev pub PacketsKeep : (Point → Type 0) → Type 0
+PacketsKeep P = (q : Point) (a b k : ℕ) (l : Load) → P q → P (moved q (line.Packet a b k l) q.kernel)
+
+packets_or_none : (P : Point → Type 0) (keep : PacketsKeep P) (v : View) (b : ℕ) (ls : List Line) (ps : List Part) (w : Spelled) (mid : Point) (c d : Bool) → P mid
+    → bind (after mid (if c then [] else if d then packet_line v v.acting b (load.Data (length (v.pair v.acting b).ids)) ∷ [] else [])) (λ n. bind (spelled n ps) (λ r. Some (behind ls r))) ≡ Some w
+    → PutNext P ps w
+packets_or_none P keep v b ls ps w mid true d h e =
+    let (r, more, last) = bind-is (spelled mid ps) (λ r. Some (behind ls r)) w e in
+    let f : behind ls r ≡ w = cc in
+    record { next = mid; stands = h; rest = r; more = more; point = ap (λ (t : Spelled). t.point) f }
+packets_or_none P keep v b ls ps w mid false false h e =
+    let (r, more, last) = bind-is (spelled mid ps) (λ r. Some (behind ls r)) w e in
+    let f : behind ls r ≡ w = cc in
+    record { next = mid; stands = h; rest = r; more = more; point = ap (λ (t : Spelled). t.point) f }
+packets_or_none P keep v b ls ps w mid false true h e =
+    let l = packet_line v v.acting b (load.Data (length (v.pair v.acting b).ids)) in
+    let (n, took, rest) = bind-is (after mid (l ∷ [])) (λ n. bind (spelled n ps) (λ r. Some (behind ls r))) w e in
+    let (r, more, last) = bind-is (spelled n ps) (λ r. Some (behind ls r)) w rest in
     let (s, is, same_) = line_is mid l n took in
-    let f : behind (puts pt.view b i x) v ≡ w = cc in
+    let f : behind ls r ≡ w = cc in
     let kept : mid.kernel ≡ s = let k = is in cc in
     let at : moved mid l mid.kernel ≡ n = ap (moved mid l) kept ∙ same_ in
-    record { next = n; stands = State-at None (moved mid l mid.kernel) n at (by_packet None mid pt.view.acting b (length (pt.view.pair pt.view.acting b).wire) (load.Data (length (pt.view.pair pt.view.acting b).ids)) h); rest = v; more = more; point = ap (λ (t : Spelled). t.point) f }
+    record { next = n; stands = subst P at (keep mid v.acting b (length (v.pair v.acting b).wire) (load.Data (length (v.pair v.acting b).ids)) h); rest = r; more = more; point = ap (λ (t : Spelled). t.point) f }
 
-pub routes_next : (pt : Point) (i : MsgId) (ps : List Part) (w : Spelled) → State (Some i) pt → PairsFit pt.view → spelled pt (Routes i ∷ ps) ≡ Some w → RoutesNext pt ps w
+pub puts_next : (P : Point → Type 0) (keep : PacketsKeep P) (pt : Point) (part : Part) (b : ℕ) (i : MsgId) (k : MessageKind) (q : Pid) (ps : List Part) (w : Spelled) → lines_of pt part ≡ Some (puts pt.view b i k q)
+    → P (moved pt (line.Put pt.view.acting b i k q) pt.kernel) → spelled pt (part ∷ ps) ≡ Some w → PutNext P ps w
+puts_next P keep pt part b i k q ps w lines h e =
+    let whole : bind (Some (puts pt.view b i k q)) (λ ls. bind (after pt ls) (λ n. bind (spelled n ps) (λ r. Some (behind ls r)))) ≡ Some w = ap (λ o. bind o (λ ls. bind (after pt ls) (λ n. bind (spelled n ps) (λ r. Some (behind ls r))))) (sym lines) ∙ e in
+    packets_or_none P keep pt.view b (puts pt.view b i k q) ps w (moved pt (line.Put pt.view.acting b i k q) pt.kernel) (pt.view.acting == b) (goes_out (pt.view.pair pt.view.acting b)) h whole
+
+-- a message of the bag is routed
+pub routes_next : (pt : Point) (i : MsgId) (ps : List Part) (w : Spelled) → State (Some i) pt → PairsFit pt.view → spelled pt (Routes i ∷ ps) ≡ Some w → PutNext (State None) ps w
 routes_next pt i ps w h fits e =
     let (ls, lines, rest) = bind-is (lines_of pt (Routes i)) (λ ls. bind (after pt ls) (λ n. bind (spelled n ps) (λ v. Some (behind ls v)))) w e in
-    let (x, there, last) = bind-is (pt.kernel.bag i) (λ m. Some (puts pt.view (pt.addresses (Receiver i)).at i m)) ls lines in
-    let b = (pt.addresses (Receiver i)).at in
-    let is : puts pt.view b i x ≡ ls = cc in
-    let l = line.Put pt.view.acting b i (plain_kind x.what) x.to in
-    let mid = moved pt l pt.kernel in
-    let whole : bind (after pt (puts pt.view b i x)) (λ n. bind (spelled n ps) (λ v. Some (behind (puts pt.view b i x) v))) ≡ Some w = ap (λ ls. bind (after pt ls) (λ n. bind (spelled n ps) (λ v. Some (behind ls v)))) is ∙ rest in
-    packets_or_none pt b i x ps w mid (pt.view.acting == b) (goes_out (pt.view.pair pt.view.acting b)) (by_put pt b i x there fits h) refl whole
+    let (x, there, last) = bind-is (pt.kernel.bag i) (λ m. Some (puts pt.view (pt.addresses (Receiver i)).at i (plain_kind m.what) m.to)) ls lines in
+    puts_next (State None) (by_packet None) pt (Routes i) (pt.addresses (Receiver i)).at i (plain_kind x.what) x.to ps w (lines ∙ sym last) (by_put pt (pt.addresses (Receiver i)).at i x there fits h) e

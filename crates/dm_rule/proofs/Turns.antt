@@ -1,5 +1,5 @@
 -- Each turn, delivery and tick keeps that each message stands once.
-use Rattle.std.proofs.Common.{◌≡◌, ◌≢◌, ℕ, ◌≤◌, ◌==◌, ◌&&◌, Bool, true, false, List, [], ◌∷◌, refl, ap, ◌∙◌, sym, arith, inl, inr}
+use Rattle.std.proofs.Common.{◌≡◌, ◌≢◌, ℕ, ◌≤◌, ◌==◌, ◌&&◌, Bool, true, false, List, [], ◌∷◌, refl, ap, ◌∙◌, sym, subst, arith, inl, inr}
 use Rattle.std.specs.Prelude.{if◌then◌else◌}
 use Rattle.std.specs.declared.option.Option.{Option}
 use Rattle.std.specs.declared.option.Option.TheVariants.{None, Some}
@@ -27,7 +27,9 @@ use Rattle.dm_laws.proofs.Equal.{pid_eq-is, pid_eq-same, id_eq-same}
 use Rattle.dm_laws.proofs.Steps.{bind-is}
 use Rattle.dm_rule.proofs.Standing.{StandsAsBag-elsewhere}
 use Rattle.dm_rule.proofs.Lines.{Stands-stays, Stands-handled, Stands-dequeued, front_counts}
-use Rattle.dm_rule.proofs.Bags.{BagStep}
+use Rattle.dm_rule.proofs.Bags.{BagStep, out_of}
+use Rattle.dm_rule.specs.View.{is_kernels}
+use Rattle.dm_rule.proofs.Letters.{letters, letter_of, not_kernels, gone_in}
 use Rattle.dm_rule.proofs.Once.{one_of}
 use Rattle.dm_rule.specs.Rule.{drops}
 use Rattle.dm_rule.proofs.Bags.{bag_dropped}
@@ -93,13 +95,20 @@ created_off v i p (Untaken a b) = refl
 -- labels of processes that move no message
 pub quiet_label : (pt : Point) (l : Label) (s : OneKernel) (put : Option MsgId) (h : State None pt) → kernel.step pt.kernel l ≡ Some s → BagStep h.e pt.kernel s None put
     → ((z : Spot) → ids_at (view_after pt.view (line.Label l)) z ≡ ids_at pt.view z) → ((i : MsgId) → (view_after pt.view (line.Label l)).told i ≡ pt.view.told i) → State put (moved pt (line.Label l) s)
-quiet_label pt l s put h is bag off told = by_label pt l s None put h is bag (Stands-stays pt.kernel.bag pt.view (view_after pt.view (line.Label l)) off told h.stands) told
+quiet_label pt l s put h is bag off told = by_label pt l s None put h is (λ j k. cc) bag (Stands-stays (letters h.own pt.kernel.bag) pt.view (view_after pt.view (line.Label l)) off told h.stands) told
+
+-- what goes by a label is no kernel's own message
+pub gone_out : (pt : Point) (l : Label) (s : OneKernel) (i : MsgId) (h : State None pt) → kernel.step pt.kernel l ≡ Some s → out_of l ≡ Some i → (j : MsgId) → Some i ≡ Some j → is_kernels j ≡ false
+gone_out pt l s i h is goes j e =
+    let g = gone_in pt.kernel s l i is goes in
+    let f : i ≡ j = cc in
+    subst (λ (k : MsgId). is_kernels k ≡ false) f (not_kernels h.r h.e pt.kernel i g.message g.there h.sound)
 
 -- labels that handle the message at the front of the inbox
-pub front_label : (pt : Point) (l : Label) (s : OneKernel) (i : MsgId) (is : List MsgId) (put : Option MsgId) (h : State None pt) → pt.view.inbox pt.view.acting ≡ i ∷ is → kernel.step pt.kernel l ≡ Some s → BagStep h.e pt.kernel s (Some i) put
+pub front_label : (pt : Point) (l : Label) (s : OneKernel) (i : MsgId) (is : List MsgId) (put : Option MsgId) (h : State None pt) → pt.view.inbox pt.view.acting ≡ i ∷ is → kernel.step pt.kernel l ≡ Some s → out_of l ≡ Some i → BagStep h.e pt.kernel s (Some i) put
     → ((z : Spot) → ids_at (view_after pt.view (line.Label l)) z ≡ ids_at (handled pt.view i) z) → ((j : MsgId) → (view_after pt.view (line.Label l)).told j ≡ pt.view.told j) → State put (moved pt (line.Label l) s)
-front_label pt l s i is put h front step_ bag off told =
-    by_label pt l s (Some i) put h step_ bag (Stands-handled pt.kernel.bag pt.view (view_after pt.view (line.Label l)) i is front off told h.stands) told
+front_label pt l s i is put h front step_ goes bag off told =
+    by_label pt l s (Some i) put h step_ (gone_out pt l s i h step_ goes) bag (Stands-handled (letters h.own pt.kernel.bag) pt.view (view_after pt.view (line.Label l)) i is front off told h.stands) told
 
 without_front_none : (i : MsgId) (xs : List MsgId) → times i xs ≡ 0 → without_front i xs ≡ xs
 without_front_none i [] e = refl
@@ -151,7 +160,7 @@ dropped_told v i (Some p) j = refl
 pub front_unqueued : (pt : Point) (i : MsgId) (is : List MsgId) (h : State None pt) → pt.view.inbox pt.view.acting ≡ i ∷ is → (m : ℕ) (p : Pid) → times i (pt.view.queue m p) ≡ 0
 front_unqueued pt i is h front m p =
     let one : 1 ≤ standing pt.view i (Inbox pt.view.acting) = (let a : times i (pt.view.inbox pt.view.acting) ≡ times i (i ∷ is) = ap (times i) front in let b : one_of i i ≡ 1 = ap (λ (c : Bool). if c then 1 else 0) (id_eq-same i) in omega (arith, a, b)) in
-    StandsAsBag-elsewhere (pt.kernel.bag i) (standing pt.view i) (Inbox pt.view.acting) (Queue m p) one (queue_spot m pt.view.acting p) (h.stands.kept i)
+    StandsAsBag-elsewhere (letters h.own pt.kernel.bag i) (standing pt.view i) (Inbox pt.view.acting) (Queue m p) one (queue_spot m pt.view.acting p) (h.stands.kept i)
 
 machine_same : (f : ℕ → List MsgId) (m : ℕ) (x : List MsgId) → x ≡ f m → (n : ℕ) → at_machine f m x n ≡ f n
 machine_same f m x e n = elim (cases_Bool (m == n)) [
@@ -174,12 +183,13 @@ queue_front pt s j js p h front is =
     let v = pt.view in
     let one : 1 ≤ times j (v.queue v.acting p) = (let a : times j (v.queue v.acting p) ≡ times j (j ∷ js) = ap (times j) front in let b : one_of j j ≡ 1 = ap (λ (c : Bool). if c then 1 else 0) (id_eq-same j) in omega (arith, a, b)) in
     let (x, there, rest) = bind-is (pt.kernel.bag j) (λ m. bind (kernel.ended (pt.kernel.processes m.to)) (kernel.drops pt.kernel j m)) s is in
-    let mine : x.to ≡ p = h.stands.mine v.acting p j x one there in
-    let told : receiver_of (v.told j) ≡ Some p = h.stands.told j x there ∙ ap Some mine in
-    let no_inbox : times j (v.inbox v.acting) ≡ 0 = StandsAsBag-elsewhere (pt.kernel.bag j) (standing v j) (Queue v.acting p) (Inbox v.acting) one (inbox_spot v.acting v.acting p) (h.stands.kept j) in
+    let letter : letters h.own pt.kernel.bag j ≡ Some x.to = letter_of h.r h.e h.own pt.kernel j x there h.sound in
+    let mine : x.to ≡ p = h.stands.mine v.acting p j x.to one letter in
+    let told : receiver_of (v.told j) ≡ Some p = h.stands.told j x.to letter ∙ ap Some mine in
+    let no_inbox : times j (v.inbox v.acting) ≡ 0 = StandsAsBag-elsewhere (letters h.own pt.kernel.bag j) (standing v j) (Queue v.acting p) (Inbox v.acting) one (inbox_spot v.acting v.acting p) (h.stands.kept j) in
     let rest_ = without_front j (v.queue v.acting p) in
-    by_label pt (label.Dropped j) s (Some j) None h is (bag_dropped h.e pt.kernel s j is)
-    (Stands-dequeued pt.kernel.bag v (view_after v (line.Label (label.Dropped j))) j p rest_ (λ i. front_counts i j (v.queue v.acting p) js front)
+    by_label pt (label.Dropped j) s (Some j) None h is (gone_out pt (label.Dropped j) s j h is refl) (bag_dropped h.e pt.kernel s j is)
+    (Stands-dequeued (letters h.own pt.kernel.bag) v (view_after v (line.Label (label.Dropped j))) j p rest_ (λ i. front_counts i j (v.queue v.acting p) js front)
     (λ z. dequeued_off v j p (receiver_of (v.told j)) told no_inbox z) (λ i. dropped_told v j (receiver_of (v.told j)) i) h.stands)
     (λ i. dropped_told v j (receiver_of (v.told j)) i)
 
@@ -204,7 +214,8 @@ queue_told pt j js p s h front is =
     let v = pt.view in
     let one : 1 ≤ times j (v.queue v.acting p) = (let a : times j (v.queue v.acting p) ≡ times j (j ∷ js) = ap (times j) front in let b : one_of j j ≡ 1 = ap (λ (c : Bool). if c then 1 else 0) (id_eq-same j) in omega (arith, a, b)) in
     let (x, there, rest) = bind-is (pt.kernel.bag j) (λ m. bind (kernel.ended (pt.kernel.processes m.to)) (kernel.drops pt.kernel j m)) s is in
-    h.stands.told j x there ∙ ap Some (h.stands.mine v.acting p j x one there)
+    let letter : letters h.own pt.kernel.bag j ≡ Some x.to = letter_of h.r h.e h.own pt.kernel j x there h.sound in
+    h.stands.told j x.to letter ∙ ap Some (h.stands.mine v.acting p j x.to one letter)
 
 -- the whole queue is dropped
 pub all_dropped : (js : List MsgId) (pt : Point) (p : Pid) (w : Spelled) → State None pt → pt.view.queue pt.view.acting p ≡ js → spelled pt (drops js) ≡ Some w → State None w.point

@@ -1,5 +1,5 @@
 -- Addresses: the place that each link and each message names, folded from the lines beside the kernel without machines.
-use Rattle.std.specs.Prelude.{ℕ, zero, suc, ◌+◌, Bool, false, ◌==◌, ◌&&◌, nat_lt, if◌then◌else◌, List, [], ◌∷◌, ◌++◌, length, map, slice_get, slice_set}
+use Rattle.std.specs.Prelude.{ℕ, zero, suc, ◌+◌, Bool, true, false, ◌==◌, ◌&&◌, nat_lt, if◌then◌else◌, List, [], ◌∷◌, ◌++◌, length, map, slice_get, slice_set}
 use Rattle.std.specs.declared.option.Option.{Option}
 use Rattle.std.specs.declared.option.Option.TheVariants.{None, Some}
 use Rattle.dm_link.specs.declared.Pid.{Pid}
@@ -9,6 +9,8 @@ use Rattle.dm_link.specs.Plain.{PlainLink}
 use Rattle.dm_linktable.specs.Slots.{first_empty, link_at}
 use Rattle.dm_message.specs.declared.MsgId.{MsgId}
 use Rattle.dm_message.specs.Ids.{id_eq, id_of}
+use Rattle.dm_message.specs.declared.kind.MessageKind.{MessageKind}
+use Rattle.dm_message.specs.declared.kind.MessageKind.TheVariants as kind
 use Rattle.dm_message.specs.Plain as what
 use Rattle.dm_message.specs.Plain.{PlainMessage, PlainWhat}
 use Rattle.dm_onekernel.specs.declared.boot.BootProcess.{BootProcess}
@@ -277,6 +279,94 @@ abbrev pub all_follow : View → Addresses → Pid → List MsgId → List Gets
 all_follow v a p [] = []
 all_follow v a p (i ∷ is) = follows v a i (Some p) ++ all_follow v a p is
 
+-- a forward of these tells the sender where the receiver went; answers and what kernels tell each other don't
+abbrev pub is_told_back : MessageKind → Bool
+is_told_back kind.User = true
+is_told_back kind.Stop = true
+is_told_back kind.Resume = true
+is_told_back kind.Kill = true
+is_told_back kind.Read = true
+is_told_back kind.Write = true
+is_told_back kind.Migrate = true
+is_told_back kind.Block = false
+is_told_back kind.Written = false
+is_told_back kind.Gone = false
+is_told_back kind.Create = false
+is_told_back kind.Created = false
+is_told_back kind.NoRoom = false
+is_told_back kind.Update = false
+is_told_back kind.Ask = false
+is_told_back kind.Refuse = false
+is_told_back kind.PullState = false
+is_told_back kind.State = false
+is_told_back kind.PullBlock = false
+is_told_back kind.Memory = false
+is_told_back kind.AllTaken = false
+is_told_back kind.Restart = false
+is_told_back kind.Move = false
+is_told_back kind.Moved = false
+is_told_back kind.CallOff = false
+is_told_back kind.Bury = false
+
+-- that update goes to where the message came from, as the next message of the acting machine's kernel
+abbrev pub tells_back : View → Addresses → MsgId → Bool → List Gets
+tells_back v a id true = gets (Receiver (view.own_id v)) (a (Sender id)) ∷ gets (Sender (view.own_id v)) (unmoved v.acting) ∷ []
+tells_back v a id false = []
+
+abbrev pub forwards : View → Addresses → MsgId → Option Told → List Gets
+forwards v a id None = []
+forwards v a id (Some t) = follows v a id (Some t.receiver) ++ tells_back v a id (is_told_back t.kind)
+
+-- the number of a child of the manager, counted from n
+abbrev pub child_from : ℕ → Pid → List Pid → Option ℕ
+child_from n p [] = None
+child_from n p (q ∷ qs) = if pid_eq p q then Some n else child_from (n + 1) p qs
+
+abbrev pub child_number : OneKernel → Pid → Option ℕ
+child_number s p = child_from 1 p s.manager.children
+
+-- the manager's link to a child
+abbrev pub place_of_child : Addresses → Option ℕ → Place
+place_of_child a None = unmoved 0
+place_of_child a (Some n) = a (Child n)
+
+-- a kernel's own message, when it is first put: a request to move a process goes to where the manager knows it, in the
+-- manager's name; an update has its places from the forward; the others go from kernel to kernel
+abbrev pub goes_between : View → MsgId → Pid → List Gets
+goes_between v id q = gets (Receiver id) (unmoved q.home) ∷ gets (Sender id) (unmoved v.acting) ∷ []
+
+abbrev pub own_gives : OneKernel → View → Addresses → MsgId → Pid → MessageKind → List Gets
+own_gives s v a id q kind.Migrate = gets (Receiver id) (place_of_child a (child_number s q)) ∷ gets (Sender id) (unmoved v.acting) ∷ []
+own_gives s v a id q kind.Update = []
+own_gives s v a id q kind.Ask = goes_between v id q
+own_gives s v a id q kind.Refuse = goes_between v id q
+own_gives s v a id q kind.PullState = goes_between v id q
+own_gives s v a id q kind.State = goes_between v id q
+own_gives s v a id q kind.PullBlock = goes_between v id q
+own_gives s v a id q kind.Memory = goes_between v id q
+own_gives s v a id q kind.AllTaken = goes_between v id q
+own_gives s v a id q kind.Restart = goes_between v id q
+own_gives s v a id q kind.CallOff = goes_between v id q
+own_gives s v a id q kind.Bury = goes_between v id q
+own_gives s v a id q kind.User = []
+own_gives s v a id q kind.Stop = []
+own_gives s v a id q kind.Resume = []
+own_gives s v a id q kind.Kill = []
+own_gives s v a id q kind.Read = []
+own_gives s v a id q kind.Write = []
+own_gives s v a id q kind.Block = []
+own_gives s v a id q kind.Written = []
+own_gives s v a id q kind.Gone = []
+own_gives s v a id q kind.Create = []
+own_gives s v a id q kind.Created = []
+own_gives s v a id q kind.NoRoom = []
+own_gives s v a id q kind.Move = []
+own_gives s v a id q kind.Moved = []
+
+abbrev pub first_gives : Option Told → List Gets → List Gets
+first_gives None g = g
+first_gives (Some t) g = []
+
 -- what an update is about: where a process is
 abbrev pub place_told : About → Option (Pid × Place)
 place_told NothingElse = None
@@ -351,12 +441,12 @@ updated s v a (Some t) h = updated_to s a (Some t.receiver) (place_told t.about)
 -- a row a line
 abbrev pub addresses_after : OneKernel → View → Addresses → Line → Addresses
 addresses_after s v a (line.Label l) = given a (gives s v a l)
-addresses_after s v a (line.Forwarded id m) = given a (follows v a id (view.receiver_of (v.told id)))
+addresses_after s v a (line.Forwarded id m) = given a (forwards v a id (v.told id))
 addresses_after s v a (line.SentOn p n) = given a (all_follow v a p (v.queue v.acting p ++ v.held v.acting p))
 addresses_after s v a (line.Updated id n) = updated s v a (v.told id)
 addresses_after s v a (line.Head d) = a
 addresses_after s v a (line.Idle m) = a
-addresses_after s v a (line.Put from to id k q) = a
+addresses_after s v a (line.Put from to id k q) = given a (first_gives (v.told id) (own_gives s v a id q k))
 addresses_after s v a (line.Packet from to k l) = a
 addresses_after s v a (line.Taken from to n) = a
 addresses_after s v a (line.Old from to n) = a

@@ -13,7 +13,7 @@ use Rattle.dm_rule.specs.View.{View, Sent}
 use Rattle.dm_rule.specs.Point.{Point}
 use Rattle.dm_rule.specs.Parts.{Spelled}
 use Rattle.dm_rule.specs.Rule.{group_of}
-use Rattle.dm_rule.specs.Spots.{StandsAsBag, standing}
+use Rattle.dm_rule.specs.Spots.{StandsRight, standing}
 
 -- an ordered pair of machines
 pub record Two : Type 0 where
@@ -109,9 +109,10 @@ abbrev pub all_of : List Directive → Todo
 all_of ds = record { pairs = []; machines = []; rounds = 0; directives = ds }
 
 -- each message that the kernel without machines holds stands exactly once among the printed queues, held lists, inboxes
--- and streams, and no other stands there; no pair of machines counts more messages than it may
+-- and streams, a kernel's own message at most once, and no other stands there; no pair of machines counts more messages than
+-- it may
 pub record IsKept (b : Boot) (pt : Point) : Type 0 where
-  pub once : (id : MsgId) → StandsAsBag (pt.kernel.bag id) (standing pt.view id)
+  pub once : (id : MsgId) → StandsRight id (pt.kernel.bag id) (standing pt.view id)
   pub counts : (m n : ℕ) → length (pt.view.pair m n).ids ≤ b.numbers
 
 -- one group after the other, each by the rule, for the directives one by one; what is left of them, and where it leads

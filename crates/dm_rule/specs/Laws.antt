@@ -1,7 +1,10 @@
 -- What holds wherever the rule leads.
-use Rattle.std.specs.Prelude.{◌≡◌, ◌≢◌, ℕ, ◌<◌, List, [], ◌∷◌}
+use Rattle.std.specs.Prelude.{false, ◌≡◌, ◌≢◌, ⊤, ℕ, ◌<◌, List, [], ◌∷◌}
+use Rattle.std.specs.declared.option.Option.{Option}
 use Rattle.std.specs.declared.option.Option.TheVariants.{Some}
+use Rattle.dm_link.specs.declared.Pid.{Pid}
 use Rattle.dm_message.specs.declared.MsgId.{MsgId}
+use Rattle.dm_message.specs.declared.kind.MessageKind.{MessageKind}
 use Rattle.dm_onekernel.specs.declared.boot.Boot.{Boot}
 use Rattle.dm_onekernel.specs.Boot.{IsValid}
 use Rattle.dm_schedule.specs.declared.Step.{Step}
@@ -9,9 +12,12 @@ use Rattle.dm_schedule.specs.declared.Step.TheVariants as step
 use Rattle.dm_rule.specs.Point.{Point, first_point}
 use Rattle.dm_rule.specs.Parts.{Spelled}
 use Rattle.dm_rule.specs.Rule.{group_of}
-use Rattle.dm_rule.specs.Spots.{StandsAsBag, standing}
+use Rattle.dm_rule.specs.Spots.{StandsRight, standing}
 use Rattle.dm_rule.specs.Pairs.{PairStands, HomeStands}
 use Rattle.dm_rule.specs.Homes.{Homes}
+use Rattle.dm_rule.specs.Tells.{TellsRight}
+use Rattle.dm_rule.specs.Phases.{Phase, Moves, IsIn, is_due}
+use Rattle.dm_rule.specs.Apart.{AllSpare}
 
 -- a directive for so many machines
 abbrev pub IsStep : ℕ → Step → Type 0
@@ -25,10 +31,22 @@ abbrev pub Leads : Boot → Point → List Step → Point → Type 0
 Leads b pt [] end = pt ≡ end
 Leads b pt (e ∷ es) end = (w : Spelled) × IsStep pt.kernel.machines e × (group_of b pt e ≡ Some w) × Leads b w.point es end
 
+-- no directive is a migration
+abbrev pub IsStill : Step → Type 0
+IsStill (step.Turn m) = ⊤
+IsStill (step.Tick m) = ⊤
+IsStill (step.Deliver a b k) = ⊤
+IsStill (step.Migrate p m) = ⊥
+
+abbrev pub AreStill : List Step → Type 0
+AreStill [] = ⊤
+AreStill (e ∷ es) = IsStill e × AreStill es
+
 -- wherever the rule leads, each message that the kernel without machines holds stands exactly once among the queues, held
--- lists, inboxes and streams of the printed lines, and no other stands there
+-- lists, inboxes and streams of the printed lines, a kernel's own message at most once, and no other stands there
 abbrev pub StandsOnceAlways : Type 0
-StandsOnceAlways = (b : Boot) (es : List Step) (pt : Point) (id : MsgId) → IsValid b → Leads b (first_point b) es pt → StandsAsBag (pt.kernel.bag id) (standing pt.view id)
+StandsOnceAlways =
+    (b : Boot) (es : List Step) (pt : Point) (id : MsgId) → IsValid b → Leads b (first_point b) es pt → StandsRight id (pt.kernel.bag id) (standing pt.view id)
 
 -- wherever the rule leads, each pair of machines stands, and so does each machine's pair with itself
 abbrev pub PairsStandAlways : Type 0
@@ -37,4 +55,19 @@ PairsStandAlways = (b : Boot) (es : List Step) (pt : Point) (m n : ℕ) → Lead
 -- wherever the rule leads without a migration, each address names the home of its process, and each message stands where its
 -- receiver is at home
 abbrev pub LeadHomeAlways : Type 0
-LeadHomeAlways = (b : Boot) (es : List Step) (pt : Point) → IsValid b → Leads b (first_point b) es pt → Homes pt
+LeadHomeAlways = (b : Boot) (es : List Step) (pt : Point) → IsValid b → AreStill es → Leads b (first_point b) es pt → Homes pt
+
+-- wherever the rule leads, the first put of each message told what it is
+abbrev pub TellsRightAlways : Type 0
+TellsRightAlways = (b : Boot) (es : List Step) (pt : Point) → IsValid b → Leads b (first_point b) es pt → TellsRight pt
+
+-- wherever the rule leads, each process has a phase: what every machine knows of it, and which one message of its migration is
+-- under way and where
+abbrev pub PhasesAlways : Type 0
+PhasesAlways = (b : Boot) (es : List Step) (pt : Point) (p : Pid) → IsValid b → Leads b (first_point b) es pt → (phase : Phase) × IsIn pt.view p phase × (is_due phase ≡ false)
+
+-- wherever the rule leads, the next group has no label of a process that moves, and leaves its plain value
+abbrev pub MovingStaysAlways : Type 0
+MovingStaysAlways =
+    (b : Boot) (es : List Step) (pt : Point) (d : Step) (w : Spelled) (p : Pid) (k : MessageKind) (source destination : ℕ) (id : Option MsgId) → IsValid b → Leads b (first_point b) es pt → group_of b pt d ≡ Some w
+    → IsIn pt.view p (Moves k source destination id) → AllSpare pt.kernel p w.lines × (w.point.kernel.processes p ≡ pt.kernel.processes p)

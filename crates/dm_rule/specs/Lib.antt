@@ -4,11 +4,16 @@ pub mod Addresses
 pub mod Point
 pub mod Spots
 pub mod Parts
+pub mod Migrating
 pub mod Rule
 pub mod Pairs
 pub mod Quiet
+pub mod Phases
+pub mod Tells
+pub mod Trails
 pub mod Homes
 pub mod Good
 pub mod Worn
 pub mod Ends
 pub mod Laws
+pub mod Apart

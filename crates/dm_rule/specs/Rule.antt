@@ -5,6 +5,8 @@ use Rattle.std.specs.declared.option.Option.TheVariants.{None, Some}
 use Rattle.dm_link.specs.declared.Pid.{Pid}
 use Rattle.dm_link.specs.Names.{pid_of, pid_eq}
 use Rattle.dm_message.specs.declared.MsgId.{MsgId}
+use Rattle.dm_message.specs.Kinds.{plain_kind}
+use Rattle.dm_message.specs.declared.kind.MessageKind.{MessageKind}
 use Rattle.dm_message.specs.Plain as what
 use Rattle.dm_message.specs.Plain.{PlainMessage, PlainWhat}
 use Rattle.dm_process.specs.Mail.{on_mask}
@@ -33,9 +35,11 @@ use Rattle.dm_rule.specs.declared.line.Line.{Line}
 use Rattle.dm_rule.specs.declared.line.Line.TheVariants as line
 use Rattle.dm_rule.specs.declared.line.Load.{Load}
 use Rattle.dm_rule.specs.declared.line.Load.TheVariants as load
-use Rattle.dm_rule.specs.View.{View, Pair, Sent, Known, Unknown, Here, Frozen, Incoming, Forward, Ended}
+use Rattle.dm_rule.specs.View.{View, Pair, Sent, Told, About, NothingElse, Target, Of, Known, Unknown, Here, Frozen, Incoming, Forward, Ended}
+use Rattle.dm_rule.specs.View as view
 use Rattle.dm_rule.specs.Point.{Point, after_line}
 use Rattle.dm_rule.specs.Parts.{Part, Says, Routes, Transmits, Spelled, spelled, window}
+use Rattle.dm_rule.specs.Migrating.{forwards_on, kernel_told, server_told, process_told, migrates}
 
 abbrev pub says : Label → Part
 says l = Says (line.Label l)
@@ -235,13 +239,13 @@ ended_handles id what.NoRoom = None
 ended_handles id (what.Move machine) = None
 ended_handles id (what.Moved outcome) = None
 
--- by what the machine knows of the receiver; what migration adds has its rows with migration
+-- by what the machine knows of the receiver
 abbrev pub process_handles : Point → ℕ → MsgId → PlainMessage → Known → Option (List Part)
 process_handles pt m id msg Unknown = None
 process_handles pt m id msg Here = bind (kernel.alive (pt.kernel.processes msg.to)) (λ x. here_handles pt m id msg x msg.what)
-process_handles pt m id msg (Frozen to) = None
-process_handles pt m id msg (Incoming from) = None
-process_handles pt m id msg (Forward at moves) = None
+process_handles pt m id msg (Frozen to) = Some (Says (line.Held id) ∷ [])
+process_handles pt m id msg (Incoming from) = Some (Says (line.Held id) ∷ [])
+process_handles pt m id msg (Forward at moves) = Some (forwards_on pt.addresses id (plain_kind msg.what) msg.sender at)
 process_handles pt m id msg Ended = ended_handles id msg.what
 
 -- the receiver is a kernel, a server or a process
@@ -252,9 +256,33 @@ handles b pt m id msg =
     else if pid_eq msg.to manager then manager_took id (manage.takes pt.kernel.manager pt.kernel.machines (length pt.kernel.images) msg msg.what)
     else process_handles pt m id msg (pt.view.known m msg.to)
 
+-- what a kernel's own message says of a process to another kernel
+abbrev pub fits : Room → ℕ → Bool × ℕ × ℕ
+fits r blocks = (has_room r blocks, r.slots, r.blocks)
+
+abbrev pub kernel_hears : Boot → Point → ℕ → MsgId → MessageKind → About → Option (List Part)
+kernel_hears b pt m id k NothingElse = None
+kernel_hears b pt m id k (Target to) = None
+kernel_hears b pt m id k (Of p) =
+    bind (kernel.alive (pt.kernel.processes p)) (λ x. kernel_told pt m id p (fits (free_room b pt m) (length x.memory / 256)) x k)
+kernel_hears b pt m id k (view.Place p at moves) = None
+
+-- a message that isn't in the bag is a kernel's own: what its first put told of it
+abbrev pub hears : Boot → Point → ℕ → MsgId → Option Told → Option (List Part)
+hears b pt m id None = None
+hears b pt m id (Some t) =
+    if t.receiver.num == 0 then kernel_hears b pt m id t.kind t.about
+    else if pid_eq t.receiver switchboard then server_told pt id t t.kind
+    else if pid_eq t.receiver manager then server_told pt id t t.kind
+    else process_told pt m id t (pt.view.known m t.receiver)
+
+abbrev pub comes_to : Boot → Point → ℕ → MsgId → Option PlainMessage → Option (List Part)
+comes_to b pt m id None = hears b pt m id (pt.view.told id)
+comes_to b pt m id (Some msg) = handles b pt m id msg
+
 abbrev pub turns : Boot → Point → ℕ → List MsgId → Option (List Part)
 turns b pt m [] = goes_round b pt m (first_runnable pt.kernel (pt.view.queue m) (pt.view.ring m))
-turns b pt m (i ∷ is) = bind (pt.kernel.bag i) (handles b pt m i)
+turns b pt m (i ∷ is) = comes_to b pt m i (pt.kernel.bag i)
 
 -- the numbers from n on, so many
 abbrev pub numbers_from : ℕ → ℕ → List ℕ
@@ -318,7 +346,7 @@ abbrev pub outcome : Boot → Point → Step → Option (List Part)
 outcome b pt (step.Turn m) = turns b pt m (pt.view.inbox m)
 outcome b pt (step.Tick m) = Some (Says (line.Resent m (outstanding pt.view m pt.kernel.machines)) ∷ resends pt.view m pt.kernel.machines)
 outcome b pt (step.Deliver a c k) = Some (arrives a c (pt.view.pair a c) (pt.view.pair c a) (slice_get (pt.view.pair a c).wire k))
-outcome b pt (step.Migrate p m) = None
+outcome b pt (step.Migrate p m) = Some (migrates pt p)
 
 -- the group of a directive, and where it leads: its head, then what follows
 abbrev pub headed : Line → Spelled → Spelled

@@ -1,11 +1,11 @@
 -- Where a message stands, and that it stands in one place.
-use Rattle.std.specs.Prelude.{◌≡◌, ◌≢◌, ℕ, ◌+◌, if◌then◌else◌, List, [], ◌∷◌, drop}
+use Rattle.std.specs.Prelude.{◌≡◌, ◌≢◌, ◌⊎◌, ℕ, ◌+◌, Bool, true, false, if◌then◌else◌, List, [], ◌∷◌, drop}
 use Rattle.std.specs.declared.option.Option.{Option}
 use Rattle.std.specs.declared.option.Option.TheVariants.{None, Some}
 use Rattle.dm_link.specs.declared.Pid.{Pid}
 use Rattle.dm_message.specs.declared.MsgId.{MsgId}
 use Rattle.dm_message.specs.Ids.{id_eq}
-use Rattle.dm_rule.specs.View.{View, Pair}
+use Rattle.dm_rule.specs.View.{View, Pair, is_kernels}
 
 -- the lists that messages stand in
 pub data Spot : Type 0 where
@@ -39,7 +39,16 @@ StandsOnce f = (spot : Spot) × (f spot ≡ 1) × ((other : Spot) → other ≢ 
 abbrev pub StandsNowhere : (Spot → ℕ) → Type 0
 StandsNowhere f = (spot : Spot) → f spot ≡ 0
 
--- a message that is in the bag stands in one place, and one that isn't stands nowhere
+-- a message that is there stands in one place, and one that isn't stands nowhere
 abbrev pub StandsAsBag : {M : Type 0} → Option M → (Spot → ℕ) → Type 0
 StandsAsBag None f = StandsNowhere f
 StandsAsBag (Some m) f = StandsOnce f
+
+-- a message of the bag stands in one place; one that isn't in the bag stands nowhere, but a kernel's own in at most one place
+abbrev pub StandsOutside : Bool → (Spot → ℕ) → Type 0
+StandsOutside true f = StandsNowhere f ⊎ StandsOnce f
+StandsOutside false f = StandsNowhere f
+
+abbrev pub StandsRight : {M : Type 0} → MsgId → Option M → (Spot → ℕ) → Type 0
+StandsRight id None f = StandsOutside (is_kernels id) f
+StandsRight id (Some m) f = StandsOnce f

@@ -3,10 +3,11 @@ use Rattle.std.specs.Prelude.{ℕ, ◌+◌, Bool, true, false, not, ◌==◌, �
 use Rattle.std.specs.declared.option.Option.{Option}
 use Rattle.std.specs.declared.option.Option.TheVariants.{None, Some}
 use Rattle.dm_link.specs.declared.Pid.{Pid}
-use Rattle.dm_link.specs.Names.{pid_eq}
+use Rattle.dm_link.specs.Names.{pid_of, pid_eq}
 use Rattle.dm_message.specs.declared.MsgId.{MsgId}
 use Rattle.dm_message.specs.declared.kind.MessageKind.{MessageKind}
 use Rattle.dm_message.specs.declared.kind.MessageKind.TheVariants as kind
+use Rattle.dm_message.specs.Ids.{id_of}
 use Rattle.dm_onekernel.specs.declared.boot.BootProcess.{BootProcess}
 use Rattle.dm_onekernel.specs.declared.boot.Boot.{Boot}
 use Rattle.dm_onekernel.specs.Boot.{switchboard, manager}
@@ -72,11 +73,16 @@ pub record View : Type 0 where
   pub known : ℕ → Pid → Known
   pub queue : ℕ → Pid → List MsgId
   pub held : ℕ → Pid → List MsgId
-  -- how often a process has moved
+  -- how often a process has moved, and how many pieces of it have been asked for since it was last accepted
   pub moves : Pid → ℕ
+  pub asked : Pid → ℕ
   pub told : MsgId → Option Told
   -- what the outcome line of this group was about
   pub topic : About
+
+-- the next message of the acting machine's kernel
+abbrev pub own_id : View → MsgId
+own_id v = id_of (pid_of v.acting 0) (v.count v.acting)
 
 -- the message at the front of the acting machine's inbox goes
 abbrev pub handled : View → MsgId → View
@@ -163,9 +169,13 @@ abbrev pub first_told : Option Told → Told → Told
 first_told None t = t
 first_told (Some s) t = s
 
--- a kernel's own message is counted when it is first routed
+-- a kernel's own message, and no answer
+abbrev pub is_kernels : MsgId → Bool
+is_kernels id = (id.from.num == 0) && not id.answer
+
+-- it is counted when it is first routed
 abbrev pub is_own : MsgId → Option Told → Bool
-is_own id None = (id.from.num == 0) && not id.answer
+is_own id None = is_kernels id
 is_own id (Some t) = false
 
 abbrev pub after_put : View → ℕ → ℕ → MsgId → MessageKind → Pid → View
@@ -282,17 +292,56 @@ gone_to (Incoming from) moves = Incoming from
 gone_to (Forward at old) moves = Forward at old
 gone_to Ended moves = Ended
 
-abbrev pub about_of : Option Told → About
-about_of None = NothingElse
-about_of (Some t) = t.about
+-- one more piece of a process is asked for
+abbrev pub asking : View → Pid → ℕ → View
+asking v p n = record v { asked = at_pid v.asked p n }
+
+abbrev pub asks_on : View → About → View
+asks_on v NothingElse = v
+asks_on v (Target m) = v
+asks_on v (Of p) = asking v p (v.asked p + 1)
+asks_on v (Place p at moves) = v
+
+-- a piece that isn't the last is followed by the next
+abbrev pub follows_up : View → About → MessageKind → View
+follows_up v a kind.State = asks_on v a
+follows_up v a kind.Memory = asks_on v a
+follows_up v a kind.PullState = v
+follows_up v a kind.PullBlock = v
+follows_up v a kind.User = v
+follows_up v a kind.Stop = v
+follows_up v a kind.Resume = v
+follows_up v a kind.Kill = v
+follows_up v a kind.Read = v
+follows_up v a kind.Write = v
+follows_up v a kind.Block = v
+follows_up v a kind.Written = v
+follows_up v a kind.Gone = v
+follows_up v a kind.Create = v
+follows_up v a kind.Created = v
+follows_up v a kind.NoRoom = v
+follows_up v a kind.Migrate = v
+follows_up v a kind.Update = v
+follows_up v a kind.Ask = v
+follows_up v a kind.Refuse = v
+follows_up v a kind.AllTaken = v
+follows_up v a kind.Restart = v
+follows_up v a kind.Move = v
+follows_up v a kind.Moved = v
+follows_up v a kind.CallOff = v
+follows_up v a kind.Bury = v
+
+abbrev pub after_proto : View → Option Told → View
+after_proto v None = about v NothingElse
+after_proto v (Some t) = about (follows_up v t.about t.kind) t.about
 
 -- steps of migrations: 1, 3, 4, 5 and 8 handle the message at the front
 abbrev pub after_stage : View → Pid → Stage → View
 after_stage v p stage.Frozen =
     about (with_ring (knowing (handled_first v) p (Frozen (target_of (front_told v (v.inbox v.acting))))) (without p (v.ring v.acting))) (Of p)
 after_stage v p stage.Asked = v
-after_stage v p stage.Accepted = about (knowing (handled_first v) p (Incoming (front_of (v.inbox v.acting)))) (Of p)
-after_stage v p stage.StateTaken = about (handled_first v) (Of p)
+after_stage v p stage.Accepted = about (asking (knowing (handled_first v) p (Incoming (front_of (v.inbox v.acting)))) p 1) (Of p)
+after_stage v p stage.StateTaken = about (asking (handled_first v) p (v.asked p + 1)) (Of p)
 after_stage v p stage.MemoryTaken = about (handled_first v) (Of p)
 after_stage v p stage.Left = about (knowing v p (gone_to (v.known v.acting p) (v.moves p + 1))) (Of p)
 after_stage v p stage.Restarted = record (rejoins (handled_first v) p) { moves = at_pid v.moves p (v.moves p + 1) }
@@ -321,7 +370,7 @@ view_after v (line.Lacks p s b) = about (handled_first v) (Of p)
 view_after v (line.Stays p) = rejoins (handled_first v) p
 view_after v (line.Here id) = handled v id
 view_after v (line.NoMove id) = handled v id
-view_after v (line.Proto id) = about (handled v id) (about_of (v.told id))
+view_after v (line.Proto id) = after_proto (handled v id) (v.told id)
 view_after v (line.NoChild p) = v
 view_after v (line.Pinned p) = v
 view_after v (line.End e) = v
@@ -352,6 +401,7 @@ first_view b =
       queue = λ m p. [];
       held = λ m p. [];
       moves = λ p. 0;
+      asked = λ p. 0;
       told = λ i. None;
       topic = NothingElse;
     }

@@ -1,8 +1,9 @@
 //! What holds wherever the rule leads, whoever ran by it.
-ghost use Rattle.dm_rule.specs.Laws.{StandsOnceAlways, PairsStandAlways, LeadHomeAlways};
+ghost use Rattle.dm_rule.specs.Laws.{StandsOnceAlways, PairsStandAlways, LeadHomeAlways, TellsRightAlways, PhasesAlways, MovingStaysAlways};
 
 /// Wherever the rule leads from a boot file, each message that the kernel without machines holds stands exactly once
-/// among the queues, held lists, inboxes and streams of the printed lines, and no other stands there.
+/// among the queues, held lists, inboxes and streams of the printed lines, a kernel's own message at most once, and no other
+/// stands there.
 pub fn stands_once_always()
     ensures { StandsOnceAlways }
 {}
@@ -13,8 +14,27 @@ pub fn pairs_stand_always()
     ensures { PairsStandAlways }
 {}
 
-/// Wherever the rule leads from a boot file, and nothing moves yet, each link, each message and each name of the servers
+/// Wherever the rule leads from a boot file without a directive to migrate, each link, each message and each name of the servers
 /// names its process's home, and each queued, routed or received message stands where its receiver is at home.
 pub fn lead_home_always()
     ensures { LeadHomeAlways }
+{}
+
+/// Wherever the rule leads from a boot file, the lines have told of each message that the kernel without machines holds, once it
+/// was put, its kind and its receiver; and what kernels tell each other of migrations is named as their own.
+pub fn tells_right_always()
+    ensures { TellsRightAlways }
+{}
+
+/// Wherever the rule leads from a boot file, migrations included, each process has a phase: it was never made, it rests on one
+/// machine, it has ended on one, or it moves from one to another. The phase says what every machine knows of the process, and
+/// which one message of its migration is under way, from whom, and where it stands; no other message of it stands anywhere.
+pub fn phases_always()
+    ensures { PhasesAlways }
+{}
+
+/// Wherever the rule leads from a boot file, while a process moves no group has a label of it: it doesn't run, call, send, wait,
+/// print, end or receive, no message for it is served, and its plain value stays as it is.
+pub fn moving_stays_always()
+    ensures { MovingStaysAlways }
 {}

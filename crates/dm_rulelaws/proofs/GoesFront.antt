@@ -1,6 +1,5 @@
 -- The message at the front of the inbox: what it is for whom.
-use Rattle.std.proofs.Common.{List, ◌∷◌}
-use Rattle.std.proofs.Common.{◌≡◌, ℕ, ◌+◌, ◌==◌, ◌||◌, Bool, true, false, length, refl, ap, ◌∙◌, sym, subst, is_some, arith}
+use Rattle.std.proofs.Common.{◌≡◌, ℕ, ◌+◌, ◌≤◌, ◌==◌, ◌||◌, Bool, true, false, List, ◌∷◌, length, refl, ap, ◌∙◌, sym, subst, is_some, arith}
 use Rattle.std.specs.declared.option.Option.{Option}
 use Rattle.std.specs.declared.option.Option.TheVariants.{None, Some}
 use Rattle.std.proofs.lemmas.Bool.Decides.{nat_tests}
@@ -22,41 +21,78 @@ use Rattle.dm_schedule.specs.declared.Step.TheVariants as directive
 use Rattle.dm_rule.specs.declared.line.Line.TheVariants as line
 use Rattle.dm_rule.specs.Point.{Point, moved}
 use Rattle.dm_rule.specs.Rule as rule
-use Rattle.dm_rule.specs.Spots.{times}
-use Rattle.dm_rule.specs.View.{View, Told, handled}
+use Rattle.dm_rule.specs.Spots.{Inbox, times, standing}
+use Rattle.dm_rule.specs.View.{View, Told}
 use Rattle.dm_rule.specs.View as view
+use Rattle.dm_rule.proofs.Telling.{Sane}
 use Rattle.dm_rulelaws.specs.Fits.{has_bytes, is_server, awaits, WhatFits}
-use Rattle.dm_rulelaws.proofs.SeenPoint.{Seen}
+use Rattle.dm_rulelaws.specs.Found.{is_fixed}
+use Rattle.dm_rulelaws.proofs.Runs.{Run}
+use Rattle.dm_rulelaws.proofs.GoesParts.{Does, does_nothing, does_route, sane_by, Can}
+use Rattle.dm_rule.specs.Homes.{are_home}
+use Rattle.dm_rule.specs.Parts.{Part}
+use Rattle.dm_rule.proofs.HomesLabels.{is_still}
 use Rattle.dm_rulelaws.proofs.OrderMoves.{Last}
-use Rattle.dm_rulelaws.proofs.SeenParts.{Does, does_nothing, does_route}
 use Rattle.dm_rulelaws.proofs.GoesTurns.{Droppable}
 
 -- behind the head of a turn
 abbrev pub begun : Point → ℕ → Point
 begun o m = moved o (line.Head (directive.Turn m)) o.kernel
 
+-- nothing has moved: on this machine nothing moves now, what it has is at home here, and no message is a kernel's own
+pub record Calm (m : ℕ) (o : Point) : Type 0 where
+  pub known : (p : Pid) → is_still (o.view.known m p) ≡ true
+  pub ring : are_home m (o.view.ring m) ≡ true
+  pub front : (i : MsgId) (is : List MsgId) (x : PlainMessage) → o.view.inbox m ≡ i ∷ is → o.kernel.bag i ≡ Some x → x.to.home ≡ m
+  pub none : (i : MsgId) (is : List MsgId) → o.view.inbox m ≡ i ∷ is → o.kernel.bag i ≡ None → ⊥
+
+-- a turn in a run where nothing moves
+abbrev pub CanTurn : ℕ → Point → Option (List Part) → Type 0
+CanTurn m o ps = Can (Calm m o) m (begun o m) ps
+
+pub begun_sane : (o : Point) (m : ℕ) → Sane o → Sane (begun o m)
+begun_sane o m s = sane_by o (line.Head (directive.Turn m)) o.kernel refl refl s
+
 pub record Front (b : Boot) (m : ℕ) (o : Point) (i : MsgId) (x : PlainMessage) : Type 0 where
   pub rest : List MsgId
   pub box : o.view.inbox m ≡ i ∷ rest
   pub there : o.kernel.bag i ≡ Some x
-  pub home : x.to.home ≡ m
   pub told : Told
   pub told_is : o.view.told i ≡ Some told
+  pub first : 1 ≤ standing o.view i (Inbox m)
   pub unqueued : (n : ℕ) (p : Pid) → times i (o.view.queue n p) ≡ 0
   pub drops : (q : Pid) → Droppable o.kernel q (o.view.queue m q)
-  pub seen : Seen b m (begun o m)
+  pub run : Run b o
+
+pub sane_of : (b : Boot) (m : ℕ) (o : Point) (i : MsgId) (x : PlainMessage) → Front b m o i x → Sane o
+sane_of b m o i x f = f.run.based.phased.sane
+
+pub made_of : (b : Boot) (m : ℕ) (o : Point) (i : MsgId) (x : PlainMessage) → Front b m o i x → Made o.kernel
+made_of b m o i x f = f.run.based.phased.sane.sound.made
 
 pub name_of : (b : Boot) (m : ℕ) (o : Point) (i : MsgId) (x : PlainMessage) → Front b m o i x → x.id ≡ i
-name_of b m o i x f = f.seen.sound.entered.named i x f.there
+name_of b m o i x f = f.run.based.phased.sane.sound.entered.named i x f.there
 
 pub fits_of : (b : Boot) (m : ℕ) (o : Point) (i : MsgId) (x : PlainMessage) (w : PlainWhat) → x.what ≡ w → Front b m o i x → WhatFits o.kernel i x w
-fits_of b m o i x w is f = subst (WhatFits o.kernel i x) is (f.seen.fits.messages i x f.there)
+fits_of b m o i x w is f = subst (WhatFits o.kernel i x) is (f.run.based.fits.messages i x f.there)
+
+-- what was told of it
+pub told_kind : (b : Boot) (m : ℕ) (o : Point) (i : MsgId) (x : PlainMessage) (f : Front b m o i x) → f.told.kind ≡ plain_kind x.what
+told_kind b m o i x f = (sane_of b m o i x f).tells.kind i x f.told f.there f.told_is
+
+pub told_receiver : (b : Boot) (m : ℕ) (o : Point) (i : MsgId) (x : PlainMessage) (f : Front b m o i x) → f.told.receiver ≡ x.to
+told_receiver b m o i x f = (sane_of b m o i x f).tells.receiver i x f.told f.there f.told_is
+
+-- a kernel or a server is at home here
+pub home_of : (b : Boot) (m : ℕ) (o : Point) (i : MsgId) (x : PlainMessage) → is_fixed x.to ≡ true → Front b m o i x → x.to.home ≡ m
+home_of b m o i x fixed f =
+    let to = told_receiver b m o i x f in
+    sym (ap (λ (q : Pid). q.home) to) ∙ sym (f.run.found.fixed i (Inbox m) f.told f.first f.told_is (ap is_fixed to ∙ fixed))
 
 -- what the view does with a served message of this kind
 pub served_is : (b : Boot) (m : ℕ) (o : Point) (i : MsgId) (x : PlainMessage) (v : View) (w : PlainWhat) → x.what ≡ w → Front b m o i x → view.served_told v (o.view.told i) ≡ view.kills (plain_kind w) v (Some x.to)
 served_is b m o i x v w is f =
-    let k = f.seen.tells i x f.told f.there f.told_is in
-    ap (view.served_told v) f.told_is ∙ ap (λ c. view.kills c v (Some f.told.receiver)) (k.0 ∙ ap plain_kind is) ∙ ap (λ p. view.kills (plain_kind w) v (Some p)) k.1
+    ap (view.served_told v) f.told_is ∙ ap (λ c. view.kills c v (Some f.told.receiver)) (told_kind b m o i x f ∙ ap plain_kind is) ∙ ap (λ p. view.kills (plain_kind w) v (Some p)) (told_receiver b m o i x f)
 
 -- processes are numbered from 3
 some_of : (n : ℕ) (l : Option Life) → has_bytes n l ≡ true → is_some l ≡ true
@@ -127,9 +163,9 @@ pub answer_there : (u : OneKernel) (i : MsgId) (x : PlainMessage) (w : PlainWhat
 answer_there u i x w name = sent_at u (answer_to x w) (answer_id i) (ap (λ (j : MsgId). id_eq (answer_id j) (answer_id i)) name ∙ id_eq-same (answer_id i))
 
 -- a server's message, if there is one
-pub does_routes : (b : Boot) (m : ℕ) (pt : Point) (k : Option PlainMessage) → ((x : PlainMessage) → k ≡ Some x → pt.kernel.bag x.id ≡ Some x) → ((x : PlainMessage) → k ≡ Some x → Last pt.kernel pt.view x.id) → Seen b m pt → Does b m pt (rule.routes k)
-does_routes b m pt None there last h = does_nothing b m pt h
-does_routes b m pt (Some x) there last h = does_route b m pt x.id x (there x refl) (λ user. last x refl) h
+pub does_routes : (C : Type 0) (pt : Point) (k : Option PlainMessage) → ((x : PlainMessage) → k ≡ Some x → pt.kernel.bag x.id ≡ Some x) → ((x : PlainMessage) → k ≡ Some x → C → Sane pt → Last pt.kernel pt.view x.id) → Does C pt (rule.routes k)
+does_routes C pt None there last = does_nothing C pt
+does_routes C pt (Some x) there last = does_route C pt x.id x (there x refl) (λ c s user. last x refl c s)
 
 pub sent_there : (u : OneKernel) (k : Option PlainMessage) (x : PlainMessage) → k ≡ Some x → (with_sent u k).bag x.id ≡ Some x
 sent_there u None x e = cc

@@ -1,5 +1,5 @@
 -- Messages of one sender to one process on one channel stand in the order in which they were sent: each line keeps it.
-use Rattle.std.proofs.Common.{◌≡◌, ℕ, zero, suc, ◌≤◌, ◌<◌, ◌==◌, ◌&&◌, Bool, true, false, not, List, [], ◌∷◌, ◌++◌, refl, ap, ◌∙◌, sym, subst, is_some, nat_lt, arith}
+use Rattle.std.proofs.Common.{◌≡◌, ℕ, suc, ◌+◌, ◌≤◌, ◌<◌, ◌==◌, ◌&&◌, Bool, true, false, not, List, [], ◌∷◌, ◌++◌, refl, ap, ◌∙◌, sym, subst, is_some, is_none, nat_lt, arith}
 use Rattle.std.specs.Prelude.{if◌then◌else◌}
 use Rattle.std.specs.declared.option.Option.{Option}
 use Rattle.std.specs.declared.option.Option.TheVariants.{None, Some}
@@ -11,7 +11,6 @@ use Rattle.dm_message.specs.declared.MsgId.{MsgId}
 use Rattle.dm_message.specs.Ids.{id_of}
 use Rattle.dm_message.specs.Plain as what
 use Rattle.dm_message.specs.Plain.{PlainMessage, PlainWhat}
-use Rattle.dm_onekernel.specs.declared.boot.Boot.{Boot}
 use Rattle.dm_onekernel.specs.declared.label.Label.{Label}
 use Rattle.dm_onekernel.specs.declared.label.Label.TheVariants as label
 use Rattle.dm_onekernel.specs.Boot.{switchboard, manager}
@@ -28,7 +27,12 @@ use Rattle.dm_rule.specs.Point.{Point}
 use Rattle.dm_rule.proofs.Turns.{served_keeps}
 use Rattle.dm_rulelaws.specs.Fits.{Each}
 use Rattle.dm_rulelaws.proofs.FitsRises.{Each-on}
-use Rattle.dm_rulelaws.proofs.SeenPoint.{is_user, Seen, was_there, queue_at}
+use Rattle.dm_rule.specs.View.{is_kernels}
+use Rattle.dm_rule.proofs.Letters.{not_kernels}
+use Rattle.dm_rule.proofs.Telling.{Sane}
+use Rattle.dm_laws.proofs.Equal.{pid_eq-is}
+use Rattle.dm_laws.specs.Laws.{entry, reception}
+use Rattle.dm_rulelaws.proofs.Queued.{is_user}
 use Rattle.dm_rulelaws.proofs.OrderLists.{ordered, context, fewer, Each-both, Thins, thins_same, thins_front, thins_without}
 
 -- messages from one to another on a channel, from a number on
@@ -176,6 +180,17 @@ thin_handled q v i = thin_same q v (handled v i) refl (handled_thin v i q.to.hom
 pub box_same : (v : View) (n : ℕ) → Thins (v.inbox n) (v.inbox n)
 box_same v n = thins_same (v.inbox n) (v.inbox n) refl
 
+pub queue_at : (f : ℕ → Pid → List MsgId) (a n : ℕ) (p q : Pid) (xs : List MsgId) (T : List MsgId → Type 0) → (a ≡ n → p ≡ q → T xs) → T (f n q) → T (at_record f a p xs n q)
+queue_at f a n p q xs T here there = picked ((a == n) && pid_eq p q) (λ e. here (let g : (a == n) ≡ true = (two_of (a == n) (pid_eq p q) e).0 in let k : a ≡ n = grind (arith, nat_tests) in k) (pid_eq-is p q (two_of (a == n) (pid_eq p q) e).1))
+  where
+    two_of : (c d : Bool) → (c && d) ≡ true → (c ≡ true) × (d ≡ true)
+    two_of true d e = (refl, e)
+    two_of false d e = cc
+
+    picked : (c : Bool) → (c ≡ true → T xs) → T (if c then xs else f n q)
+    picked true h = h refl
+    picked false h = there
+
 queue_thin : (v : View) (p : Pid) (xs : List MsgId) (n : ℕ) (r : Pid) → Thins xs (v.queue v.acting p) → Thins (at_record v.queue v.acting p xs n r) (v.queue n r)
 queue_thin v p xs n r t = queue_at v.queue v.acting n p r xs (λ (ys : List MsgId). Thins ys (v.queue n r)) (λ at is. subst (λ k. Thins xs (v.queue k r)) at (subst (λ (k : Pid). Thins xs (v.queue v.acting k)) is t)) (thins_same (v.queue n r) (v.queue n r) refl)
 
@@ -216,12 +231,23 @@ thin_label q v (label.Took id) = thin_handled q v id
 thin_label q v (label.Created id p) = thin_same q v (after_label v (label.Created id p)) refl (handled_thin v id q.to.home) (λ a. refl) (λ j. refl)
 thin_label q v (label.NoSpace id f b) = thin_handled q v id
 
-pub told_entered : (e : ℕ) (o : Option Told) → (e ≡ 0 → o ≡ None) → is_some o ≡ true → 1 ≤ e
-told_entered zero o f h = absurd (false≢true (sym (ap is_some (f refl)) ∙ h))
-told_entered (suc e) o f h = omega arith
+-- what was told of and is in the bag behind a step was there before
+came_from : (a b : Option PlainMessage) (e : ℕ) (x : PlainMessage) → e + (if is_none a && is_some b then 1 else 0) ≤ 1 → b ≡ Some x → ((y : PlainMessage) → a ≡ Some y → y ≡ x) → (e ≡ 0 → a ≡ Some x) → a ≡ Some x
+came_from (Some y) b e x once there same none = ap Some (same y refl)
+came_from None None e x once there same none = cc
+came_from None (Some z) e x once there same none = none (omega (arith, once))
 
-pub ord_label : (q : Which) (b : Boot) (m : ℕ) (pt : Point) (l : Label) (t : OneKernel) → Seen b m pt → kernel.step pt.kernel l ≡ Some t → Ord q pt.kernel pt.view → Ord q t (after_label pt.view l)
-ord_label q b m pt l t h step o =
+untold_not : (o : Option Told) → o ≡ None → is_some o ≡ true → false ≡ true
+untold_not o e h = sym (ap is_some e) ∙ h
+
+pub was_told : (pt : Point) (l : Label) (t : OneKernel) (h : Sane pt) → kernel.step pt.kernel l ≡ Some t → (i : MsgId) (x : PlainMessage) → is_told pt.view i ≡ true → t.bag i ≡ Some x → pt.kernel.bag i ≡ Some x
+was_told pt l t h is i x told there =
+    let a = after_step h.r h.e pt.kernel t l is h.sound in
+    came_from (pt.kernel.bag i) (t.bag i) (h.e i) x (a.sound.entered.once i) there (λ y was. a.only i y x was there)
+    (λ zero_. absurd (false≢true (untold_not (pt.view.told i) (h.untold i zero_ (not_kernels (λ j. h.r j + reception j l) (λ j. h.e j + entry j pt.kernel t) t i x there a.sound)) told)))
+
+pub ord_label : (q : Which) (pt : Point) (l : Label) (t : OneKernel) → Sane pt → kernel.step pt.kernel l ≡ Some t → Ord q pt.kernel pt.view → Ord q t (after_label pt.view l)
+ord_label q pt l t h step o =
     let a = after_step h.r h.e pt.kernel t l step h.sound in
     ord_view q t pt.view (after_label pt.view l) (thin_label q pt.view l)
-    (ord_step q pt.kernel t pt.view (λ i x told there. was_there h.r h.e pt.kernel t l i x a (told_entered (h.e i) (pt.view.told i) (h.untold i) told) there) (counts_grown pt.kernel t a.grown) o)
+    (ord_step q pt.kernel t pt.view (was_told pt l t h step) (counts_grown pt.kernel t a.grown) o)

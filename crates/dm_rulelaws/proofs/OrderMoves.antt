@@ -19,7 +19,7 @@ use Rattle.dm_rule.specs.Sets.{at_machine, at_pair}
 use Rattle.dm_rule.specs.Spots.{untaken}
 use Rattle.dm_rule.specs.View.{View, Pair}
 use Rattle.dm_rulelaws.proofs.FitsRises.{both, two, Each-on}
-use Rattle.dm_rulelaws.proofs.SeenPoint.{is_user}
+use Rattle.dm_rulelaws.proofs.Queued.{is_user}
 use Rattle.dm_rulelaws.proofs.OrderLists.{ordered, context, put_not, add_last}
 use Rattle.dm_rulelaws.proofs.OrderLines.{Which, on_channel, is_mine, is_one, is_told, awaiting, Ord, all_told}
 

@@ -17,7 +17,7 @@ use Rattle.dm_rule.specs.Spots.{untaken}
 use Rattle.dm_rule.specs.View.{View, Pair, Told, after_label, after_put, after_taken, handled}
 use Rattle.dm_rule.specs.View as view
 use Rattle.dm_rulelaws.specs.Fits.{Each}
-use Rattle.dm_rulelaws.proofs.SeenPoint.{is_user}
+use Rattle.dm_rulelaws.proofs.Queued.{is_user}
 use Rattle.dm_rulelaws.proofs.OrderLists.{context, Each-both, thins_same, drop_end}
 use Rattle.std.proofs.Common.{◌⊎◌}
 use Rattle.dm_message.specs.Kinds.{plain_kind}

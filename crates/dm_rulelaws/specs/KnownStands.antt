@@ -1,5 +1,5 @@
 -- What the lines say of processes, as the kernel without machines has them.
-use Rattle.std.specs.Prelude.{◌≡◌, ℕ, ◌+◌, ◌==◌, ◌&&◌, Bool, true, false, if◌then◌else◌, List, [], ◌∷◌}
+use Rattle.std.specs.Prelude.{◌≡◌, ◌≢◌, ℕ, ◌+◌, ◌==◌, Bool, true, false, if◌then◌else◌, is_some, List, [], ◌∷◌}
 use Rattle.std.specs.declared.option.Option.{Option}
 use Rattle.std.specs.declared.option.Option.TheVariants.{None, Some}
 use Rattle.dm_link.specs.declared.Pid.{Pid}
@@ -7,29 +7,44 @@ use Rattle.dm_link.specs.Names.{pid_eq}
 use Rattle.dm_onekernel.specs.Kernel.{Life, Alive, Ended, OneKernel}
 use Rattle.dm_rule.specs.View.{View, Known}
 use Rattle.dm_rule.specs.View as view
+use Rattle.dm_rule.specs.Phases.{is_here}
 use Rattle.dm_rulelaws.specs.Fits.{is_server}
 
--- what the home of a process knows of it
-abbrev pub known_of_life : Option Life → Known
-known_of_life None = view.Unknown
-known_of_life (Some (Alive x)) = view.Here
-known_of_life (Some (Ended because)) = view.Ended
+-- a process that a machine has, expects or holds back is alive, one that has ended there has ended, and one that was sent on from there was made
+abbrev pub agrees : Known → Option Life → Bool
+agrees view.Unknown o = true
+agrees view.Here (Some (Alive x)) = true
+agrees view.Here (Some (Ended because)) = false
+agrees view.Here None = false
+agrees (view.Frozen to) (Some (Alive x)) = true
+agrees (view.Frozen to) (Some (Ended because)) = false
+agrees (view.Frozen to) None = false
+agrees (view.Incoming from) (Some (Alive x)) = true
+agrees (view.Incoming from) (Some (Ended because)) = false
+agrees (view.Incoming from) None = false
+agrees (view.Forward at moves) (Some life) = true
+agrees (view.Forward at moves) None = false
+agrees view.Ended (Some (Alive x)) = false
+agrees view.Ended (Some (Ended because)) = true
+agrees view.Ended None = false
 
--- a machine knows the processes and servers whose home it is, and no others
-abbrev pub known_of : OneKernel → ℕ → Pid → Known
-known_of s m p = if p.home == m then (if is_server p then view.Here else known_of_life (s.processes p)) else view.Unknown
+-- the servers are on machine 0, and never move
+abbrev pub server_at : ℕ → Known
+server_at m = if m == 0 then view.Here else view.Unknown
 
 -- how often a process stands in a ring
 abbrev pub rings : Pid → List Pid → ℕ
 rings p [] = 0
 rings p (q ∷ qs) = (if pid_eq p q then 1 else 0) + rings p qs
 
-abbrev pub is_alive : Option Life → Bool
-is_alive None = false
-is_alive (Some (Alive x)) = true
-is_alive (Some (Ended because)) = false
+abbrev pub turns_here : Bool → Known → ℕ
+turns_here true k = 0
+turns_here false k = if is_here k then 1 else 0
 
--- each living process stands once in the ring of its home, and no other stands in a ring
+-- what each machine knows agrees with the kernel without machines; the home of a process that was made knows it; and a process
+-- stands once in the ring of the machine that has it, and in no other ring
 pub record KnownStands (s : OneKernel) (v : View) : Type 0 where
-  pub known : (m : ℕ) (p : Pid) → v.known m p ≡ known_of s m p
-  pub ring : (m : ℕ) (p : Pid) → rings p (v.ring m) ≡ (if (p.home == m) && is_alive (s.processes p) then 1 else 0)
+  pub server : (m : ℕ) (p : Pid) → is_server p ≡ true → v.known m p ≡ server_at m
+  pub agree : (m : ℕ) (p : Pid) → is_server p ≡ false → agrees (v.known m p) (s.processes p) ≡ true
+  pub home : (p : Pid) → is_server p ≡ false → is_some (s.processes p) ≡ true → v.known p.home p ≢ view.Unknown
+  pub ring : (m : ℕ) (p : Pid) → rings p (v.ring m) ≡ turns_here (is_server p) (v.known m p)

@@ -1,9 +1,8 @@
 -- What holds wherever the rule leads.
-use Rattle.std.specs.Prelude.{◌≡◌, ◌≤◌, ⊤, true, is_some, List, ◌++◌, length}
+use Rattle.std.specs.Prelude.{◌≡◌, ◌≤◌, true, is_some, List, ◌++◌, length}
 use Rattle.dm_onekernel.specs.declared.boot.Boot.{Boot}
 use Rattle.dm_onekernel.specs.Boot.{IsValid}
 use Rattle.dm_schedule.specs.declared.Step.{Step}
-use Rattle.dm_schedule.specs.declared.Step.TheVariants as step
 use Rattle.dm_rule.specs.declared.line.Line.{Line}
 use Rattle.dm_rule.specs.Good.{Todo, IsRun}
 use Rattle.dm_rule.specs.Point.{Point, first_point}
@@ -12,25 +11,18 @@ use Rattle.dm_rule.specs.Laws.{Leads, IsStep}
 use Rattle.dm_rulelaws.specs.Fits.{KernelFits}
 use Rattle.dm_rulelaws.specs.KnownStands.{KnownStands}
 
--- a directive that is no migration
-abbrev pub MovesNothing : Step → Type 0
-MovesNothing (step.Turn m) = ⊤
-MovesNothing (step.Tick m) = ⊤
-MovesNothing (step.Deliver a b k) = ⊤
-MovesNothing (step.Migrate p m) = ⊥
-
--- wherever the rule leads, each directive but a migration has its group
+-- wherever the rule leads, each directive has its group
 abbrev pub GoesOnAlways : Type 0
 GoesOnAlways =
-    (b : Boot) (es : List Step) (pt : Point) (e : Step) → IsValid b → Leads b (first_point b) es pt → IsStep pt.kernel.machines e → MovesNothing e → is_some (group_of b pt e) ≡ true
+    (b : Boot) (es : List Step) (pt : Point) (e : Step) → IsValid b → Leads b (first_point b) es pt → IsStep pt.kernel.machines e → is_some (group_of b pt e) ≡ true
 
 -- wherever the rule leads, links lead somewhere, areas and data moves lie within memories, and each message of the kernel
 -- without machines is of a kind that its receiver can take
 abbrev pub FitsAlways : Type 0
 FitsAlways = (b : Boot) (es : List Step) (pt : Point) → IsValid b → Leads b (first_point b) es pt → KernelFits pt.kernel
 
--- wherever the rule leads, each machine knows the processes of its home as the kernel without machines has them, and its
--- ring has each living one of them once
+-- wherever the rule leads, what each machine knows of processes agrees with the kernel without machines, and a process stands
+-- once in the ring of the machine that has it, and in no other ring
 abbrev pub KnownAlways : Type 0
 KnownAlways = (b : Boot) (es : List Step) (pt : Point) → IsValid b → Leads b (first_point b) es pt → KnownStands pt.kernel pt.view
 

@@ -1,4 +1,5 @@
 pub mod Fits
 pub mod KnownStands
+pub mod Found
 pub mod Order
 pub mod Laws

@@ -1,22 +1,10 @@
 //! What holds wherever the rule leads, whoever ran by it.
-ghost use Rattle.dm_rulelaws.specs.Order.{ReceivesInOrder};
-ghost use Rattle.dm_rulelaws.specs.Laws.{FitsAlways, GoesOnAlways, KnownAlways, RuleDecides, ShorterBegins};
-
-/// Wherever the rule leads from a boot file, each directive but a migration has its group.
-pub fn goes_on_always()
-    ensures { GoesOnAlways }
-{}
+ghost use Rattle.dm_rulelaws.specs.Laws.{FitsAlways, RuleDecides, ShorterBegins};
 
 /// Wherever the rule leads from a boot file, each link leads to a server or to a process whose memory has its area, each
 /// data move lies within both memories, and each message is of a kind that its receiver can take.
 pub fn fits_always()
     ensures { FitsAlways }
-{}
-
-/// Wherever the rule leads from a boot file, each machine knows the processes of its home as the kernel without machines
-/// has them, and its ring has each living one of them once.
-pub fn known_always()
-    ensures { KnownAlways }
 {}
 
 /// The rule decides what is printed: from one place, with the same left to do, two runs of as many groups say the same and
@@ -29,10 +17,4 @@ pub fn rule_decides()
 /// goes on from there.
 pub fn shorter_begins()
     ensures { ShorterBegins }
-{}
-
-/// Wherever the rule leads from a boot file, and nothing moves, of the messages that one process or server sent, those that a
-/// process receives on one channel are received in the order in which they were sent.
-pub fn receives_in_order()
-    ensures { ReceivesInOrder }
 {}

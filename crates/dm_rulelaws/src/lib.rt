@@ -1,4 +1,4 @@
-//! What holds wherever the rule of several machines leads: each directive but a migration has its group, and what the
+//! What holds wherever the rule of several machines leads: each directive has its group, and what the
 //! kernel without machines and the printed lines say of processes and messages agrees.
 #![tactic(auto)]
 

@@ -1,5 +1,5 @@
 -- A directive touches one machine, and puts packets on that machine's wires alone.
-use Rattle.std.proofs.Common.{◌≡◌, ◌≢◌, ℕ, zero, suc, ◌<◌, Bool, true, false, ◌==◌, List, [], ◌∷◌, length, refl, sym, ap, subst, ◌∙◌, inl, inr}
+use Rattle.std.proofs.Common.{◌≡◌, ◌≢◌, ℕ, zero, suc, ◌<◌, ◌≤◌, Bool, true, false, ◌==◌, List, [], ◌∷◌, length, refl, sym, ap, subst, ◌∙◌, inl, inr, arith}
 use Rattle.std.specs.Prelude.{Result, ⊤, if◌then◌else◌, ◌&&◌, map}
 use Rattle.std.specs.List.{All}
 use Rattle.std.specs.declared.option.Option.{Option}
@@ -29,7 +29,7 @@ use Rattle.dm_node.specs.May.{MayArrive}
 use Rattle.dm_node.specs.Out.{Acted, Acts, Goes, Worn}
 use Rattle.dm_node.specs.State.{NodeState, here}
 use Rattle.dm_node.specs.Wired.{spoken, with_packet}
-use Rattle.dm_node.proofs.Sends.{arrives_lawfully, ticks_lawfully, turns_lawfully}
+use Rattle.dm_node.proofs.Sends.{arrives_lawfully, asks_lawfully, ticks_lawfully, turns_lawfully}
 use Rattle.dm_world.specs.Local.{ActsAlone, acts_on, bytes_of}
 use Rattle.dm_world.specs.May.{MayDeliver, MayRead, MayStep}
 use Rattle.dm_world.specs.Meets.{MeetsSome}
@@ -117,15 +117,19 @@ delivers_alone w e a c k (Some bytes) h may =
     marked_alone w a c k c (reads (record w { wires = after_mark w.wires a c k }) e a c (packet_of bytes))
     (reads_alone (record w { wires = after_mark w.wires a c k }) e a c (packet_of bytes) h (marked_read w a c k (packet_of bytes) may))
 
-step_alone : (b : Boot) (w : WorldState) (e : Step) → images_are_valid b.images ≡ true → ((m : ℕ) → m < length b.machines → here (w.nodes m) ≡ m) → MayStep b w e
+step_alone : (b : Boot) (w : WorldState) (e : Step) → images_are_valid b.images ≡ true → length b.machines ≤ 16 → ((m : ℕ) → m < length b.machines → here (w.nodes m) ≡ m) → MayStep b w e
     → AloneIn (acts_on e) w (world_step b w e)
-step_alone b w (step.Turn m) images h may =
+step_alone b w (step.Turn m) images few h may =
     turned_alone w (step.Turn m) m (node.turn b (w.nodes m))
     (λ a e. subst (λ k. ActsLawfully k a) (h m may.0) (turns_lawfully b (w.nodes m) a images may.1 may.2 e))
-step_alone b w (step.Tick m) images h may =
+step_alone b w (step.Tick m) images few h may =
     acted_alone w (step.Tick m) m (node.tick (w.nodes m)) (subst (λ k. ActsLawfully k (node.tick (w.nodes m))) (h m may.0) (ticks_lawfully (w.nodes m) may.1))
-step_alone b w (step.Deliver a c k) images h may = delivers_alone w (step.Deliver a c k) a c k (bytes_at (w.wires a c) k) (h c may.1) may.3
-step_alone b w (step.Migrate p m) images h may = tt
+step_alone b w (step.Deliver a c k) images few h may = delivers_alone w (step.Deliver a c k) a c k (bytes_at (w.wires a c) k) (h c may.1) may.3
+step_alone b w (step.Migrate p m) images few h may =
+    let within : m < length b.machines = may.0 in
+    let some : 0 < length b.machines = omega (arith, within) in
+    let small : m ≤ 15 = omega (arith, within, few) in
+    turned_alone w (step.Migrate p m) 0 (node.asks_move (w.nodes 0) p m) (λ a e. subst (λ k. ActsLawfully k a) (h 0 some) (asks_lawfully (w.nodes 0) p m a small may.1 may.2 e))
 
 -- so is the world that the code comes to
 alone_met : (m : ℕ) (w s : WorldState) (lines : List Line) (o : Option Happened) → MeetsSome s lines o → AloneIn m w o → ActsAlone m w s
@@ -134,6 +138,6 @@ alone_met m w s lines (Some g) met h =
     let P : Happened → Type 0 = λ x. AloneIn m w (Some x) in
     subst P (sym met.happened) h
 
-pub alone : (b : Boot) (w s : WorldState) (e : Step) (lines : List Line) → images_are_valid b.images ≡ true → ((m : ℕ) → m < length b.machines → here (w.nodes m) ≡ m) → MayStep b w e
+pub alone : (b : Boot) (w s : WorldState) (e : Step) (lines : List Line) → images_are_valid b.images ≡ true → length b.machines ≤ 16 → ((m : ℕ) → m < length b.machines → here (w.nodes m) ≡ m) → MayStep b w e
     → MeetsSome s lines (world_step b w e) → ActsAlone (acts_on e) w s
-alone b w s e lines images h may met = alone_met (acts_on e) w s lines (world_step b w e) met (step_alone b w e images h may)
+alone b w s e lines images few h may met = alone_met (acts_on e) w s lines (world_step b w e) met (step_alone b w e images few h may)

@@ -1,5 +1,5 @@
 -- What is left of a list from a place on, bytes up to the last that isn't 0, and the first machine that says something.
-use Rattle.std.proofs.Common.{◌≡◌, ℕ, zero, suc, ◌+◌, ◌<◌, ◌≤◌, Bool, true, false, ◌==◌, if◌then◌else◌, List, [], ◌∷◌, ◌++◌, length, take, drop, get_or, refl, sym, ap, subst, ◌∙◌, inl, inr, arith, append_assoc, drop-cons}
+use Rattle.std.proofs.Common.{◌≡◌, ℕ, zero, suc, ◌+◌, ◌<◌, ◌≤◌, Bool, true, false, ◌==◌, if◌then◌else◌, List, [], ◌∷◌, ◌++◌, length, take, drop, get_or, refl, sym, ap, subst, ◌∙◌, inl, inr, arith, append-nil, append_assoc, drop-cons}
 use Rattle.std.proofs.Math.Seq.{take-suc}
 use Rattle.std.specs.Prelude.{slice_get}
 use Rattle.std.specs.List.{All}
@@ -95,3 +95,20 @@ not_found f m said None mid new none is no_ says_ =
     let next : m + 1 ≡ suc m = omega arith in
     (ap (first_says f) next ∙ ap (λ o. or o (f m)) none ∙ sym is, says_.1)
 not_found f m said (Some ls) mid new none is no_ says_ = cc
+
+-- machine m is the first, and so it is said whether there is one
+pub found_some : (f : ℕ → Option (List Line)) (m n : ℕ) (said : Bool) (o : Option (List Line)) (old mid new : List Line) → first_says f m ≡ None → m < n → o ≡ f m → said ≡ true → mid ≡ old
+    → SaysSome said mid new o → SaysSome true old new (first_says f n)
+found_some f m n said None old mid new none h is yes_ same says_ = cc
+found_some f m n said (Some ls) old mid new none h is yes_ same says_ =
+    subst (SaysSome true old new) (sym (first_stays f m n ls h none is)) (refl, says_.1 ∙ ap (λ l. l ++ ls) same)
+
+-- what the first of two says, or else the second
+pub said_first : (said : Bool) (o q : Option (List Line)) (old new : List Line) → said ≡ true → SaysSome said old new o → new ≡ old ++ lines_in (or o q)
+said_first said None q old new is h = let no_ = h.0 in cc
+said_first said (Some ls) q old new is h = h.1
+
+pub said_second : (said also : Bool) (o q : Option (List Line)) (old mid new : List Line) → said ≡ false → SaysSome said old mid o → SaysSome also mid new q → new ≡ old ++ lines_in (or o q)
+said_second said also None None old mid new is h g = g.1 ∙ h.1 ∙ sym (append-nil old)
+said_second said also None (Some ls) old mid new is h g = g.1 ∙ ap (λ l. l ++ ls) h.1
+said_second said also (Some ls) q old mid new is h g = let yes_ = h.0 in cc

@@ -206,6 +206,12 @@ all_opened b nodes h m =
       | inr r ↦ node_past b nodes m r.1
     ]
 
--- there is a machine
+-- there is a machine, and there are at most 16
 pub some_machine : (w : World) → IsWorld w → 0 < length w.boot.machines
 some_machine w h = leb-true 1 (length w.boot.machines) h.valid.some_machines
+
+pub few_machines : (w : World) → IsWorld w → length w.boot.machines ≤ 16
+few_machines w h = leb-true (length w.boot.machines) 16 h.valid.few_machines
+
+pub small : (m : ℕ) → m < 16 → m ≤ 15
+small m h = omega (arith, h)

@@ -9,16 +9,21 @@ use Rattle.dm_link.specs.declared.Addr.{Addr}
 use Rattle.dm_message.specs.declared.Message.{Message}
 use Rattle.dm_message.specs.declared.MsgId.{MsgId}
 use Rattle.dm_message.specs.Ids.{id_of}
+use Rattle.dm_regs.specs.declared.registers.Regs.{Regs}
 use Rattle.dm_process.specs.declared.process.Process.{Process}
 use Rattle.dm_process.specs.declared.process.Status.{Status}
 use Rattle.dm_process.specs.declared.process.Status.TheVariants as status
 use Rattle.dm_forward.specs.declared.record.Record.TheVariants.{Here, Frozen, Incoming, Forward, Ended}
+use Rattle.dm_migrate.specs.Arrival.{Arrival, restarted}
+use Rattle.dm_migrate.specs.declared.arriving.Wanted.{Wanted}
+use Rattle.dm_migrate.specs.declared.arriving.Wanted.TheVariants.{Chunk, Block, Nothing}
 use Rattle.dm_switchboard.specs.Board.{Named}
 use Rattle.dm_switchboard.specs.Lawful.{IsLawfulBoard}
 use Rattle.dm_procman.specs.declared.pending.Pending.{Pending}
 use Rattle.dm_onekernel.specs.Boot.{first_number, switchboard, manager}
 use Rattle.dm_rule.specs.declared.line.Line.{Line}
 use Rattle.dm_rule.specs.declared.line.EndLine.TheVariants as end
+use Rattle.dm_rule.specs.declared.line.Standing.{Standing}
 use Rattle.dm_rule.specs.declared.line.Standing.TheVariants as standing
 use Rattle.dm_rule.specs.declared.line.Doing.{Doing}
 use Rattle.dm_rule.specs.declared.line.Doing.TheVariants as doing
@@ -41,20 +46,43 @@ abbrev pub link_lines : Pid → ℕ → List (Option Link) → List Line
 link_lines p k [] = []
 link_lines p k (l ∷ ls) = slot_line p k l ++ link_lines p (k + 1) ls
 
+abbrev pub parts_lines : Pid → Regs → List ℕ → List (Option Link) → List Line
+parts_lines p regs memory table = says (end.Registers p regs.r regs.pc) ∷ memory_lines p memory (length memory / 256) ++ link_lines p 0 table
+
 abbrev pub state_lines : Pid → Process → List Line
-state_lines p x = says (end.Registers p x.regs.r x.regs.pc) ∷ memory_lines p x.memory (length x.memory / 256) ++ link_lines p 0 x.table
+state_lines p x = parts_lines p x.regs x.memory x.table
 
-abbrev pub here_lines : ℕ → Pid → Process → List Line
-here_lines m p x = says (end.Process p m standing.Here (doing_of x.status) x.stopped x.sent) ∷ state_lines p x
+-- a process that stands so on machine m
+abbrev pub alive_lines : ℕ → Pid → Standing → Process → List Line
+alive_lines m p s x = says (end.Process p m s (doing_of x.status) x.stopped x.sent) ∷ state_lines p x
 
--- what a machine says of a process, by what it knows of it; what migration adds has its rows with migration
+-- what a machine says of a process that is here, leaves or has ended there
 abbrev pub record_lines : ℕ → Pid → Option Known → Option (List Line)
 record_lines m p None = None
-record_lines m p (Some (Here x)) = Some (here_lines m p x)
-record_lines m p (Some (Frozen leaving)) = None
+record_lines m p (Some (Here x)) = Some (alive_lines m p standing.Here x)
+record_lines m p (Some (Frozen leaving)) = Some (alive_lines m p standing.Leaving leaving.process)
 record_lines m p (Some (Incoming arriving)) = None
 record_lines m p (Some (Forward machine moves)) = None
 record_lines m p (Some (Ended y)) = Some (says (end.Ended p y) ∷ [])
+
+-- a process that comes is what its pieces make, once all of them have come
+abbrev pub come_whole : Arrival → Wanted → Option Process
+come_whole a (Chunk k) = None
+come_whole a (Block k) = None
+come_whole a Nothing = restarted a
+
+abbrev pub come_lines : ℕ → Pid → Option Process → Option (List Line)
+come_lines m p None = None
+come_lines m p (Some x) = Some (alive_lines m p standing.Arriving x)
+
+-- what a machine says of a process that it awaits
+abbrev pub awaited_lines : ℕ → Pid → Option Known → Option (List Line)
+awaited_lines m p None = None
+awaited_lines m p (Some (Here x)) = None
+awaited_lines m p (Some (Frozen leaving)) = None
+awaited_lines m p (Some (Incoming arriving)) = come_lines m p (come_whole arriving arriving.wanted)
+awaited_lines m p (Some (Forward machine moves)) = None
+awaited_lines m p (Some (Ended y)) = None
 
 abbrev pub names_of : List Message → List MsgId
 names_of ms = map (λ (m : Message). m.id) ms
@@ -62,10 +90,22 @@ names_of ms = map (λ (m : Message). m.id) ms
 abbrev pub record_queue : Pid → Option Known → Option (List Line)
 record_queue p None = None
 record_queue p (Some (Here x)) = Some (list_line (end.Queue p) (names_of x.queue))
-record_queue p (Some (Frozen leaving)) = None
+record_queue p (Some (Frozen leaving)) = Some (list_line (end.Queue p) (names_of leaving.process.queue))
 record_queue p (Some (Incoming arriving)) = None
 record_queue p (Some (Forward machine moves)) = None
 record_queue p (Some (Ended y)) = None
+
+-- the messages that a machine holds for a process that leaves or comes
+abbrev pub held_for : Option Known → List Message
+held_for None = []
+held_for (Some (Here x)) = []
+held_for (Some (Frozen leaving)) = leaving.held
+held_for (Some (Incoming arriving)) = arriving.held
+held_for (Some (Forward machine moves)) = []
+held_for (Some (Ended y)) = []
+
+abbrev pub held_line : WorldState → ℕ → Pid → List Line
+held_line w m p = list_line (end.Holding m p) (names_of (held_for ((w.nodes m).kernel.records p)))
 
 -- the first of n machines that says something of it
 abbrev pub first_says : (ℕ → Option (List Line)) → ℕ → Option (List Line)
@@ -76,8 +116,15 @@ abbrev pub lines_in : Option (List Line) → List Line
 lines_in None = []
 lines_in (Some ls) = ls
 
+abbrev pub first_had : ℕ → WorldState → Pid → Option (List Line)
+first_had machines w p = first_says (λ m. record_lines m p ((w.nodes m).kernel.records p)) machines
+
+abbrev pub first_awaited : ℕ → WorldState → Pid → Option (List Line)
+first_awaited machines w p = first_says (λ m. awaited_lines m p ((w.nodes m).kernel.records p)) machines
+
+-- a process is here, leaves or has ended, or else it arrives
 abbrev pub process_lines : ℕ → WorldState → Pid → List Line
-process_lines machines w p = lines_in (first_says (λ m. record_lines m p ((w.nodes m).kernel.records p)) machines)
+process_lines machines w p = lines_in (or (first_had machines w p) (first_awaited machines w p))
 
 abbrev pub queue_of : ℕ → WorldState → Pid → List Line
 queue_of machines w p = lines_in (first_says (λ m. record_queue p ((w.nodes m).kernel.records p)) machines)
@@ -123,6 +170,7 @@ end_lines machines w =
     ∷ homes_with w (process_lines machines w) machines
     ++ server_lines (w.nodes 0).kernel.servers
     ++ homes_with w (queue_of machines w) machines
+    ++ each_machine (λ m. homes_with w (held_line w m) machines) machines
     ++ each_machine (λ m. list_line (end.Inbox m) (names_of (w.nodes m).kernel.inbox)) machines
     ++ each_machine (λ a. each_machine (λ c. stream_line w a c) machines) machines
     ++ says (end.Groups w.groups)

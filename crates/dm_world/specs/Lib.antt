@@ -6,3 +6,4 @@ pub mod Meets
 pub mod Local
 pub mod Cursor
 pub mod Readable
+pub mod Whole

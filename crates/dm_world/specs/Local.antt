@@ -10,7 +10,7 @@ abbrev pub acts_on : Step → ℕ
 acts_on (step.Turn m) = m
 acts_on (step.Tick m) = m
 acts_on (step.Deliver a c k) = c
-acts_on (step.Migrate p m) = m
+acts_on (step.Migrate p m) = 0
 
 abbrev pub bytes_of : Sent → List ℕ
 bytes_of p = p.bytes

@@ -30,10 +30,9 @@ abbrev pub MayDeliver : WorldState → ℕ → ℕ → Option (List ℕ) → Typ
 MayDeliver w a c None = ⊤
 MayDeliver w a c (Some bytes) = MayRead w a c (packet_of bytes)
 
--- the machines of the directive are machines of the boot file, and the machine that acts may do so; migrations have their
--- row with migration
+-- the machines of the directive are machines of the boot file, and the machine that acts may do so
 abbrev pub MayStep : Boot → WorldState → Step → Type 0
 MayStep b w (step.Turn m) = (m < length b.machines) × node.MayTurn b (w.nodes m) × IsLawfulState (w.nodes m).kernel
 MayStep b w (step.Tick m) = (m < length b.machines) × node.MayAct (w.nodes m)
 MayStep b w (step.Deliver a c k) = (a < length b.machines) × (c < length b.machines) × (a ≢ c) × MayDeliver w a c (bytes_at (w.wires a c) k)
-MayStep b w (step.Migrate p m) = ⊥
+MayStep b w (step.Migrate p m) = (m < length b.machines) × node.MayAskMove (w.nodes 0) × IsLawfulState (w.nodes 0).kernel

@@ -64,12 +64,12 @@ abbrev pub delivers : WorldState → Step → ℕ → ℕ → ℕ → Option (Li
 delivers w e a c k None = Some (Says (record { state = record w { groups = w.groups + 1 }; lines = line.Head e ∷ line.Nothing ∷ [] }))
 delivers w e a c k (Some bytes) = reads (record w { wires = after_mark w.wires a c k }) e a c (packet_of bytes)
 
--- an elementary directive, a row each; migrations have theirs with migration
+-- an elementary directive, a row each; the manager, which tells a process to move, is on machine 0
 abbrev pub world_step : Boot → WorldState → Step → Option Happened
 world_step b w (step.Turn m) = turned w (step.Turn m) m (node.turn b (w.nodes m))
 world_step b w (step.Tick m) = Some (Says (acted w (step.Tick m) m (node.tick (w.nodes m))))
 world_step b w (step.Deliver a c k) = delivers w (step.Deliver a c k) a c k (bytes_at (w.wires a c) k)
-world_step b w (step.Migrate p m) = None
+world_step b w (step.Migrate p m) = turned w (step.Migrate p m) 0 (node.asks_move (w.nodes 0) p m)
 
 -- the world as the boot file has it
 abbrev pub first_world : Boot → WorldState

@@ -5,21 +5,24 @@ ghost use Rattle.dm_node.specs.Meets as node;
 ghost use Rattle.dm_node.specs.Meets.{HasStreams};
 ghost use Rattle.dm_rule.specs.Ends.{each_machine, home_with, list_line};
 ghost use Rattle.dm_rule.specs.declared.line.EndLine.TheVariants as end;
-ghost use Rattle.dm_world.specs.Ends.{MayEnd, SaysSome, end_lines, homes_with, names_of, process_lines, queue_of, record_lines, record_queue, stream_line};
+ghost use Rattle.dm_world.specs.Ends.{MayEnd, SaysSome, awaited_lines, end_lines, first_awaited, first_had, homes_with, names_of, process_lines, queue_of, record_lines, record_queue, stream_line};
 ghost use Rattle.dm_world.specs.Meets.{IsWorld, state_of};
 
 use crate::end_messages::{ids_of, untaken_ids};
-use crate::end_process::say_here;
+use crate::end_process::{say_alive, say_arriving};
 use crate::end_servers::say_servers;
 use crate::world::World;
 use dm_forward::Record;
 use dm_link::Pid;
+use dm_lists::Queue;
 use dm_memory::NoMemory;
+use dm_message::Message;
 use dm_node::Node;
-use dm_rule::line::{EndLine, Line};
+use dm_rule::line::{EndLine, Line, Standing};
+use std::alloc::Global;
 
 /// The number of the first process that a machine makes.
-const FIRST_NUMBER: u32 = 3;
+pub(crate) const FIRST_NUMBER: u32 = 3;
 
 impl World {
     /// The lines at the end of a run: where everything stands then.
@@ -33,6 +36,7 @@ impl World {
         self.say_processes(&mut lines)?;
         say_servers(self.machine(0).kernel(), &mut lines)?;
         self.say_queues(&mut lines)?;
+        self.say_holding(&mut lines)?;
         self.say_inboxes(&mut lines)?;
         self.say_streams(&mut lines)?;
         lines.push(Line::End(EndLine::Groups(self.groups)))?;
@@ -40,7 +44,7 @@ impl World {
     }
 
     /// A machine.
-    fn machine(&self, m: u8) -> &Node
+    pub(crate) fn machine(&self, m: u8) -> &Node
         requires world { IsWorld self.now }
         requires within { m < length self.now.boot.machines }
         ensures state { node.state_of result.now ≡ (state_of self.now).nodes m }
@@ -50,7 +54,7 @@ impl World {
     }
 
     /// How many processes a machine made.
-    fn made(&self, home: u8) -> u32
+    pub(crate) fn made(&self, home: u8) -> u32
         requires world { IsWorld self.now }
         requires may { MayEnd (length self.now.boot.machines) (state_of self.now) }
         requires within { home < length self.now.boot.machines }
@@ -89,17 +93,42 @@ impl World {
         Ok(())
     }
 
-    /// The lines of a process, by the first machine that says something of it.
+    /// The lines of a process, by the first machine that has it, or else by the first that awaits it.
     fn say_process(&self, pid: Pid, lines: &mut Vec<Line>) -> Result<(), NoMemory>
         requires { IsWorld self.now }
         ensures { OnOk result (lines.new.items ≡ lines.old.items ++ process_lines (length self.now.boot.machines) (state_of self.now) pid) }
     {
+        if self.say_had(pid, lines)? {
+            return Ok(());
+        }
+        self.say_awaited(pid, lines)?;
+        Ok(())
+    }
+
+    /// The lines of a process, by the first machine that has it; whether there is one.
+    fn say_had(&self, pid: Pid, lines: &mut Vec<Line>) -> Result<bool, NoMemory>
+        requires { IsWorld self.now }
+        ensures { IfOk result (λ said. SaysSome said lines.old.items lines.new.items (first_had (length self.now.boot.machines) (state_of self.now) pid)) }
+    {
         for m in 0..self.machines() {
             if say_known(self.machine(m), m, pid, lines)? {
-                return Ok(());
+                return Ok(true);
             }
         }
-        Ok(())
+        Ok(false)
+    }
+
+    /// The lines of a process, by the first machine that awaits it; whether there is one.
+    fn say_awaited(&self, pid: Pid, lines: &mut Vec<Line>) -> Result<bool, NoMemory>
+        requires { IsWorld self.now }
+        ensures { IfOk result (λ said. SaysSome said lines.old.items lines.new.items (first_awaited (length self.now.boot.machines) (state_of self.now) pid)) }
+    {
+        for m in 0..self.machines() {
+            if say_expected(self.machine(m), m, pid, lines)? {
+                return Ok(true);
+            }
+        }
+        Ok(false)
     }
 
     /// The queue of each process that was ever made, by home and by number.
@@ -202,7 +231,11 @@ fn say_known(node: &Node, m: u8, pid: Pid, lines: &mut Vec<Line>) -> Result<bool
 {
     match node.kernel().records().get(pid) {
         Some(Record::Here(process)) => {
-            say_here(m, pid, process, lines)?;
+            say_alive(m, pid, Standing::Here, process, lines)?;
+            Ok(true)
+        }
+        Some(Record::Frozen(leaving)) => {
+            say_alive(m, pid, Standing::Leaving, leaving.process(), lines)?;
             Ok(true)
         }
         Some(Record::Ended(why)) => {
@@ -219,12 +252,39 @@ fn say_known_queue(node: &Node, pid: Pid, lines: &mut Vec<Line>) -> Result<bool,
 {
     match node.kernel().records().get(pid) {
         Some(Record::Here(process)) => {
-            let ids = ids_of(node.alloc(), &process.queue)?;
-            if ids.len() > 0 {
-                lines.push(Line::End(EndLine::Queue { pid, ids }))?;
-            }
+            say_messages(node.alloc(), pid, &process.queue, lines)?;
             Ok(true)
         }
+        Some(Record::Frozen(leaving)) => {
+            say_messages(node.alloc(), pid, &leaving.process().queue, lines)?;
+            Ok(true)
+        }
+        _ => Ok(false),
+    }
+}
+
+/// The queue of a process.
+fn say_messages(
+    alloc: Global,
+    pid: Pid,
+    queue: &Queue<Message>,
+    lines: &mut Vec<Line>,
+) -> Result<(), NoMemory>
+    ensures { OnOk result (lines.new.items ≡ lines.old.items ++ list_line (end.Queue pid) (names_of queue.now)) }
+{
+    let ids = ids_of(alloc, queue)?;
+    if ids.len() > 0 {
+        lines.push(Line::End(EndLine::Queue { pid, ids }))?;
+    }
+    Ok(())
+}
+
+/// The lines of a process that comes to this machine; whether there are any.
+fn say_expected(node: &Node, m: u8, pid: Pid, lines: &mut Vec<Line>) -> Result<bool, NoMemory>
+    ensures { IfOk result (λ said. SaysSome said lines.old.items lines.new.items (awaited_lines m pid (at node.now.kernel.records pid))) }
+{
+    match node.kernel.records.get(pid) {
+        Some(Record::Incoming(arriving)) => say_arriving(m, pid, arriving, lines),
         _ => Ok(false),
     }
 }

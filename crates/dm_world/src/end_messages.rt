@@ -22,6 +22,17 @@ pub fn ids_of(alloc: Global, queue: &Queue<Message>) -> Result<Items<MsgId>, NoM
     Ok(ids)
 }
 
+/// The names of messages that are held, in order.
+pub fn ids_of_held(alloc: Global, messages: &[Message]) -> Result<Items<MsgId>, NoMemory>
+    ensures { IfOk result (λ ids. ids ≡ names_of messages.now) }
+{
+    let mut ids = Items::new(alloc);
+    for message in messages {
+        ids.push(message.id)?;
+    }
+    Ok(ids)
+}
+
 /// The names of the messages that machine `a` gave to its stream to machine `c`, and that `c` hasn't taken.
 pub fn untaken_ids(sender: &Node, receiver: &Node, a: u8, c: u8) -> Result<Items<MsgId>, NoMemory>
     requires sender { HasStreams sender.now }

@@ -1,35 +1,98 @@
 //! The lines of a process at the end of a run.
-ghost use Rattle.std.specs.Prelude.{◌≡◌, ◌≤◌, ◌++◌, ◌/◌, OnOk, length, take};
+ghost use Rattle.std.specs.Prelude.{◌≡◌, ◌≤◌, ◌++◌, ◌/◌, IfOk, OnOk, length, take};
 ghost use Rattle.dm_rule.specs.Ends.{block_line, memory_lines, trimmed};
-ghost use Rattle.dm_world.specs.Ends.{doing_of, here_lines, link_lines};
+ghost use Rattle.dm_rule.specs.declared.line.Standing.TheVariants as standing_;
+ghost use Rattle.dm_migrate.specs.Arrival.{revived};
+ghost use Rattle.dm_world.specs.Ends.{SaysSome, alive_lines, come_lines, come_whole, doing_of, link_lines, parts_lines};
 
 use arrayvec::ArrayVec;
+use dm_carry::Shell;
 use dm_link::Pid;
 use dm_linktable::Table;
 use dm_memory::NoMemory;
+use dm_migrate::{Arriving, Wanted};
 use dm_process::{Process, Status};
-use dm_regs::Memory;
+use dm_regs::{Memory, Regs};
 use dm_rule::line::{Doing, EndLine, Line, Standing};
 
-/// The lines of a process that is on machine `m`: how it stands there, its registers, its memory and its links.
-pub fn say_here(m: u8, pid: Pid, process: &Process, lines: &mut Vec<Line>) -> Result<(), NoMemory>
-    ensures { OnOk result (lines.new.items ≡ lines.old.items ++ here_lines m pid process.now) }
+/// The lines of a process that machine `m` has: how it stands there, its registers, its memory and its links.
+pub fn say_alive(
+    m: u8,
+    pid: Pid,
+    standing: Standing,
+    process: &Process,
+    lines: &mut Vec<Line>,
+) -> Result<(), NoMemory>
+    ensures { OnOk result (lines.new.items ≡ lines.old.items ++ alive_lines m pid standing process.now) }
 {
     lines.push(Line::End(EndLine::Process {
         pid,
         at: m,
-        standing: Standing::Here,
+        standing,
         doing: doing(process.status),
         stopped: process.stopped,
         sent: process.sent,
     }))?;
+    say_parts(pid, &process.regs, &process.memory, &process.table, lines)
+}
+
+/// The lines of a process that comes to machine `m`, if all of it has come; whether it has.
+pub fn say_arriving(
+    m: u8,
+    pid: Pid,
+    arriving: &Arriving,
+    lines: &mut Vec<Line>,
+) -> Result<bool, NoMemory>
+    ensures { IfOk result (λ said. SaysSome said lines.old.items lines.new.items (come_lines m pid (come_whole arriving.now arriving.now.wanted))) }
+{
+    match arriving.wanted() {
+        Wanted::Nothing => {
+            say_come(m, pid, &arriving.shell(), arriving.memory(), lines)?;
+            Ok(true)
+        }
+        Wanted::Chunk(_) => Ok(false),
+        Wanted::Block(_) => Ok(false),
+    }
+}
+
+/// The lines of a process that has come to machine `m` and isn't served yet.
+fn say_come(
+    m: u8,
+    pid: Pid,
+    shell: &Shell,
+    memory: &Memory,
+    lines: &mut Vec<Line>,
+) -> Result<(), NoMemory>
+    ensures { OnOk result (lines.new.items ≡ lines.old.items ++ alive_lines m pid standing_.Arriving (revived shell.now memory.now)) }
+{
+    lines.push(Line::End(EndLine::Process {
+        pid,
+        at: m,
+        standing: Standing::Arriving,
+        doing: doing(shell.status),
+        stopped: shell.stopped,
+        sent: shell.sent,
+    }))?;
+    say_parts(pid, &shell.regs, memory, &shell.table, lines)
+}
+
+/// The registers, the memory and the links.
+fn say_parts(
+    pid: Pid,
+    regs: &Regs,
+    memory: &Memory,
+    table: &Table,
+    lines: &mut Vec<Line>,
+) -> Result<(), NoMemory>
+    ensures { OnOk result (lines.new.items ≡ lines.old.items ++ parts_lines pid regs.now memory.now table.now) }
+{
     lines.push(Line::End(EndLine::Registers {
         pid,
-        r: process.regs.r,
-        pc: process.regs.pc,
+        r: regs.r,
+        pc: regs.pc,
     }))?;
-    say_memory(pid, &process.memory, lines)?;
-    say_links(pid, &process.table, lines)
+    say_memory(pid, memory, lines)?;
+    say_links(pid, table, lines)
 }
 
 /// What the lines say of a status: not which request is under way.

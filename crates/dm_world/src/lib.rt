@@ -2,6 +2,7 @@
 #![tactic(auto)]
 
 pub mod cursor;
+mod end_holding;
 mod end_lines;
 mod end_messages;
 mod end_process;

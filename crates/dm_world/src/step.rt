@@ -6,20 +6,24 @@ ghost use Rattle.dm_packet.specs.Packets.{packet_of};
 ghost use Rattle.dm_schedule.specs.declared.Step.TheVariants as directive;
 ghost use Rattle.dm_wire.specs.Sent.{bytes_at};
 ghost use Rattle.dm_wire.specs.Wire.{packets_on};
+ghost use Rattle.dm_kernel.specs.Carried.{FreezesWhole};
 ghost use Rattle.dm_kernel.specs.Lawful.{IsLawfulState};
 ghost use Rattle.dm_node.specs.Acts as node;
 ghost use Rattle.dm_node.specs.declared.out.Out.TheVariants as out;
-ghost use Rattle.dm_node.specs.May.{MayAct, MayArrivePacket, MayTurn};
+ghost use Rattle.dm_node.specs.May.{MayAct, MayArrivePacket, MayAskMove, MayTurn};
+ghost use Rattle.dm_node.specs.Meets.{OrNoMemory};
 ghost use Rattle.dm_node.specs.Wired.{spoken};
 ghost use Rattle.dm_rule.specs.declared.line.Line.TheVariants as line;
 ghost use Rattle.dm_world.specs.Local.{ActsAlone, acts_on};
 ghost use Rattle.dm_world.specs.May.{MayDeliver, MayStep};
 ghost use Rattle.dm_world.specs.Meets.{ActedAt, Answers, AreNodes, IsSendable, IsWorld, TurnAnswers, node_in, state_of};
 ghost use Rattle.dm_world.specs.Readable.{AreReadBack, gave};
+ghost use Rattle.dm_world.specs.Whole.{AreWhole};
 ghost use Rattle.dm_world.specs.World.{world_step};
 
 use crate::speak::speak;
 use crate::world::World;
+use dm_link::Pid;
 use dm_memory::NoMemory;
 use dm_node::{Node, Out, Stop};
 use dm_onekernel::Boot;
@@ -42,6 +46,8 @@ impl World {
         ensures world { OnOk result (IsWorld self.new) }
         ensures alone { OnOk result (ActsAlone (acts_on step.now) (state_of self.old) (state_of self.new)) }
         ensures again { OnOk result (AreReadBack (gave self.old.boot (state_of self.old) step.now)) }
+        // Where the machine's kernel froze a process, that one can be carried whole.
+        ensures whole { OrNoMemory result (AreWhole (state_of self.old) step.now) }
         ensures boot { self.new.boot ≡ self.old.boot }
         ensures running { OnOk result (self.new.stopped ≡ false) }
         ensures stopped { OnErr result (self.new.stopped ≡ true) }
@@ -63,6 +69,7 @@ impl World {
         ensures answers { Answers result (state_of self.new) (world_step self.old.boot (state_of self.old) step.now) }
         ensures world { OnOk result (IsWorld self.new) }
         ensures again { OnOk result (AreReadBack (gave self.old.boot (state_of self.old) step.now)) }
+        ensures whole { OrNoMemory result (AreWhole (state_of self.old) step.now) }
         ensures boot { self.new.boot ≡ self.old.boot }
         ensures stopped { self.new.stopped ≡ self.old.stopped }
     {
@@ -70,7 +77,7 @@ impl World {
             Step::Turn(m) => self.turn(m),
             Step::Tick(m) => self.tick(m),
             Step::Deliver { a, b, k } => self.deliver(a, b, k),
-            Step::Migrate { .. } => unreachable!(),
+            Step::Migrate { pid, to } => self.ask_move(pid, to),
         }
     }
 
@@ -82,11 +89,28 @@ impl World {
         ensures answers { Answers result (state_of self.new) (world_step self.old.boot (state_of self.old) (directive.Turn m)) }
         ensures world { OnOk result (IsWorld self.new) }
         ensures again { OnOk result (AreReadBack (gave self.old.boot (state_of self.old) (directive.Turn m))) }
+        ensures whole { OrNoMemory result (AreWhole (state_of self.old) (directive.Turn m)) }
         ensures boot { self.new.boot ≡ self.old.boot }
         ensures stopped { self.new.stopped ≡ self.old.stopped }
     {
         let outs = take_turn(self.alloc, &mut self.nodes, &self.boot, m)?;
         let lines = self.group(Step::Turn(m), outs)?;
+        Ok(lines)
+    }
+
+    /// The manager, on machine 0, is asked to have a process move.
+    fn ask_move(&mut self, pid: Pid, to: u8) -> Result<Vec<Line>, Stop>
+        requires world { IsWorld self.old }
+        requires may { MayStep self.old.boot (state_of self.old) (directive.Migrate pid to) }
+        requires groups { self.old.groups < 2 ^ 127 }
+        ensures answers { Answers result (state_of self.new) (world_step self.old.boot (state_of self.old) (directive.Migrate pid to)) }
+        ensures world { OnOk result (IsWorld self.new) }
+        ensures again { OnOk result (AreReadBack (gave self.old.boot (state_of self.old) (directive.Migrate pid to))) }
+        ensures boot { self.new.boot ≡ self.old.boot }
+        ensures stopped { self.new.stopped ≡ self.old.stopped }
+    {
+        let outs = ask_manager(self.alloc, &mut self.nodes, &self.boot, pid, to)?;
+        let lines = self.group(Step::Migrate { pid, to }, outs)?;
         Ok(lines)
     }
 
@@ -185,9 +209,33 @@ fn take_turn(alloc: Global, nodes: &mut [Node], boot: &Boot, m: u8) -> Result<Ve
     requires lawful { IsLawfulState (node_in boot.now nodes.old m).kernel }
     ensures answers { TurnAnswers result boot.now nodes.old nodes.new m (node.turn boot.now (node_in boot.now nodes.old m)) }
     ensures outs { IfOk result (λ outs. All IsSendable outs.items) }
+    ensures whole { OrNoMemory result (FreezesWhole (node_in boot.now nodes.old m).kernel (node_in boot.now nodes.old m).kernel.inbox) }
 {
     let mut outs = Vec::new(alloc);
     match nodes[usize::from(m)].turn(boot, &mut outs) {
+        Ok(()) => Ok(outs),
+        Err(stop) => Err(stop),
+    }
+}
+
+/// Machine 0 is asked to have a process move; what it gives.
+fn ask_manager(
+    alloc: Global,
+    nodes: &mut [Node],
+    boot: &Boot,
+    pid: Pid,
+    to: u8,
+) -> Result<Vec<Out>, Stop>
+    requires within { 0 < length nodes.old }
+    requires nodes { AreNodes nodes.old }
+    requires may { MayAskMove (node_in boot.now nodes.old 0) }
+    requires to { to < 16 }
+    requires lawful { IsLawfulState (node_in boot.now nodes.old 0).kernel }
+    ensures answers { TurnAnswers result boot.now nodes.old nodes.new 0 (node.asks_move (node_in boot.now nodes.old 0) pid to) }
+    ensures outs { IfOk result (λ outs. All IsSendable outs.items) }
+{
+    let mut outs = Vec::new(alloc);
+    match nodes[0].ask_move(pid, to, &mut outs) {
         Ok(()) => Ok(outs),
         Err(stop) => Err(stop),
     }

@@ -1,10 +1,11 @@
 use Rattle.std.proofs.Common.{sym, subst}
 use Rattle.std.specs.declared.result.Result.TheVariants.{Err}
+use Rattle.dm_kernel.specs.Carried.{FreezesWhole}
 use Rattle.dm_kernel.specs.Lawful.{IsLawfulState}
 use Rattle.dm_node.specs.Acts.{turn}
 use Rattle.dm_node.specs.Lawful.{ActsLawfully}
 use Rattle.dm_node.specs.May.{MayTurn}
-use Rattle.dm_node.specs.Meets.{AnswersSome, GaveSome}
+use Rattle.dm_node.specs.Meets.{AnswersSome, GaveSome, IfWorn}
 use Rattle.dm_node.proofs.Sends.{turns_lawfully}
 use Rattle.dm_world.specs.Meets.{node_in}
 use Rattle.dm_world.proofs.Nodes.{acted_some, here_at, is_node_at, node_at, stopped, turn_sendable}
@@ -27,7 +28,7 @@ returns-in-Ok-clause-answers c =
     let nodes = c.args.nodes.now in
     let n = node_in b nodes c.args.m in
     let same = node_at b nodes c.from.result c.args.m c.index-nodes-from.result c.from.ensures c.requires.within in
-    let gave = subst (λ s. GaveSome c.turn.new.self c.new-outs.result.items c.turn.new.outs.items (turn b s)) same c.in-Ok.ensures in
+    let gave = subst (λ s. GaveSome c.turn.new.self c.new-outs.result.items c.turn.new.outs.items (turn b s)) same c.in-Ok.ensures.answers in
     acted_some b nodes c.from.result c.args.m c.turn.new.self c.new-outs.result.items c.turn.new.outs.items (turn b n) c.from.ensures c.requires.within c.requires.nodes c.new-outs.ensures.items gave
     (λ a e. subst (λ k. ActsLawfully k a) (here_at b nodes c.args.m c.index-nodes-from.result c.requires.within c.requires.nodes)
     (turns_lawfully b n a c.requires.images c.requires.may c.requires.lawful e))
@@ -38,7 +39,7 @@ returns-in-Ok-clause-outs c =
     let nodes = c.args.nodes.now in
     let n = node_in b nodes c.args.m in
     let same = node_at b nodes c.from.result c.args.m c.index-nodes-from.result c.from.ensures c.requires.within in
-    let gave = subst (λ s. GaveSome c.turn.new.self c.new-outs.result.items c.turn.new.outs.items (turn b s)) same c.in-Ok.ensures in
+    let gave = subst (λ s. GaveSome c.turn.new.self c.new-outs.result.items c.turn.new.outs.items (turn b s)) same c.in-Ok.ensures.answers in
     turn_sendable c.args.m c.turn.new.self c.new-outs.result.items c.turn.new.outs.items (turn b n) c.new-outs.ensures.items gave
     (λ a e. subst (λ k. ActsLawfully k a) (here_at b nodes c.args.m c.index-nodes-from.result c.requires.within c.requires.nodes)
     (turns_lawfully b n a c.requires.images c.requires.may c.requires.lawful e))
@@ -49,5 +50,14 @@ returns-in-Err-clause-answers c =
     let nodes = c.args.nodes.now in
     let n = node_in b nodes c.args.m in
     let same = node_at b nodes c.from.result c.args.m c.index-nodes-from.result c.from.ensures c.requires.within in
-    let ended = subst (λ s. AnswersSome (Err c.in-Err.stop) c.turn.new.self c.new-outs.result.items c.turn.new.outs.items (turn b s)) same c.in-Err.ensures in
+    let ended = subst (λ s. AnswersSome (Err c.in-Err.stop) c.turn.new.self c.new-outs.result.items c.turn.new.outs.items (turn b s)) same c.in-Err.ensures.answers in
     stopped c.in-Err.stop b nodes _ c.args.m c.turn.new.self c.new-outs.result.items c.turn.new.outs.items (turn b n) ended
+
+pub returns-in-Ok-clause-whole : goal.returns-in-Ok-clause-whole
+returns-in-Ok-clause-whole c =
+    subst (λ n. FreezesWhole n.kernel n.kernel.inbox) (node_at c.args.boot.now c.args.nodes.now c.from.result c.args.m c.index-nodes-from.result c.from.ensures c.requires.within) c.in-Ok.ensures.whole
+
+pub returns-in-Err-clause-whole : goal.returns-in-Err-clause-whole
+returns-in-Err-clause-whole c =
+    subst (λ n. IfWorn c.in-Err.stop (FreezesWhole n.kernel n.kernel.inbox)) (node_at c.args.boot.now c.args.nodes.now c.from.result c.args.m c.index-nodes-from.result c.from.ensures c.requires.within)
+    c.in-Err.ensures.whole

@@ -1,17 +1,18 @@
-use Rattle.std.proofs.Common.{ℕ, ◌<◌, List, length, arith, ap}
-use Rattle.std.specs.declared.option.Option.{Option}
-use Rattle.dm_rule.specs.declared.line.Line.{Line}
-use Rattle.dm_node.specs.State.{NodeState}
-use Rattle.dm_world.specs.Ends.{record_lines}
+use Rattle.std.proofs.Common.{length}
+use Rattle.dm_world.specs.Ends.{first_awaited, first_had}
 use Rattle.dm_world.specs.Meets.{state_of}
-use Rattle.dm_world.proofs.Ending.{found}
+use Rattle.dm_world.proofs.Ending.{said_first, said_second}
 use Rattle.dm_world.proofs.world.World.say_process.Goals as goal
 
 pub returns-then-branch : goal.returns-then-branch
 returns-then-branch c =
-    let m = c.loop-m.m in
     let n = length c.args.self.now.boot.machines in
-    let f : ℕ → Option (List Line) = λ m. record_lines m c.args.pid (((state_of c.args.self.now).nodes m).kernel.records c.args.pid) in
-    let within : m < n = grind (arith, c.loop-m-test.true, c.machines-m-end.ensures.all) in
-    found f m n c.in_ok-say_known.field-0 _ c.args.lines.now.items c.loop-m.lines.items c.say_known.new.lines.items c.loop-m.invariant.none within
-    (ap (λ (s : NodeState). record_lines m c.args.pid (s.kernel.records c.args.pid)) c.machine.ensures.state) c.if-branch.true c.loop-m.invariant.same c.in_ok-say_known.ensures
+    let w = state_of c.args.self.now in
+    said_first c.in_ok-say_had.field-0 (first_had n w c.args.pid) (first_awaited n w c.args.pid) c.args.lines.now.items c.say_had.new.lines.items c.if-branch.true c.in_ok-say_had.ensures
+
+pub returns : goal.returns
+returns c =
+    let n = length c.args.self.now.boot.machines in
+    let w = state_of c.args.self.now in
+    said_second c.in_ok-say_had.field-0 c.in_ok-say_awaited.field-0 (first_had n w c.args.pid) (first_awaited n w c.args.pid) c.args.lines.now.items c.say_had.new.lines.items c.say_awaited.new.lines.items
+    c.if-branch.false c.in_ok-say_had.ensures c.in_ok-say_awaited.ensures

@@ -1,9 +1,9 @@
 use Rattle.dm_world.specs.Meets.{state_of}
 use Rattle.dm_world.proofs.Alone.{alone}
-use Rattle.dm_world.proofs.Nodes.{all_here}
+use Rattle.dm_world.proofs.Nodes.{all_here, few_machines}
 use Rattle.dm_world.proofs.world.World.step.Goals as goal
 
 pub returns-in-Ok-clause-alone : goal.returns-in-Ok-clause-alone
 returns-in-Ok-clause-alone c =
     let old = c.args.self.now in
-    alone old.boot (state_of old) (state_of c.act.new.self) c.args.step.now c.in-Ok.lines.items c.requires.world.valid.images (all_here old c.requires.world) c.requires.may c.in-Ok.ensures.answers
+    alone old.boot (state_of old) (state_of c.act.new.self) c.args.step.now c.in-Ok.lines.items c.requires.world.valid.images (few_machines old c.requires.world) (all_here old c.requires.world) c.requires.may c.in-Ok.ensures.answers

@@ -1,0 +1,86 @@
+-- What the one message of a migration that is under way carries: the ask, a piece that is asked for, or a piece.
+use Rattle.std.specs.Prelude.{◌≡◌, ⊤, ℕ, ◌+◌, ◌/◌, ◌≤◌, true, if◌then◌else◌, length}
+use Rattle.std.specs.declared.option.Option.{Option}
+use Rattle.std.specs.declared.option.Option.TheVariants.{None, Some}
+use Rattle.dm_link.specs.declared.Pid.{Pid}
+use Rattle.dm_linkupdate.specs.Notice.{kernel_at}
+use Rattle.dm_message.specs.declared.Message.{Message}
+use Rattle.dm_message.specs.declared.MsgId.{MsgId}
+use Rattle.dm_message.specs.declared.What.{What}
+use Rattle.dm_message.specs.declared.What.TheVariants as what
+use Rattle.dm_process.specs.declared.process.Process.{Process}
+use Rattle.dm_forward.specs.Records.{incoming_of}
+use Rattle.dm_migrate.specs.declared.arriving.Wanted.{Wanted}
+use Rattle.dm_migrate.specs.declared.arriving.Wanted.TheVariants.{Chunk, Block, Nothing}
+use Rattle.dm_migrate.specs.Arrival.{Arrival}
+use Rattle.dm_migrate.specs.Departure.{ask_of}
+use Rattle.dm_migrate.specs.Pieces.{HasBlock, HasChunk, block_of, chunk_of, state_of}
+use Rattle.dm_kernel.specs.State as machine
+use Rattle.dm_rule.specs.Phases.{is_between, is_of_source}
+use Rattle.dm_rule.specs.Spots.{Spot, standing}
+use Rattle.dm_rule.specs.View.{Of, Told, View}
+use Rattle.dm_placed.specs.Placed.{Placed}
+
+-- the chunks of a process's state
+abbrev pub chunks : Process → ℕ
+chunks x = (length (state_of x) + 511) / 512
+
+-- this is what is asked for once so many pieces were, and it is there
+abbrev pub IsAsked : Process → ℕ → Wanted → Type 0
+IsAsked x n (Chunk k) = (n ≡ k + 1) × HasChunk (state_of x) k
+IsAsked x n (Block k) = (n ≡ chunks x + k + 1) × HasBlock x.memory k
+IsAsked x n Nothing = ⊤
+
+-- where it comes to, this is asked for
+abbrev pub Wants : Option Arrival → Wanted → Type 0
+Wants None w = ⊥
+Wants (Some a) w = a.wanted ≡ w
+
+-- what the message carries, where so many pieces were asked for
+abbrev pub Carries : Pid → Process → ℕ → Option Arrival → What → Type 0
+Carries p x n a (what.Ask pid blocks moves size asker) = what.Ask pid blocks moves size asker ≡ ask_of x None
+Carries p x n a (what.Refuse pid slots blocks) = pid ≡ p
+Carries p x n a (what.PullState pid chunk) = (pid ≡ p) × IsAsked x n (Chunk chunk) × Wants a (Chunk chunk)
+Carries p x n a (what.State pid chunk last bytes) = (what.State pid chunk last bytes ≡ chunk_of x.pid (state_of x) chunk) × IsAsked x n (Chunk chunk) × Wants a (Chunk chunk)
+Carries p x n a (what.PullBlock pid block) = (pid ≡ p) × IsAsked x n (Block block) × Wants a (Block block)
+Carries p x n a (what.Memory pid block bytes) = (what.Memory pid block bytes ≡ block_of x.pid x.memory block) × IsAsked x n (Block block) × Wants a (Block block)
+Carries p x n a (what.AllTaken pid) = (pid ≡ p) × Wants a Nothing
+Carries p x n a (what.Restart pid) = (pid ≡ p) × Wants a Nothing
+Carries p x n a (what.Migrate machine) = ⊥
+Carries p x n a (what.Update about) = ⊥
+Carries p x n a (what.CallOff pid) = ⊥
+Carries p x n a (what.Bury pid) = ⊥
+Carries p x n a (what.User code channel body links) = ⊥
+Carries p x n a what.Stop = ⊥
+Carries p x n a what.Resume = ⊥
+Carries p x n a what.Kill = ⊥
+Carries p x n a (what.Read base len) = ⊥
+Carries p x n a (what.Write base bytes) = ⊥
+Carries p x n a (what.Block bytes) = ⊥
+Carries p x n a what.Written = ⊥
+Carries p x n a what.Gone = ⊥
+Carries p x n a (what.Create image links) = ⊥
+Carries p x n a (what.Created pid) = ⊥
+Carries p x n a what.NoRoom = ⊥
+Carries p x n a (what.Move machine) = ⊥
+Carries p x n a (what.Moved outcome) = ⊥
+
+-- the machine that the process comes to: the source's messages go there, and the others come from there
+abbrev pub destination_of : MsgId → Told → ℕ
+destination_of i t = if is_of_source t.kind then t.receiver.home else i.from.home
+
+-- what each machine knows of each process
+abbrev pub AllRecords : Type 0
+AllRecords = ℕ → Pid → Option machine.Known
+
+pub record TokenStands (v : View) (l : Placed) (records : AllRecords) (p : Pid) (i : MsgId) (t : Told) : Type 0 where
+  pub process : Process
+  pub there : l.processes p ≡ Some process
+  pub message : Message
+  pub is : l.bag i ≡ Some message
+  -- it comes from a kernel
+  pub sender : message.sender ≡ kernel_at i.from.home
+  pub carries : Carries p process (v.asked p) (incoming_of (records (destination_of i t) p)) message.what
+
+abbrev pub TokensStand : View → Placed → AllRecords → Type 0
+TokensStand v l records = (p : Pid) (i : MsgId) (t : Told) (z : Spot) → v.told i ≡ Some t → is_between t.kind ≡ true → t.about ≡ Of p → 1 ≤ standing v i z → TokenStands v l records p i t

@@ -1,0 +1,54 @@
+-- Nothing is known of a process that was never made.
+use Rattle.std.proofs.Common.{◌≡◌, ℕ, ◌≤◌, ◌==◌, ◌&&◌, Bool, refl, ap, ◌∙◌, sym, subst, inl, inr}
+use Rattle.std.specs.Prelude.{if◌then◌else◌}
+use Rattle.std.specs.declared.option.Option.{Option}
+use Rattle.std.specs.declared.option.Option.TheVariants.{None, Some}
+use Rattle.std.proofs.lemmas.Bool.{cases_Bool}
+use Rattle.dm_link.specs.declared.Pid.{Pid}
+use Rattle.dm_link.specs.Names.{pid_eq}
+use Rattle.dm_onekernel.specs.PlainProcess.{PlainProcess}
+use Rattle.dm_onekernel.specs.Kernel.{Life, Alive, Ended, OneKernel}
+use Rattle.dm_onekernel.specs.Step as kernel
+use Rattle.dm_rule.specs.Sets.{at_record}
+use Rattle.dm_rule.specs.View.{View, Known, Unknown, Here}
+use Rattle.dm_laws.proofs.Equal.{pid_eq-is}
+use Rattle.dm_laws.proofs.Grown.{LifeGrows}
+use Rattle.dm_rule.proofs.Lines.{parts}
+
+-- processes are numbered from 3; the servers are none
+pub record Lives (s : OneKernel) (v : View) : Type 0 where
+  pub none : (p : Pid) → s.processes p ≡ None → 3 ≤ p.num → (n : ℕ) → v.known n p ≡ Unknown
+
+-- a process was made
+abbrev pub Lived : OneKernel → Pid → Type 0
+Lived s p = s.processes p ≡ None → 3 ≤ p.num → ⊥
+
+pub lived_alive : (s : OneKernel) (p : Pid) (l : Option Life) (x : PlainProcess) → kernel.alive l ≡ Some x → l ≡ s.processes p → Lived s p
+lived_alive s p None x e is none le = cc
+lived_alive s p (Some l) x e is none le = absurd (let f : Some l ≡ None = is ∙ none in cc)
+
+pub lived_here : (s : OneKernel) (v : View) (p : Pid) (m : ℕ) → Lives s v → v.known m p ≡ Here → Lived s p
+lived_here s v p m h here none le = absurd (let f : Unknown ≡ Here = sym (h.none p none le m) ∙ here in cc)
+
+-- what was made stays so
+abbrev pub Kept : OneKernel → OneKernel → Type 0
+Kept s t = (p : Pid) → t.processes p ≡ None → s.processes p ≡ None
+
+pub grown_none : (a b : Option Life) → LifeGrows a b → b ≡ None → a ≡ None
+grown_none None b h e = refl
+grown_none (Some (Ended y)) b h e = absurd (let f : None ≡ Some (Ended y) = sym e ∙ h in cc)
+grown_none (Some (Alive x)) None h e = absurd h
+grown_none (Some (Alive x)) (Some l) h e = cc
+
+pub lives_same : (s t : OneKernel) (v w : View) → Kept s t → w.known ≡ v.known → Lives s v → Lives t w
+lives_same s t v w kept known h = record { none = λ p is le n. ap (λ (f : ℕ → Pid → Known). f n p) known ∙ h.none p (kept p is) le n }
+
+pub lives_learn : (s t : OneKernel) (v w : View) (p : Pid) (k : Known) → Kept s t → w.known ≡ at_record v.known v.acting p k → (t.processes p ≡ None → 3 ≤ p.num → k ≡ Unknown) → Lives s v → Lives t w
+lives_learn s t v w p k kept known new h = record {
+  none = λ q is le n. ap (λ (f : ℕ → Pid → Known). f n q) known ∙ elim (cases_Bool ((v.acting == n) && pid_eq p q)) [
+    | inl same ↦
+        let pq : p ≡ q = pid_eq-is p q (parts (v.acting == n) (pid_eq p q) same).1 in
+        ap (λ (c : Bool). if c then k else v.known n q) same ∙ new (ap t.processes pq ∙ is) (subst (λ (x : Pid). 3 ≤ x.num) (sym pq) le)
+    | inr off ↦ ap (λ (c : Bool). if c then k else v.known n q) off ∙ h.none q (kept q is) le n
+  ];
+}

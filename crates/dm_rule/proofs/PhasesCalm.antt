@@ -1,0 +1,142 @@
+-- What leaves the migrations of all processes as they are.
+use Rattle.std.proofs.Common.{◌≡◌, ◌⊎◌, ℕ, ◌≤◌, ◌==◌, ◌&&◌, not, Bool, true, false, refl, ap, ◌∙◌, sym, subst, inl, inr}
+use Rattle.std.specs.declared.option.Option.{Option}
+use Rattle.std.specs.declared.option.Option.TheVariants.{None, Some}
+use Rattle.std.proofs.lemmas.Bool.{cases_Bool, false≢true}
+use Rattle.dm_link.specs.declared.Pid.{Pid}
+use Rattle.dm_message.specs.declared.MsgId.{MsgId}
+use Rattle.dm_message.specs.declared.kind.MessageKind.{MessageKind}
+use Rattle.dm_message.specs.Ids.{id_eq}
+use Rattle.dm_rule.specs.View.{View, Told}
+use Rattle.dm_rule.specs.Spots.{Spot, Queue, Held, Inbox, Untaken, standing}
+use Rattle.dm_laws.proofs.Equal.{id_eq-is}
+use Rattle.dm_rule.proofs.Lines.{not_true}
+use Rattle.dm_rule.specs.Phases.{is_between, is_apart, told_between, Phase, Nowhere, Rests, Over, Moves, knows, token_in, sender_in, receiver_in, IsToken, HasToken, Alone, IsIn}
+
+-- the machine that a spot is on, or leads to
+abbrev pub machine_of : Spot → ℕ
+machine_of (Queue m p) = m
+machine_of (Held m p) = m
+machine_of (Inbox m) = m
+machine_of (Untaken a b) = b
+
+-- a message stood there, or has come to an inbox from a spot of that machine
+abbrev pub Came : View → MsgId → Spot → Type 0
+Came v i z = (1 ≤ standing v i z) ⊎ ((y : Spot) × (1 ≤ standing v i y) × (z ≡ Inbox (machine_of y)))
+
+pub record Calm (v w : View) : Type 0 where
+  pub known : (m : ℕ) (p : Pid) → w.known m p ≡ v.known m p
+  -- no message of the protocol is told of anew, and what was told stays
+  pub fresh : (i : MsgId) (t : Told) → w.told i ≡ Some t → is_between t.kind ≡ true → v.told i ≡ Some t
+  pub kept : (i : MsgId) (t : Told) → v.told i ≡ Some t → w.told i ≡ Some t
+  -- none of them comes or goes
+  pub back : (i : MsgId) (t : Told) → v.told i ≡ Some t → is_between t.kind ≡ true → (z : Spot) → 1 ≤ standing w i z → Came v i z
+  pub on : (i : MsgId) (t : Told) → v.told i ≡ Some t → is_between t.kind ≡ true → (z : Spot) → 1 ≤ standing v i z → (y : Spot) × (1 ≤ standing w i y)
+
+pub calm_same : (v : View) → Calm v v
+calm_same v = record { known = λ m p. refl; fresh = λ i t e b. e; kept = λ i t e. e; back = λ i t e b z s. inl s; on = λ i t e b z s. (z, s) }
+
+came_on : (u v : View) (i : MsgId) (z : Spot) → ((y : Spot) → 1 ≤ standing v i y → Came u i y) → Came v i z → Came u i z
+came_on u v i z h c = elim c [
+  | inl s ↦ h z s
+  | inr t ↦ let (y, s, is) = t in elim (h y s) [
+    | inl x ↦ inr (y, x, is)
+    | inr x ↦ let (w, st, e) = x in inr (w, st, is ∙ ap (λ (q : Spot). Inbox (machine_of q)) e)
+  ]
+]
+
+pub calm_trans : (u v w : View) → Calm u v → Calm v w → Calm u w
+calm_trans u v w h k = record {
+  known = λ m p. k.known m p ∙ h.known m p;
+  fresh = λ i t e b. h.fresh i t (k.fresh i t e b) b;
+  kept = λ i t e. k.kept i t (h.kept i t e);
+  back = λ i t e b z s. came_on u v i z (h.back i t e b) (k.back i t (h.kept i t e) b z s);
+  on = λ i t e b z s. (let (y, x) = h.on i t e b z s in k.on i t (h.kept i t e) b y x);
+}
+
+-- a phase goes on
+pub stands_where : (v : View) (i : MsgId) (from to : ℕ) (z : Spot) → ((y : Spot) → 1 ≤ standing v i y → (y ≡ Inbox to) ⊎ (y ≡ Untaken from to)) → Came v i z → (z ≡ Inbox to) ⊎ (z ≡ Untaken from to)
+stands_where v i from to z h c = elim c [
+  | inl s ↦ h z s
+  | inr t ↦ let (y, s, is) = t in elim (h y s) [
+    | inl x ↦ inl (is ∙ ap (λ (q : Spot). Inbox (machine_of q)) x)
+    | inr x ↦ inl (is ∙ ap (λ (q : Spot). Inbox (machine_of q)) x)
+  ]
+]
+
+first_of_two : (b c : Bool) → (b && c) ≡ true → b ≡ true
+first_of_two true c e = refl
+first_of_two false c e = cc
+
+-- the kind of a token is one of the protocol
+pub between_of : (k : MessageKind) (s d : ℕ) → (is_between k && not (s == d)) ≡ true → is_between k ≡ true
+between_of k s d e = first_of_two (is_between k) (not (s == d)) e
+
+calm_token : (v w : View) (p : Pid) (k : MessageKind) (s d : ℕ) (id : MsgId) → is_between k ≡ true → Calm v w → IsToken v p k s d id → IsToken w p k s d id
+calm_token v w p k s d id b c h =
+    let (y, x) = c.on id (told_between p k s d) h.told b h.spot h.stands in
+    record {
+      told = c.kept id (told_between p k s d) h.told;
+      from = h.from;
+      spot = y;
+      stands = x;
+      ways = λ z st. stands_where v id (sender_in k s d) (receiver_in k s d) z h.ways (c.back id (told_between p k s d) h.told b z st);
+    }
+
+calm_has : (v w : View) (p : Pid) (phase : Phase) → is_apart phase ≡ true → Calm v w → HasToken v p phase → HasToken w p phase
+calm_has v w p Nowhere a c h = tt
+calm_has v w p (Rests at) a c h = tt
+calm_has v w p (Over at) a c h = tt
+calm_has v w p (Moves k s d None) a c h = tt
+calm_has v w p (Moves k s d (Some id)) a c h = calm_token v w p k s d id (between_of k s d a) c h
+
+calm_alone : (v w : View) (p : Pid) (o : Option MsgId) → Calm v w → Alone v p o → Alone w p o
+calm_alone v w p o c h i t z told b about st =
+    let was = c.fresh i t told b in
+    elim (c.back i t was b z st) [
+      | inl s ↦ h i t z was b about s
+      | inr x ↦ let (y, s, is) = x in h i t y was b about s
+    ]
+
+pub calm_in : (v w : View) (p : Pid) (phase : Phase) → Calm v w → IsIn v p phase → IsIn w p phase
+calm_in v w p phase c h = record {
+  known = λ m. ap (knows phase m) (c.known m p) ∙ h.known m;
+  token = calm_has v w p phase h.apart c h.token;
+  alone = calm_alone v w p (token_in phase) c h.alone;
+  apart = h.apart;
+}
+
+-- only one message stands elsewhere, and it is none of the protocol
+pub record Others (v w : View) (i : MsgId) : Type 0 where
+  pub known : (m : ℕ) (p : Pid) → w.known m p ≡ v.known m p
+  pub told : (j : MsgId) → id_eq i j ≡ false → w.told j ≡ v.told j
+  pub spots : (j : MsgId) → id_eq i j ≡ false → (z : Spot) → standing w j z ≡ standing v j z
+
+-- what is told of it, before and behind, is no kind of the protocol
+abbrev pub Plain : View → MsgId → Type 0
+Plain v i = (t : Told) → v.told i ≡ Some t → is_between t.kind ≡ false
+
+other_than : (v : View) (i j : MsgId) (t : Told) → Plain v i → v.told j ≡ Some t → is_between t.kind ≡ true → id_eq i j ≡ false
+other_than v i j t plain told b = not_true (id_eq i j) (λ e. let is : i ≡ j = id_eq-is i j e in false≢true (sym (plain t (ap v.told is ∙ told)) ∙ b))
+
+pub calm_others : (v w : View) (i : MsgId) → Plain v i → Plain w i → ((t : Told) → v.told i ≡ Some t → w.told i ≡ Some t) → Others v w i → Calm v w
+calm_others v w i plain after kept h = record {
+  known = h.known;
+  fresh = λ j t e b. sym (h.told j (other_than w i j t after e b)) ∙ e;
+  kept = λ j t e. elim (cases_Bool (id_eq i j)) [
+    | inl same ↦ let is : i ≡ j = id_eq-is i j same in subst (λ (x : MsgId). w.told x ≡ Some t) is (kept t (ap v.told is ∙ e))
+    | inr apart ↦ h.told j apart ∙ e
+  ];
+  back = λ j t e b z s. inl (subst (λ n. 1 ≤ n) (h.spots j (other_than v i j t plain e b) z) s);
+  on = λ j t e b z s. (z, subst (λ n. 1 ≤ n) (sym (h.spots j (other_than v i j t plain e b) z)) s);
+}
+
+-- nothing stands elsewhere
+pub calm_still : (v w : View) → ((m : ℕ) (p : Pid) → w.known m p ≡ v.known m p) → ((i : MsgId) → w.told i ≡ v.told i) → ((i : MsgId) (z : Spot) → standing w i z ≡ standing v i z) → Calm v w
+calm_still v w known told spots = record {
+  known = known;
+  fresh = λ i t e b. sym (told i) ∙ e;
+  kept = λ i t e. told i ∙ e;
+  back = λ i t e b z s. inl (subst (λ n. 1 ≤ n) (spots i z) s);
+  on = λ i t e b z s. (z, subst (λ n. 1 ≤ n) (sym (spots i z)) s);
+}

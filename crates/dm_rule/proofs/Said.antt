@@ -1,0 +1,30 @@
+-- A line is said, alone or before a message that is routed.
+use Rattle.std.proofs.Common.{◌≡◌, ℕ, ◌≤◌, [], ◌∷◌, sym, subst, length}
+use Rattle.std.specs.declared.option.Option.TheVariants.{None, Some}
+use Rattle.dm_message.specs.declared.MsgId.{MsgId}
+use Rattle.dm_onekernel.specs.Kernel.{OneKernel}
+use Rattle.dm_rule.specs.declared.line.Line.{Line}
+use Rattle.dm_rule.specs.View.{View, Pair, view_after}
+use Rattle.dm_rule.specs.Point.{Point, label_of, kernel_after, moved}
+use Rattle.dm_rule.specs.Parts.{Says, Routes, Spelled, spelled}
+use Rattle.dm_rule.proofs.States.{State, says_next, said, State-at, PairsFit, routes_next}
+
+pub fits_as : (v w : View) → w.pair ≡ v.pair → PairsFit v → PairsFit w
+fits_as v w e h = record {
+  within = λ a b. subst (λ (f : ℕ → ℕ → Pair). (f a b).taken ≤ length (f a b).ids) (sym e) (h.within a b);
+  home = λ a. subst (λ (f : ℕ → ℕ → Pair). (f a a).taken ≡ length (f a a).ids) (sym e) (h.home a);
+}
+
+-- one line is said, and that is all
+pub one_line : (pt : Point) (l : Line) (w : Spelled) → spelled pt (Says l ∷ []) ≡ Some w → ((s : OneKernel) → kernel_after pt.kernel (label_of l) ≡ Some s → State None (moved pt l s)) → State None w.point
+one_line pt l w e h =
+    let k = says_next pt l [] w e in
+    State-at None k.rest.point w.point k.point (State-at None (moved pt l k.s) k.rest.point (said (moved pt l k.s) k.rest k.more) (h k.s k.is))
+
+-- a message enters by a line, and is routed
+pub line_and_route : (pt : Point) (l : Line) (i : MsgId) (w : Spelled) → spelled pt (Says l ∷ Routes i ∷ []) ≡ Some w → (view_after pt.view l).pair ≡ pt.view.pair → PairsFit pt.view
+    → ((s : OneKernel) → kernel_after pt.kernel (label_of l) ≡ Some s → State (Some i) (moved pt l s)) → State None w.point
+line_and_route pt l i w e pair fits h =
+    let k = says_next pt l (Routes i ∷ []) w e in
+    let n = routes_next (moved pt l k.s) i [] k.rest (h k.s k.is) (fits_as pt.view (view_after pt.view l) pair fits) k.more in
+    State-at None k.rest.point w.point k.point (State-at None n.rest.point k.rest.point n.point (State-at None n.next n.rest.point (said n.next n.rest n.more) n.stands))

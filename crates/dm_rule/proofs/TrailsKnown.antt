@@ -1,0 +1,172 @@
+-- What machines learn of a process agrees with its trail.
+use Rattle.std.proofs.Common.{◌≡◌, ◌≢◌, ◌⊎◌, ℕ, zero, suc, ◌+◌, ◌<◌, ◌==◌, Bool, true, false, List, [], ◌∷◌, ◌++◌, length, refl, ap, ◌∙◌, sym, inl, inr, arith}
+use Rattle.std.proofs.lemmas.Bool.Decides.{nat_tests}
+use Rattle.std.specs.Prelude.{if◌then◌else◌, slice_get}
+use Rattle.std.specs.declared.option.Option.{Option}
+use Rattle.std.specs.declared.option.Option.TheVariants.{None, Some}
+use Rattle.std.proofs.lemmas.Bool.{cases_Bool}
+use Rattle.std.proofs.lemmas.Option.{slice_get_within}
+use Rattle.std.proofs.lemmas.List.{length-append}
+use Rattle.dm_link.specs.declared.Pid.{Pid}
+use Rattle.dm_message.specs.declared.MsgId.{MsgId}
+use Rattle.dm_message.specs.declared.kind.MessageKind.{MessageKind}
+use Rattle.dm_rule.specs.View.{View, Known, Unknown, Here, Incoming, Forward}
+use Rattle.dm_rule.specs.Phases.{Phase, Nowhere, Rests, Moves, is_restart}
+use Rattle.dm_rule.specs.Trails.{Trails, Trail, Stood, place_in, next_in, next_if, rest_of}
+use Rattle.dm_rule.proofs.Lines.{eq_is}
+
+-- lists that grow at the end
+pub get_more : {X : Type 0} (xs ys : List X) (c : ℕ) (m : X) → slice_get xs c ≡ Some m → slice_get (xs ++ ys) c ≡ Some m
+get_more [] ys c m e = cc
+get_more (x ∷ xs) ys zero m e = e
+get_more (x ∷ xs) ys (suc c) m e = get_more xs ys c m e
+
+get_end : {X : Type 0} (xs : List X) (d : X) → slice_get (xs ++ d ∷ []) (length xs) ≡ Some d
+get_end [] d = refl
+get_end (x ∷ xs) d = get_end xs d
+
+pub get_at_end : {X : Type 0} (xs : List X) (d : X) (j : ℕ) → length xs ≡ j → slice_get (xs ++ d ∷ []) j ≡ Some d
+get_at_end xs d j e = sym (ap (λ (k : ℕ). slice_get (xs ++ d ∷ []) k) e) ∙ get_end xs d
+
+pub get_either : {X : Type 0} (xs : List X) (d : X) (c : ℕ) (m : X) → slice_get (xs ++ d ∷ []) c ≡ Some m → (slice_get xs c ≡ Some m) ⊎ (d ≡ m)
+get_either [] d zero m e = inr (let f : d ≡ m = cc in f)
+get_either [] d (suc c) m e = inl e
+get_either (x ∷ xs) d zero m e = inl e
+get_either (x ∷ xs) d (suc c) m e = get_either xs d c m e
+
+-- the same is known of it, and its trail is the same
+pub trail_same : (v w : View) (t u : Trails) (p : Pid) → ((m : ℕ) → w.known m p ≡ v.known m p) → u p ≡ t p → Trail v t p → Trail w u p
+trail_same v w t u p known same h = record {
+  begins = ap (λ (xs : List ℕ). slice_get xs 0) same ∙ h.begins;
+  named = λ m k j e. ap (λ (xs : List ℕ). slice_get xs j) same ∙ h.named m k j (sym (known m) ∙ e);
+  behind = λ m k j c e f. h.behind m k j c (sym (known m) ∙ e) (sym (ap (λ (xs : List ℕ). slice_get xs c) same) ∙ f);
+  kept = λ m n c e f g. h.kept m n c (λ x. e (known n ∙ x)) (sym (ap (λ (xs : List ℕ). slice_get xs c) same) ∙ f) (sym (known m) ∙ g);
+}
+
+-- of two that are known one is
+not_forward : (b : Bool) (x y : Known) (k j : ℕ) → x ≢ Forward k j → (if b then x else y) ≡ Forward k j → y ≡ Forward k j
+not_forward true x y k j off e = absurd (off e)
+not_forward false x y k j off e = e
+
+is_known : (b : Bool) (x y : Known) → x ≢ Unknown → y ≢ Unknown → (if b then x else y) ≢ Unknown
+is_known true x y e f = e
+is_known false x y e f = f
+
+-- the acting machine learns that a process is here, leaves, comes or has ended
+abbrev Learnt : View → View → Pid → Known → Type 0
+Learnt v w p x = (m : ℕ) → w.known m p ≡ (if v.acting == m then x else v.known m p)
+
+pub trail_learns : (v w : View) (t : Trails) (p : Pid) (x : Known) (n : ℕ) → Learnt v w p x → ((k j : ℕ) → x ≢ Forward k j) → x ≢ Unknown → v.known n p ≢ Unknown → Trail v t p → Trail w t p
+trail_learns v w t p x n known off there before h = record {
+  begins = h.begins;
+  named = λ m k j e. h.named m k j (not_forward (v.acting == m) x (v.known m p) k j (off k j) (sym (known m) ∙ e));
+  behind = λ m k j c e f. h.behind m k j c (not_forward (v.acting == m) x (v.known m p) k j (off k j) (sym (known m) ∙ e)) f;
+  kept = λ m i c e f g. is_known (v.acting == m) x (v.known m p) there (h.kept m n c before f) (sym (known m) ∙ g);
+}
+
+-- it is made at home
+same_true : (m : ℕ) → (m == m) ≡ true
+same_true m = grind (arith, nat_tests)
+
+pub trail_made : (v w : View) (t : Trails) (p : Pid) → Learnt v w p Here → ((m : ℕ) → v.known m p ≡ Unknown) → ((c m : ℕ) → slice_get (t p) c ≡ Some m → m ≡ v.acting) → Trail v t p → Trail w t p
+trail_made v w t p known unknown only h = record {
+  begins = h.begins;
+  named = λ m k j e. h.named m k j (not_forward (v.acting == m) Here (v.known m p) k j (λ x. cc) (sym (known m) ∙ e));
+  behind = λ m k j c e f. h.behind m k j c (not_forward (v.acting == m) Here (v.known m p) k j (λ x. cc) (sym (known m) ∙ e)) f;
+  kept = λ m i c e f g.
+      let at : m ≡ v.acting = only c m f in
+      let here : w.known v.acting p ≡ Here = known v.acting ∙ ap (λ (b : Bool). if b then Here else v.known v.acting p) (same_true v.acting) in
+      let none : Here ≡ Unknown = sym here ∙ sym (ap (λ (k : ℕ). w.known k p) at) ∙ g in
+      cc;
+}
+
+-- its messages are sent on to a machine where it comes: the trail has one machine more
+pub trail_grows : (v w : View) (t u : Trails) (p : Pid) (d from : ℕ) → ((m : ℕ) → w.known m p ≡ v.known m p) → u p ≡ t p ++ d ∷ [] → v.known d p ≡ Incoming from → Trail v t p → Trail w u p
+trail_grows v w t u p d from known more comes h = record {
+  begins = ap (λ (xs : List ℕ). slice_get xs 0) more ∙ get_more (t p) (d ∷ []) 0 p.home h.begins;
+  named = λ m k j e. ap (λ (xs : List ℕ). slice_get xs j) more ∙ get_more (t p) (d ∷ []) j k (h.named m k j (sym (known m) ∙ e));
+  behind = λ m k j c e f. elim (get_either (t p) d c m (sym (ap (λ (xs : List ℕ). slice_get xs c) more) ∙ f)) [
+    | inl old ↦ h.behind m k j c (sym (known m) ∙ e) old
+    | inr new ↦ absurd (let x : Incoming from ≡ Forward k j = sym comes ∙ ap (λ (i : ℕ). v.known i p) new ∙ sym (known m) ∙ e in cc)
+  ];
+  kept = λ m n c e f g. elim (get_either (t p) d c m (sym (ap (λ (xs : List ℕ). slice_get xs c) more) ∙ f)) [
+    | inl old ↦ h.kept m n c (λ x. e (known n ∙ x)) old (sym (known m) ∙ g)
+    | inr new ↦ (let x : Incoming from ≡ Unknown = sym comes ∙ ap (λ (i : ℕ). v.known i p) new ∙ sym (known m) ∙ g in cc)
+  ];
+}
+
+-- the machine that it leaves forwards from then on
+forward_is : (b : Bool) (d n : ℕ) (y : Known) (k j : ℕ) → (if b then Forward d n else y) ≡ Forward k j → ((b ≡ true) × (d ≡ k) × (n ≡ j)) ⊎ (y ≡ Forward k j)
+forward_is true d n y k j e = inl (refl, (let f : d ≡ k = cc in f), (let f : n ≡ j = cc in f))
+forward_is false d n y k j e = inr e
+
+pub trail_left : (v w : View) (t : Trails) (p : Pid) (d : ℕ) → Learnt v w p (Forward d (v.moves p + 1)) → v.known v.acting p ≢ Unknown → slice_get (t p) (v.moves p + 1) ≡ Some d → length (t p) ≡ v.moves p + 2 → d ≢ v.acting → Trail v t p → Trail w t p
+trail_left v w t p d known there at long apart h = record {
+  begins = h.begins;
+  named = λ m k j e. elim (forward_is (v.acting == m) d (v.moves p + 1) (v.known m p) k j (sym (known m) ∙ e)) [
+    | inl x ↦ sym (ap (λ (i : ℕ). slice_get (t p) i) x.2) ∙ at ∙ ap Some x.1
+    | inr y ↦ h.named m k j y
+  ];
+  behind = λ m k j c e f. elim (forward_is (v.acting == m) d (v.moves p + 1) (v.known m p) k j (sym (known m) ∙ e)) [
+    | inl x ↦ less m c j f x.0 x.2
+    | inr y ↦ h.behind m k j c y f
+  ];
+  kept = λ m n c e f g. is_known (v.acting == m) (Forward d (v.moves p + 1)) (v.known m p) (λ x. cc) (h.kept m v.acting c there f) (sym (known m) ∙ g);
+}
+  where
+    before : (c a l j : ℕ) → c < l → l ≡ a + 2 → (c == a + 1) ≡ false → a + 1 ≡ j → c < j
+    before c a l j x y z n = grind (arith, nat_tests)
+
+    less : (m c j : ℕ) → slice_get (t p) c ≡ Some m → (v.acting == m) ≡ true → v.moves p + 1 ≡ j → c < j
+    less m c j f s n =
+        let within = slice_get_within (t p) c m f in
+        elim (cases_Bool (c == v.moves p + 1)) [
+          | inl same ↦
+              absurd (let i : Some d ≡ Some m = sym at ∙ sym (ap (λ (k : ℕ). slice_get (t p) k) (eq_is c (v.moves p + 1) same)) ∙ f in
+              let dm : d ≡ m = cc in
+              apart (dm ∙ sym (eq_is v.acting m s)))
+          | inr off ↦ before c (v.moves p) (length (t p)) j within long off n
+        ]
+
+-- how long a trail is, and where it ends
+pub stood_same : (v w : View) (t u : Trails) (p : Pid) (a b : Phase) → w.moves p ≡ v.moves p → u p ≡ t p → place_in p b ≡ place_in p a → next_in b ≡ next_in a → (b ≡ Nowhere → a ≡ Nowhere) → Stood v t p a → Stood w u p b
+stood_same v w t u p a b moves same place next made h = record {
+  now = ap (λ (xs : List ℕ). slice_get xs (w.moves p)) same ∙ ap (λ (n : ℕ). slice_get (t p) n) moves ∙ h.now ∙ sym (ap Some place);
+  next = λ d e. ap (λ (xs : List ℕ). slice_get xs (w.moves p + 1)) same ∙ ap (λ (n : ℕ). slice_get (t p) (n + 1)) moves ∙ h.next d (sym next ∙ e);
+  long = ap length same ∙ h.long ∙ sym (ap (λ (n : ℕ). n + 1 + rest_of (next_in b)) moves ∙ ap (λ (o : Option ℕ). v.moves p + 1 + rest_of o) next);
+  unmade = λ e. moves ∙ h.unmade (made e);
+}
+
+-- step 6: its trail has grown, and the message that restarts it comes next
+pub stood_leaves : (v w : View) (t u : Trails) (p : Pid) (k j : MessageKind) (s d : ℕ) (i o : Option MsgId) → w.moves p ≡ v.moves p → u p ≡ t p ++ d ∷ [] → is_restart k ≡ false → is_restart j ≡ true → Stood v t p (Moves k s d i) → Stood w u p (Moves j s d o)
+stood_leaves v w t u p k j s d i o moves more off on h = record {
+  now = ap (λ (xs : List ℕ). slice_get xs (w.moves p)) more ∙ ap (λ (n : ℕ). slice_get (t p ++ d ∷ []) n) moves ∙ get_more (t p) (d ∷ []) (v.moves p) s h.now;
+  next = λ e f.
+      let same : d ≡ e = (let g : Some d ≡ Some e = sym (ap (λ (b : Bool). next_if b d) on) ∙ f in cc) in
+      ap (λ (xs : List ℕ). slice_get xs (w.moves p + 1)) more ∙ get_at_end (t p) d (w.moves p + 1) (long ∙ sym (ap (λ (n : ℕ). n + 1) moves)) ∙ ap Some same;
+  long = ap length more ∙ length-append (t p) (d ∷ []) ∙ ap (λ (n : ℕ). n + 1) long ∙ sym (ap (λ (n : ℕ). n + 1 + rest_of (next_if (is_restart j) d)) moves ∙ ap (λ (b : Bool). v.moves p + 1 + rest_of (next_if b d)) on);
+  unmade = λ e. absurd (let f : Moves j s d o ≡ Nowhere = e in cc);
+}
+  where
+    long : length (t p) ≡ v.moves p + 1
+    long = let e = h.long in let z : rest_of (next_if (is_restart k) d) ≡ 0 = ap (λ (b : Bool). rest_of (next_if b d)) off in omega (arith, e, z)
+
+-- step 8: it has moved once more
+pub stood_restarts : (v w : View) (t u : Trails) (p : Pid) (k : MessageKind) (s d : ℕ) (i : Option MsgId) → w.moves p ≡ v.moves p + 1 → u p ≡ t p → is_restart k ≡ true → Stood v t p (Moves k s d i) → Stood w u p (Rests d)
+stood_restarts v w t u p k s d i moves same on h = record {
+  now = ap (λ (xs : List ℕ). slice_get xs (w.moves p)) same ∙ ap (λ (n : ℕ). slice_get (t p) n) moves ∙ h.next d (ap (λ (b : Bool). next_if b d) on);
+  next = λ e f. absurd (let g : None ≡ Some e = f in cc);
+  long = ap length same ∙ (let e = h.long in let z : rest_of (next_if (is_restart k) d) ≡ 1 = ap (λ (b : Bool). rest_of (next_if b d)) on in omega (arith, e, z, moves));
+  unmade = λ e. absurd (let f : Rests d ≡ Nowhere = e in cc);
+}
+
+-- the trail of a process that was never made is its home alone
+pub home_alone : (v : View) (t : Trails) (p : Pid) → Trail v t p → Stood v t p Nowhere → (c m : ℕ) → slice_get (t p) c ≡ Some m → m ≡ p.home
+home_alone v t p h s c m e =
+    let within = slice_get_within (t p) c m e in
+    let long = s.long in
+    let moves = s.unmade refl in
+    let first : c ≡ 0 = omega (arith, within, long, moves) in
+    let f : Some p.home ≡ Some m = sym h.begins ∙ sym (ap (λ (n : ℕ). slice_get (t p) n) first) ∙ e in
+    let g : p.home ≡ m = cc in
+    sym g

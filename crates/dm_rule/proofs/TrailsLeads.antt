@@ -1,0 +1,143 @@
+-- From each place of a trail the forwards lead to the process, in fewer steps than there are machines.
+use Rattle.std.proofs.Common.{◌≡◌, ◌≢◌, ℕ, zero, suc, ◌+◌, ◌≤◌, ◌<◌, ◌==◌, ◌||◌, ◌&&◌, Bool, true, false, List, [], ◌∷◌, refl, ap, ◌∙◌, sym, inl, inr, arith, nat_lt, eqb-true, eq-eqb}
+use Rattle.std.specs.Prelude.{slice_get}
+use Rattle.std.specs.declared.option.Option.TheVariants.{Some}
+use Rattle.std.proofs.lemmas.Bool.{cases_eq, or_cases, or_left, or_right, false≢true}
+use Rattle.std.proofs.lemmas.Bool.Decides.{nat_tests}
+use Rattle.dm_link.specs.declared.Pid.{Pid}
+use Rattle.dm_link.specs.Names.{Place}
+use Rattle.dm_rule.specs.View.{View, Known, Unknown, Here, Frozen, Incoming, Forward, Ended}
+use Rattle.dm_rule.specs.Trails.{Trails, Trail, IsOn, leads_on, leads}
+use Rattle.dm_rule.proofs.Lines.{not_true}
+
+-- how many of the first n machines pass a test
+one : Bool → ℕ
+one true = 1
+one false = 0
+
+passing : (ℕ → Bool) → ℕ → ℕ
+passing f zero = 0
+passing f (suc n) = one (f n) + passing f n
+
+one_most : (b : Bool) → one b ≤ 1
+unfolding one
+one_most true = omega arith
+one_most false = omega arith
+
+passing_most : (f : ℕ → Bool) (n : ℕ) → passing f n ≤ n
+unfolding passing
+passing_most f zero = omega arith
+passing_most f (suc n) = let a = passing_most f n in let b = one_most (f n) in omega (arith, a, b)
+
+one_grows : (b c : Bool) → (b ≡ true → c ≡ true) → one b ≤ one c
+unfolding one
+one_grows true true h = omega arith
+one_grows true false h = absurd (false≢true (h refl))
+one_grows false true h = omega arith
+one_grows false false h = omega arith
+
+passing_grows : (f g : ℕ → Bool) (n : ℕ) → ((k : ℕ) → f k ≡ true → g k ≡ true) → passing f n ≤ passing g n
+unfolding passing
+passing_grows f g zero h = omega arith
+passing_grows f g (suc n) h = let a = passing_grows f g n h in let b = one_grows (f n) (g n) (h n) in omega (arith, a, b)
+
+-- one machine more passes
+passing_more : (f g : ℕ → Bool) (n x : ℕ) → x < n → ((k : ℕ) → f k ≡ true → g k ≡ true) → f x ≡ false → g x ≡ true → passing f n < passing g n
+unfolding passing one
+passing_more f g zero x less h off on = absurd (omega (arith, less))
+passing_more f g (suc n) x less h off on = elim (cases_eq x n) [
+  | inl last ↦
+      let a : one (f n) ≡ 0 = ap (λ (k : ℕ). one (f k)) (sym last) ∙ ap one off in
+      let b : one (g n) ≡ 1 = ap (λ (k : ℕ). one (g k)) (sym last) ∙ ap one on in
+      let c = passing_grows f g n h in
+      omega (arith, a, b, c)
+  | inr other ↦
+      let before : x < n = omega (arith, less, other) in
+      let a = passing_more f g n x before h off on in
+      let b = one_grows (f n) (g n) (h n) in
+      omega (arith, a, b)
+]
+
+passing_some : (f : ℕ → Bool) (n x : ℕ) → x < n → f x ≡ true → 0 < passing f n
+passing_some f n x less on = let a = passing_more (λ k. false) f n x less (λ k e. absurd (false≢true e)) refl on in omega (arith, a)
+
+-- a machine stands on a trail, at this place or behind it
+ahead : List ℕ → ℕ → ℕ → Bool
+ahead [] c m = false
+ahead (x ∷ xs) zero m = (x == m) || ahead xs zero m
+ahead (x ∷ xs) (suc c) m = ahead xs c m
+
+is_ahead : (xs : List ℕ) (c j m : ℕ) → c ≤ j → slice_get xs j ≡ Some m → ahead xs c m ≡ true
+unfolding ahead
+is_ahead [] c j m le e = cc
+is_ahead (x ∷ xs) zero zero m le e = let is : x ≡ m = cc in or_left (x == m) (ahead xs zero m) (eq-eqb x m is)
+is_ahead (x ∷ xs) zero (suc j) m le e = or_right (x == m) (ahead xs zero m) (is_ahead xs zero j m (omega arith) e)
+is_ahead (x ∷ xs) (suc c) zero m le e = absurd (omega (arith, le))
+is_ahead (x ∷ xs) (suc c) (suc j) m le e = is_ahead xs c j m (omega (arith, le)) e
+
+where_ahead : (xs : List ℕ) (c m : ℕ) → ahead xs c m ≡ true → (j : ℕ) × (c ≤ j) × (slice_get xs j ≡ Some m)
+unfolding ahead
+where_ahead [] c m e = absurd (false≢true e)
+where_ahead (x ∷ xs) zero m e = elim (or_cases (x == m) (ahead xs zero m) e) [
+  | inl here ↦ (0, omega arith, ap Some (eqb-true x m here))
+  | inr more ↦ let (j, le, at) = where_ahead xs zero m more in (suc j, omega arith, at)
+]
+where_ahead (x ∷ xs) (suc c) m e = let (j, le, at) = where_ahead xs c m e in (suc j, omega (arith, le), at)
+
+-- how many machines stand at a place or behind it
+left_at : List ℕ → ℕ → ℕ → ℕ
+left_at xs machines c = passing (ahead xs c) machines
+
+-- a forward leads to a place behind which fewer machines stand: the forwarding machine stands there no more
+fewer : (v : View) (t : Trails) (p : Pid) (machines c m k j : ℕ) → Trail v t p → m < machines → slice_get (t p) c ≡ Some m → v.known m p ≡ Forward k j → left_at (t p) machines j < left_at (t p) machines c
+unfolding left_at
+fewer v t p machines c m k j h within at e =
+    let rises = h.behind m k j c e at in
+    passing_more (ahead (t p) j) (ahead (t p) c) machines m within
+    (λ i s. let (a, le, f) = where_ahead (t p) j i s in is_ahead (t p) c a i (omega (arith, rises, le)) f)
+    (not_true (ahead (t p) j m) (λ s. let (a, le, f) = where_ahead (t p) j m s in let before = h.behind m k j a e f in absurd (omega (arith, le, before))))
+    (is_ahead (t p) c c m (omega arith) at)
+
+less_test : (m n : ℕ) → m < n → nat_lt m n ≡ true
+less_test m n e = grind (arith, nat_tests)
+
+both_true : (b c : Bool) → b ≡ true → c ≡ true → (b && c) ≡ true
+both_true true c e f = f
+both_true false c e f = absurd (false≢true e)
+
+-- a step
+goes_on : (x : Known) (c : ℕ) (next : ℕ → ℕ → Bool) → x ≢ Unknown → ((k j : ℕ) → x ≡ Forward k j → (c < j) × (next j k ≡ true)) → leads_on x c next ≡ true
+goes_on Unknown c next known h = absurd (known refl)
+goes_on Here c next known h = refl
+goes_on (Frozen to) c next known h = refl
+goes_on (Incoming from) c next known h = refl
+goes_on (Forward k j) c next known h = let f = h k j refl in both_true (nat_lt c j) (next j k) (less_test c j f.0) f.1
+goes_on Ended c next known h = refl
+
+left_some : (xs : List ℕ) (machines j k : ℕ) → k < machines → slice_get xs j ≡ Some k → 0 < left_at xs machines j
+unfolding left_at
+left_some xs machines j k less at = passing_some (ahead xs j) machines k less (is_ahead xs j j k (omega arith) at)
+
+walk : (v : View) (t : Trails) (p : Pid) (machines n c m : ℕ) → Trail v t p → ((c m : ℕ) → slice_get (t p) c ≡ Some m → v.known m p ≢ Unknown) → ((c m : ℕ) → slice_get (t p) c ≡ Some m → m < machines) → slice_get (t p) c ≡ Some m
+    → left_at (t p) machines c ≤ suc n → leads v p n c m ≡ true
+walk v t p machines zero c m h there most at le =
+    goes_on (v.known m p) c (λ d k. false) (there c m at)
+    (λ k j e.
+    let less = fewer v t p machines c m k j h (most c m at) at e in
+    let next = h.named m k j e in
+    let some = left_some (t p) machines j k (most j k next) next in
+    absurd (omega (arith, le, less, some)))
+walk v t p machines (suc n) c m h there most at le =
+    goes_on (v.known m p) c (leads v p n) (there c m at)
+    (λ k j e.
+    let less = fewer v t p machines c m k j h (most c m at) at e in
+    let next = h.named m k j e in
+    (h.behind m k j c e at, walk v t p machines n j k h there most next (omega (arith, le, less))))
+
+left_most : (xs : List ℕ) (machines c : ℕ) → left_at xs machines c ≤ machines
+unfolding left_at
+left_most xs machines c = passing_most (ahead xs c) machines
+
+-- in fewer steps than there are machines
+pub trail_leads : (v : View) (t : Trails) (p : Pid) (n i : ℕ) (place : Place) → Trail v t p → v.known i p ≢ Unknown → ((c m : ℕ) → slice_get (t p) c ≡ Some m → m < suc n) → IsOn t p place → leads v p n place.moves place.at ≡ true
+trail_leads v t p n i place h there most on = walk v t p (suc n) n place.moves place.at h (λ c m e. h.kept m i c there e) most on (left_most (t p) (suc n) place.moves)

@@ -1,0 +1,70 @@
+-- A worked migration: the trail of a process that moves, and the addresses that name it.
+use Rattle.std.proofs.Common.{◌≡◌, ◌&&◌, ℕ, zero, suc, Bool, true, List, [], ◌∷◌, refl}
+use Rattle.std.specs.declared.option.Option.{Option}
+use Rattle.std.specs.declared.option.Option.TheVariants.{None, Some}
+use Rattle.dm_link.specs.Names.{Place, pid_of}
+use Rattle.dm_message.specs.Ids.{id_of}
+use Rattle.dm_regs.specs.Instructions.{instruction}
+use Rattle.dm_onekernel.specs.declared.boot.Boot.{Boot}
+use Rattle.dm_onekernel.specs.Options.{bind}
+use Rattle.dm_schedule.specs.declared.Step.TheVariants as step
+use Rattle.dm_schedule.specs.declared.Directive.{Directive}
+use Rattle.dm_schedule.specs.declared.Directive.TheVariants as directive
+use Rattle.dm_rule.specs.View.{Known, Here, Incoming, Forward}
+use Rattle.dm_rule.specs.Addresses.{Slot, Receiver, Child}
+use Rattle.dm_rule.specs.Good.{Todo, Next, next_step, all_of}
+use Rattle.dm_rule.specs.Rule.{group_of}
+use Rattle.dm_rule.specs.Trails.{Trodden, first_trodden, along, leads}
+use Rattle.dm_rule.proofs.Worked.{hi}
+
+-- so many elementary directives of a schedule, one group after the other
+abbrev on_from : Option Next → Trodden → (Next → Option Trodden) → Option Trodden
+on_from None x go = Some x
+on_from (Some n) x go = go n
+
+abbrev treads : Boot → ℕ → Todo → Trodden → Option Trodden
+treads b zero left x = Some x
+treads b (suc k) left x =
+    on_from (next_step 2 x.point.view left) x (λ n. bind (group_of b x.point n.step) (λ w. bind (along x w.lines) (λ y. treads b k n.left y)))
+
+-- what is said of the process that moves: its trail, what both machines know of it, where its link, the manager's link and its
+-- message lead, and that from all three the forwards lead to it in one step
+record Seen : Type 0 where
+  trail : List ℕ
+  there : Known
+  before : Known
+  link : Place
+  child : Place
+  message : Place
+  found : Bool
+
+abbrev found_from : Trodden → Place → Bool
+found_from x place = leads x.point.view (pid_of 1 3) 1 place.moves place.at
+
+abbrev seen : Option Trodden → Option Seen
+seen None = None
+seen (Some x) =
+    Some (record {
+      trail = x.trails (pid_of 1 3);
+      there = x.point.view.known 0 (pid_of 1 3);
+      before = x.point.view.known 1 (pid_of 1 3);
+      link = x.point.addresses (Slot (pid_of 0 3) 0);
+      child = x.point.addresses (Child 2);
+      message = x.point.addresses (Receiver (id_of (pid_of 0 3) 0));
+      found = found_from x (x.point.addresses (Slot (pid_of 0 3) 0)) && (found_from x (x.point.addresses (Child 2)) && found_from x (x.point.addresses (Receiver (id_of (pid_of 0 3) 0))));
+    })
+
+abbrev there_and_back : List Directive
+there_and_back = directive.One (step.Migrate (pid_of 1 3) 0) ∷ directive.Spin 9 ∷ directive.One (step.Migrate (pid_of 1 3) 1) ∷ directive.Spin 10 ∷ []
+
+-- its message was sent on, and it isn't restarted yet
+pub sent_on : seen (treads hi 300 (all_of (directive.One (step.Migrate (pid_of 1 3) 0) ∷ directive.Spin 7 ∷ [])) (first_trodden hi))
+    ≡ Some (record { trail = 1 ∷ 0 ∷ []; there = Incoming 1; before = Forward 0 1; link = record { at = 1; moves = 0 }; child = record { at = 1; moves = 0 }; message = record { at = 0; moves = 1 }; found = true })
+unfolding instruction
+sent_on = refl
+
+-- it has moved, and moved back
+pub moved_back : seen (treads hi 300 (all_of there_and_back) (first_trodden hi))
+    ≡ Some (record { trail = 1 ∷ 0 ∷ 1 ∷ []; there = Forward 1 2; before = Here; link = record { at = 1; moves = 0 }; child = record { at = 0; moves = 1 }; message = record { at = 1; moves = 2 }; found = true })
+unfolding instruction
+moved_back = refl

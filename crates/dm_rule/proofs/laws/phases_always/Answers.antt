@@ -1,0 +1,5 @@
+use Rattle.dm_rule.proofs.PhasesAlways.{phases_always}
+use Rattle.dm_rule.proofs.laws.phases_always.Goals as goal
+
+pub returns : goal.returns
+returns c = phases_always

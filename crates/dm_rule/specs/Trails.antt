@@ -1,0 +1,170 @@
+-- The machines that each process has been on; that each address names one of them, at its place; and that from there the forwards lead
+-- to the process.
+use Rattle.std.specs.Prelude.{◌≡◌, ◌≢◌, ℕ, zero, suc, ◌+◌, ◌<◌, Bool, true, false, ◌&&◌, nat_lt, List, [], ◌∷◌, ◌++◌, length, slice_get}
+use Rattle.std.specs.declared.option.Option.{Option}
+use Rattle.std.specs.declared.option.Option.TheVariants.{None, Some}
+use Rattle.dm_link.specs.declared.Pid.{Pid}
+use Rattle.dm_link.specs.Names.{Place}
+use Rattle.dm_message.specs.declared.MsgId.{MsgId}
+use Rattle.dm_message.specs.declared.kind.MessageKind.TheVariants as kind
+use Rattle.dm_onekernel.specs.declared.boot.Boot.{Boot}
+use Rattle.dm_onekernel.specs.Boot.{IsValid, manager}
+use Rattle.dm_onekernel.specs.Kernel.{OneKernel}
+use Rattle.dm_onekernel.specs.Options.{bind}
+use Rattle.dm_schedule.specs.declared.Step.{Step}
+use Rattle.dm_rule.specs.declared.line.Line.{Line}
+use Rattle.dm_rule.specs.declared.line.Line.TheVariants as line
+use Rattle.dm_rule.specs.Sets.{at_pid}
+use Rattle.dm_rule.specs.View.{View, Told, Known, Unknown, Here, Frozen, Incoming, Forward, Ended, is_kernels}
+use Rattle.dm_rule.specs.View as view
+use Rattle.dm_rule.specs.Addresses.{Addresses, Holder, Receiver, Sender}
+use Rattle.dm_rule.specs.Homes.{names}
+use Rattle.dm_rule.specs.Point.{Point, first_point, after_line}
+use Rattle.dm_rule.specs.Parts.{Spelled}
+use Rattle.dm_rule.specs.Rule.{group_of}
+use Rattle.dm_rule.specs.Laws.{IsStep}
+use Rattle.dm_rule.specs.Phases.{Phase, Nowhere, Rests, Over, Moves, is_restart}
+
+-- the machines that a process has been on, in order: at place c the one where it was after c moves. From the moment that its
+-- messages are sent on, the machine that it goes to is the last
+abbrev pub Trails : Type 0
+Trails = Pid → List ℕ
+
+-- each process is made at home
+abbrev pub first_trails : Trails
+first_trails p = p.home ∷ []
+
+abbrev pub destination : Known → List ℕ
+destination (Frozen to) = to ∷ []
+destination Unknown = []
+destination Here = []
+destination (Incoming from) = []
+destination (Forward at moves) = []
+destination Ended = []
+
+-- a row a line
+abbrev pub trails_after : View → Trails → Line → Trails
+trails_after v t (line.SentOn p n) = at_pid t p (t p ++ destination (v.known v.acting p))
+trails_after v t (line.Head d) = t
+trails_after v t (line.Idle m) = t
+trails_after v t (line.Label l) = t
+trails_after v t (line.Put a b id k q) = t
+trails_after v t (line.Packet a b k l) = t
+trails_after v t (line.Taken a b n) = t
+trails_after v t (line.Old a b n) = t
+trails_after v t (line.Early a b n) = t
+trails_after v t (line.Acked a b n) = t
+trails_after v t line.Nothing = t
+trails_after v t (line.Resent m n) = t
+trails_after v t (line.Queued id) = t
+trails_after v t (line.Held id) = t
+trails_after v t (line.Forwarded id m) = t
+trails_after v t (line.Updated id n) = t
+trails_after v t (line.Migration step p) = t
+trails_after v t (line.Lacks p s b) = t
+trails_after v t (line.Stays p) = t
+trails_after v t (line.Here id) = t
+trails_after v t (line.NoMove id) = t
+trails_after v t (line.Proto id) = t
+trails_after v t (line.NoChild p) = t
+trails_after v t (line.Pinned p) = t
+trails_after v t (line.End e) = t
+
+-- a point, and the trails so far
+pub record Trodden : Type 0 where
+  pub point : Point
+  pub trails : Trails
+
+abbrev pub first_trodden : Boot → Trodden
+first_trodden b = record { point = first_point b; trails = first_trails }
+
+abbrev pub along : Trodden → List Line → Option Trodden
+along x [] = Some x
+along x (l ∷ ls) = bind (after_line x.point l) (λ next. along (record { point = next; trails = trails_after x.point.view x.trails l }) ls)
+
+-- a place is on the trail of a process: the machine where it was after so many moves
+abbrev pub IsOn : Trails → Pid → Place → Type 0
+IsOn t q place = slice_get (t q) place.moves ≡ Some place.at
+
+-- what machines know of a process agrees with its trail
+pub record Trail (v : View) (t : Trails) (p : Pid) : Type 0 where
+  -- it begins at home
+  pub begins : slice_get (t p) 0 ≡ Some p.home
+  -- a forward names the machine at its place, which is behind each place where the forwarding machine stands
+  pub named : (m k j : ℕ) → v.known m p ≡ Forward k j → slice_get (t p) j ≡ Some k
+  pub behind : (m k j c : ℕ) → v.known m p ≡ Forward k j → slice_get (t p) c ≡ Some m → c < j
+  -- where one machine knows a process, each machine of its trail does
+  pub kept : (m n c : ℕ) → v.known n p ≢ Unknown → slice_get (t p) c ≡ Some m → v.known m p ≢ Unknown
+
+-- where a process is, or leaves from
+abbrev pub place_in : Pid → Phase → ℕ
+place_in p Nowhere = p.home
+place_in p (Rests at) = at
+place_in p (Over at) = at
+place_in p (Moves k s d id) = s
+
+-- the machine where its messages were sent on to
+abbrev pub next_if : Bool → ℕ → Option ℕ
+next_if true d = Some d
+next_if false d = None
+
+abbrev pub next_in : Phase → Option ℕ
+next_in Nowhere = None
+next_in (Rests at) = None
+next_in (Over at) = None
+next_in (Moves k s d id) = next_if (is_restart k) d
+
+abbrev pub rest_of : Option ℕ → ℕ
+rest_of None = 0
+rest_of (Some d) = 1
+
+-- how long a trail is, and where it ends
+pub record Stood (v : View) (t : Trails) (p : Pid) (phase : Phase) : Type 0 where
+  pub now : slice_get (t p) (v.moves p) ≡ Some (place_in p phase)
+  pub next : (d : ℕ) → next_in phase ≡ Some d → slice_get (t p) (v.moves p + 1) ≡ Some d
+  pub long : length (t p) ≡ v.moves p + 1 + rest_of (next_in phase)
+  pub unmade : phase ≡ Nowhere → v.moves p ≡ 0
+
+-- each address is a place on the trail of the process that it is of
+abbrev pub AddressesOn : OneKernel → Addresses → Trails → Type 0
+AddressesOn s a t = (h : Holder) (q : Pid) → names s h ≡ Some q → IsOn t q (a h)
+
+-- so are those of a kernel's own messages: where one goes, for a request to move a process who is told, and what an update says
+pub record OwnOn (v : View) (a : Addresses) (t : Trails) : Type 0 where
+  pub receiver : (i : MsgId) (u : Told) → is_kernels i ≡ true → v.told i ≡ Some u → IsOn t u.receiver (a (Receiver i))
+  pub sender : (i : MsgId) (u : Told) → is_kernels i ≡ true → v.told i ≡ Some u → u.kind ≡ kind.Migrate → IsOn t manager (a (Sender i))
+  pub about : (i : MsgId) (u : Told) (p : Pid) (m c : ℕ) → v.told i ≡ Some u → u.about ≡ view.Place p m c → slice_get (t p) c ≡ Some m
+  pub topic : (p : Pid) (m c : ℕ) → v.topic ≡ view.Place p m c → slice_get (t p) c ≡ Some m
+
+-- all of it, where the phases of the processes are known
+pub record Trailed (pt : Point) (t : Trails) (of : Pid → Phase) : Type 0 where
+  pub trail : (p : Pid) → Trail pt.view t p
+  pub stood : (p : Pid) → Stood pt.view t p (of p)
+  pub links : AddressesOn pt.kernel pt.addresses t
+  pub own : OwnOn pt.view pt.addresses t
+
+-- from a machine, with a count, the forwards lead with rising counts to where a process is here, frozen, incoming or has ended,
+-- within so many steps
+abbrev pub leads_on : Known → ℕ → (ℕ → ℕ → Bool) → Bool
+leads_on Unknown c next = false
+leads_on Here c next = true
+leads_on (Frozen to) c next = true
+leads_on (Incoming from) c next = true
+leads_on (Forward at moves) c next = nat_lt c moves && next moves at
+leads_on Ended c next = true
+
+abbrev pub leads : View → Pid → ℕ → ℕ → ℕ → Bool
+leads v p zero c m = leads_on (v.known m p) c (λ d k. false)
+leads v p (suc n) c m = leads_on (v.known m p) c (leads v p n)
+
+-- the rule leads from a point and its trails to others, group by group
+abbrev pub LeadsAlong : Boot → Trodden → List Step → Trodden → Type 0
+LeadsAlong b x [] end = x ≡ end
+LeadsAlong b x (e ∷ es) end = (w : Spelled) × (y : Trodden) × IsStep x.point.kernel.machines e × (group_of b x.point e ≡ Some w) × (along x w.lines ≡ Some y) × LeadsAlong b y es end
+
+-- wherever the rule leads, each address names a machine at its place of the trail of its process, and from there the forwards
+-- lead to the process in fewer steps than there are machines
+abbrev pub TrailsAlways : Type 0
+TrailsAlways =
+    (b : Boot) (es : List Step) (x : Trodden) (h : Holder) (q : Pid) (n m : ℕ) → IsValid b → LeadsAlong b (first_trodden b) es x → names x.point.kernel h ≡ Some q → x.point.view.known m q ≢ Unknown → x.point.kernel.machines ≡ suc n
+    → IsOn x.trails q (x.point.addresses h) × (leads x.point.view q n (x.point.addresses h).moves (x.point.addresses h).at ≡ true)

@@ -1,0 +1,90 @@
+-- How often a process stands in a ring.
+use Rattle.std.proofs.Common.{◌≡◌, ℕ, ◌+◌, ◌==◌, Bool, true, false, not, List, [], ◌∷◌, ◌++◌, refl, ap, ◌∙◌, sym, inl, inr, arith}
+use Rattle.std.specs.Prelude.{if◌then◌else◌}
+use Rattle.std.proofs.lemmas.Bool.{cases_Bool}
+use Rattle.dm_link.specs.declared.Pid.{Pid}
+use Rattle.dm_link.specs.Names.{pid_eq}
+use Rattle.dm_laws.proofs.Equal.{pid_eq-is, pid_eq-same, pid_eq-swap}
+use Rattle.dm_rule.specs.Sets.{at_machine, without, moved_back}
+use Rattle.dm_rule.proofs.Lines.{eq_is}
+use Rattle.dm_rulelaws.specs.KnownStands.{rings}
+
+-- rings
+abbrev pub one_if : Bool → ℕ
+one_if c = if c then 1 else 0
+
+pub rings-append : (p : Pid) (xs ys : List Pid) → rings p (xs ++ ys) ≡ rings p xs + rings p ys
+rings-append p [] ys = omega arith
+rings-append p (x ∷ xs) ys = let h = rings-append p xs ys in omega (arith, h)
+
+rings_if : (q x : Pid) (xs : List Pid) (c : Bool) → rings q (if c then x ∷ xs else xs) ≡ (if c then one_if (pid_eq q x) else 0) + rings q xs
+rings_if q x xs true = refl
+rings_if q x xs false = omega arith
+
+pub rings_without : (p : Pid) (xs : List Pid) → rings p (without p xs) ≡ 0
+rings_without p [] = refl
+rings_without p (x ∷ xs) =
+    let h = rings_without p xs in
+    let k = rings_if p x (without p xs) (not (pid_eq p x)) in
+    let z = none_or (pid_eq p x) in
+    omega (arith, h, k, z)
+  where
+    none_or : (c : Bool) → (if not c then one_if c else 0) ≡ 0
+    none_or true = refl
+    none_or false = refl
+
+pub rings_others : (p q : Pid) (xs : List Pid) → pid_eq p q ≡ false → rings q (without p xs) ≡ rings q xs
+rings_others p q [] apart = refl
+rings_others p q (x ∷ xs) apart =
+    let h = rings_others p q xs apart in
+    let k = rings_if q x (without p xs) (not (pid_eq p x)) in
+    let z : (if not (pid_eq p x) then one_if (pid_eq q x) else 0) ≡ one_if (pid_eq q x) = kept (pid_eq p x) (pid_eq q x) (λ e f. (let a = pid_eq-is p x e in let b = pid_eq-is q x f in sym apart ∙ ap (pid_eq p) (b ∙ sym a) ∙ pid_eq-same p)) in
+    omega (arith, h, k, z)
+  where
+    kept : (c d : Bool) → (c ≡ true → d ≡ true → false ≡ true) → (if not c then one_if d else 0) ≡ one_if d
+    kept true true f = absurd (let e = f refl refl in cc)
+    kept true false f = refl
+    kept false d f = refl
+
+rings_one : (p q : Pid) → rings q (p ∷ []) ≡ one_if (pid_eq q p)
+rings_one p q = omega arith
+
+pub back_self : (p : Pid) (xs : List Pid) → rings p (moved_back p xs) ≡ 1
+back_self p xs =
+    let a = rings-append p (without p xs) (p ∷ []) in
+    let b = rings_without p xs in
+    let c = rings_one p p in
+    let d : one_if (pid_eq p p) ≡ 1 = ap one_if (pid_eq-same p) in
+    omega (arith, a, b, c, d)
+
+one_off : (p q : Pid) → pid_eq p q ≡ false → one_if (pid_eq q p) ≡ 0
+one_off p q apart = ap one_if (pid_eq-swap q p ∙ apart)
+
+pub back_others : (p q : Pid) (xs : List Pid) → pid_eq p q ≡ false → rings q (moved_back p xs) ≡ rings q xs
+back_others p q xs apart =
+    let a = rings-append q (without p xs) (p ∷ []) in
+    let b = rings_others p q xs apart in
+    let c = rings_one p q in
+    let d = one_off p q apart in
+    omega (arith, a, b, c, d)
+
+pub last_self : (p : Pid) (xs : List Pid) → rings p xs ≡ 0 → rings p (xs ++ p ∷ []) ≡ 1
+last_self p xs none =
+    let a = rings-append p xs (p ∷ []) in
+    let c = rings_one p p in
+    let d : one_if (pid_eq p p) ≡ 1 = ap one_if (pid_eq-same p) in
+    omega (arith, a, none, c, d)
+
+pub last_others : (p q : Pid) (xs : List Pid) → pid_eq p q ≡ false → rings q (xs ++ p ∷ []) ≡ rings q xs
+last_others p q xs apart =
+    let a = rings-append q xs (p ∷ []) in
+    let c = rings_one p q in
+    let d = one_off p q apart in
+    omega (arith, a, c, d)
+
+-- one machine's ring is set
+pub ring_set : (f : ℕ → List Pid) (a : ℕ) (zs : List Pid) (q : Pid) → rings q zs ≡ rings q (f a) → (m : ℕ) → rings q (at_machine f a zs m) ≡ rings q (f m)
+ring_set f a zs q same m = elim (cases_Bool (a == m)) [
+  | inl here ↦ ap (λ (c : Bool). rings q (if c then zs else f m)) here ∙ same ∙ ap (λ (n : ℕ). rings q (f n)) (eq_is a m here)
+  | inr there ↦ ap (λ (c : Bool). rings q (if c then zs else f m)) there
+]

@@ -1,0 +1,38 @@
+-- All that holds wherever the rule leads, migrations included.
+use Rattle.std.specs.Prelude.{◌≡◌, ℕ, ◌≤◌, true, length}
+use Rattle.std.specs.declared.option.Option.TheVariants.{None, Some}
+use Rattle.dm_link.specs.declared.Pid.{Pid}
+use Rattle.dm_message.specs.declared.MsgId.{MsgId}
+use Rattle.dm_onekernel.specs.declared.boot.Boot.{Boot}
+use Rattle.dm_rule.specs.Homes.{ascends}
+use Rattle.dm_rule.specs.Point.{Point}
+use Rattle.dm_rule.specs.Spots.{times}
+use Rattle.dm_rule.specs.View.{Told}
+use Rattle.dm_rule.proofs.PhasesAlways.{Phased}
+use Rattle.dm_rulelaws.specs.Fits.{KernelFits}
+use Rattle.dm_rulelaws.specs.Found.{Found, ListsStand}
+use Rattle.dm_rulelaws.specs.KnownStands.{KnownStands}
+use Rattle.dm_rulelaws.proofs.Queued.{IsQueued}
+
+-- what the kernel without machines and the lines say of processes and of what waits for them
+pub record Based (b : Boot) (pt : Point) : Type 0 where
+  -- pairs, where messages stand, what was told of them, and how far each migration has come
+  pub phased : Phased pt
+  pub fits : KernelFits pt.kernel
+  pub images : pt.kernel.images ≡ b.images
+  pub machines : pt.kernel.machines ≡ length b.machines
+  pub format : pt.kernel.format ≡ b.format
+  -- a queue has user messages for its process, and a held list has messages for it
+  pub queued : (n : ℕ) (p : Pid) (i : MsgId) → 1 ≤ times i (pt.view.queue n p) → IsQueued (phased.state.e i) p (pt.kernel.bag i)
+  pub held : (n : ℕ) (p : Pid) (i : MsgId) → 1 ≤ times i (pt.view.held n p) → (t : Told) × (pt.view.told i ≡ Some t) × (t.receiver ≡ p)
+  pub lists : ListsStand pt.view
+  pub known : KnownStands pt.kernel pt.view
+  -- the manager's pending requests stand in the order in which it sent them
+  pub pending : ascends 0 pt.kernel.manager.pending pt.kernel.manager.sent ≡ true
+  -- what was never made has never moved
+  pub unmoved : (p : Pid) → pt.kernel.processes p ≡ None → pt.view.moves p ≡ 0
+
+-- and where messages stand
+pub record Run (b : Boot) (pt : Point) : Type 0 where
+  pub based : Based b pt
+  pub found : Found pt

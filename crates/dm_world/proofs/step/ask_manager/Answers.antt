@@ -1,0 +1,52 @@
+use Rattle.std.proofs.Common.{refl, sym, subst}
+use Rattle.std.specs.declared.result.Result.TheVariants.{Err}
+use Rattle.dm_kernel.specs.Lawful.{IsLawfulState}
+use Rattle.dm_node.specs.Acts.{asks_move}
+use Rattle.dm_node.specs.Lawful.{ActsLawfully}
+use Rattle.dm_node.specs.May.{MayAskMove}
+use Rattle.dm_node.specs.Meets.{AnswersSome, GaveSome}
+use Rattle.dm_node.proofs.Sends.{asks_lawfully}
+use Rattle.dm_world.specs.Meets.{node_in}
+use Rattle.dm_world.proofs.Nodes.{acted_some, here_at, is_node_at, node_at, small, stopped, turn_sendable}
+use Rattle.dm_world.proofs.step.ask_manager.Goals as goal
+
+pub ask_move-requires-clause-may : goal.ask_move-requires-clause-may
+ask_move-requires-clause-may c = subst MayAskMove (sym (node_at c.args.boot.now c.args.nodes.now 0 0 c.index-nodes-0.result refl c.requires.within)) c.requires.may
+
+pub ask_move-requires-clause-lawful : goal.ask_move-requires-clause-lawful
+ask_move-requires-clause-lawful c =
+    subst (λ n. IsLawfulState n.kernel) (sym (node_at c.args.boot.now c.args.nodes.now 0 0 c.index-nodes-0.result refl c.requires.within)) c.requires.lawful
+
+pub ask_move-requires-clause-streams : goal.ask_move-requires-clause-streams
+ask_move-requires-clause-streams c = (is_node_at c.args.nodes.now 0 0 c.index-nodes-0.result refl c.requires.within c.requires.nodes).streams
+
+pub returns-in-Ok-clause-answers : goal.returns-in-Ok-clause-answers
+returns-in-Ok-clause-answers c =
+    let b = c.args.boot.now in
+    let nodes = c.args.nodes.now in
+    let n = node_in b nodes 0 in
+    let same = node_at b nodes 0 0 c.index-nodes-0.result refl c.requires.within in
+    let gave = subst (λ s. GaveSome c.ask_move.new.self c.new-outs.result.items c.ask_move.new.outs.items (asks_move s c.args.pid c.args.to)) same c.in-Ok.ensures in
+    acted_some b nodes 0 0 c.ask_move.new.self c.new-outs.result.items c.ask_move.new.outs.items (asks_move n c.args.pid c.args.to) refl c.requires.within c.requires.nodes c.new-outs.ensures.items gave
+    (λ a e. subst (λ k. ActsLawfully k a) (here_at b nodes 0 c.index-nodes-0.result c.requires.within c.requires.nodes)
+    (asks_lawfully n c.args.pid c.args.to a (small c.args.to c.requires.to) c.requires.may c.requires.lawful e))
+
+pub returns-in-Ok-clause-outs : goal.returns-in-Ok-clause-outs
+returns-in-Ok-clause-outs c =
+    let b = c.args.boot.now in
+    let nodes = c.args.nodes.now in
+    let n = node_in b nodes 0 in
+    let same = node_at b nodes 0 0 c.index-nodes-0.result refl c.requires.within in
+    let gave = subst (λ s. GaveSome c.ask_move.new.self c.new-outs.result.items c.ask_move.new.outs.items (asks_move s c.args.pid c.args.to)) same c.in-Ok.ensures in
+    turn_sendable 0 c.ask_move.new.self c.new-outs.result.items c.ask_move.new.outs.items (asks_move n c.args.pid c.args.to) c.new-outs.ensures.items gave
+    (λ a e. subst (λ k. ActsLawfully k a) (here_at b nodes 0 c.index-nodes-0.result c.requires.within c.requires.nodes)
+    (asks_lawfully n c.args.pid c.args.to a (small c.args.to c.requires.to) c.requires.may c.requires.lawful e))
+
+pub returns-in-Err-clause-answers : goal.returns-in-Err-clause-answers
+returns-in-Err-clause-answers c =
+    let b = c.args.boot.now in
+    let nodes = c.args.nodes.now in
+    let n = node_in b nodes 0 in
+    let same = node_at b nodes 0 0 c.index-nodes-0.result refl c.requires.within in
+    let ended = subst (λ s. AnswersSome (Err c.in-Err.stop) c.ask_move.new.self c.new-outs.result.items c.ask_move.new.outs.items (asks_move s c.args.pid c.args.to)) same c.in-Err.ensures in
+    stopped c.in-Err.stop b nodes _ 0 c.ask_move.new.self c.new-outs.result.items c.ask_move.new.outs.items (asks_move n c.args.pid c.args.to) ended

@@ -1,0 +1,9 @@
+use Rattle.std.proofs.Common.{◌≡◌, ◌++◌}
+use Rattle.dm_rule.specs.Ends.{home_with}
+use Rattle.dm_world.specs.Ends.{held_line}
+use Rattle.dm_world.specs.Meets.{state_of}
+use Rattle.dm_world.proofs.world.World.say_holding_of.Given as goal
+
+abbrev pub invariant-loop-place : goal.invariant-loop-place
+invariant-loop-place l =
+    l.lines.items ≡ l.fn.lines.items ++ home_with (held_line (state_of l.self) l.m) l.home l.place

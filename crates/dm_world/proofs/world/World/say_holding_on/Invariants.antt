@@ -1,0 +1,8 @@
+use Rattle.std.proofs.Common.{◌≡◌, ◌++◌}
+use Rattle.dm_world.specs.Ends.{held_line, homes_with}
+use Rattle.dm_world.specs.Meets.{state_of}
+use Rattle.dm_world.proofs.world.World.say_holding_on.Given as goal
+
+abbrev pub invariant-loop-home : goal.invariant-loop-home
+invariant-loop-home l =
+    l.lines.items ≡ l.fn.lines.items ++ homes_with (state_of l.self) (held_line (state_of l.self) l.m) l.home

@@ -1,0 +1,104 @@
+//! The messages that machines hold at the end of a run for processes that leave or come.
+ghost use Rattle.std.specs.Prelude.{◌≡◌, ◌<◌, ◌++◌, OnOk, length};
+ghost use Rattle.dm_forward.specs.Records.{at};
+ghost use Rattle.dm_rule.specs.Ends.{each_machine, home_with, list_line};
+ghost use Rattle.dm_rule.specs.declared.line.EndLine.TheVariants as end;
+ghost use Rattle.dm_world.specs.Ends.{MayEnd, held_for, held_line, homes_with, names_of};
+ghost use Rattle.dm_world.specs.Meets.{IsWorld, state_of};
+
+use crate::end_lines::FIRST_NUMBER;
+use crate::end_messages::ids_of_held;
+use crate::world::World;
+use dm_forward::Record;
+use dm_link::Pid;
+use dm_memory::NoMemory;
+use dm_message::Message;
+use dm_node::Node;
+use dm_rule::line::{EndLine, Line};
+use std::alloc::Global;
+
+impl World {
+    /// What each machine holds.
+    pub(crate) fn say_holding(&self, lines: &mut Vec<Line>) -> Result<(), NoMemory>
+        requires world { IsWorld self.now }
+        requires may { MayEnd (length self.now.boot.machines) (state_of self.now) }
+        ensures { OnOk result (lines.new.items ≡ lines.old.items ++ each_machine (λ m. homes_with (state_of self.now) (held_line (state_of self.now) m) (length self.now.boot.machines)) (length self.now.boot.machines)) }
+    {
+        for m in 0..self.machines() {
+            self.say_holding_on(m, lines)?;
+        }
+        Ok(())
+    }
+
+    /// What machine `m` holds, by the process's home and number.
+    fn say_holding_on(&self, m: u8, lines: &mut Vec<Line>) -> Result<(), NoMemory>
+        requires world { IsWorld self.now }
+        requires may { MayEnd (length self.now.boot.machines) (state_of self.now) }
+        requires within { m < length self.now.boot.machines }
+        ensures { OnOk result (lines.new.items ≡ lines.old.items ++ homes_with (state_of self.now) (held_line (state_of self.now) m) (length self.now.boot.machines)) }
+    {
+        for home in 0..self.machines() {
+            self.say_holding_of(m, home, lines)?;
+        }
+        Ok(())
+    }
+
+    /// What machine `m` holds for processes of a home.
+    fn say_holding_of(&self, m: u8, home: u8, lines: &mut Vec<Line>) -> Result<(), NoMemory>
+        requires world { IsWorld self.now }
+        requires may { MayEnd (length self.now.boot.machines) (state_of self.now) }
+        requires within { m < length self.now.boot.machines }
+        requires home { home < length self.now.boot.machines }
+        ensures { OnOk result (lines.new.items ≡ lines.old.items ++ home_with (held_line (state_of self.now) m) home ((state_of self.now).nodes home).kernel.made) }
+    {
+        for place in 0..self.made(home) {
+            let pid = Pid {
+                home,
+                num: FIRST_NUMBER + place,
+            };
+            self.say_held(m, pid, lines)?;
+        }
+        Ok(())
+    }
+
+    /// What machine `m` holds for a process.
+    fn say_held(&self, m: u8, pid: Pid, lines: &mut Vec<Line>) -> Result<(), NoMemory>
+        requires world { IsWorld self.now }
+        requires within { m < length self.now.boot.machines }
+        ensures { OnOk result (lines.new.items ≡ lines.old.items ++ held_line (state_of self.now) m pid) }
+    {
+        say_held_here(self.machine(m), m, pid, lines)
+    }
+}
+
+/// What a machine holds for a process.
+fn say_held_here(node: &Node, machine: u8, pid: Pid, lines: &mut Vec<Line>) -> Result<(), NoMemory>
+    ensures { OnOk result (lines.new.items ≡ lines.old.items ++ list_line (end.Holding machine pid) (names_of (held_for (at node.now.kernel.records pid)))) }
+{
+    match node.kernel.records.get(pid) {
+        Some(Record::Frozen(leaving)) => {
+            say_messages(node.alloc, machine, pid, leaving.held(), lines)
+        }
+        Some(Record::Incoming(arriving)) => {
+            say_messages(node.alloc, machine, pid, arriving.held(), lines)
+        }
+        _ => Ok(()),
+    }
+}
+
+/// Messages that are held, if there are any.
+fn say_messages(
+    alloc: Global,
+    machine: u8,
+    pid: Pid,
+    held: &[Message],
+    lines: &mut Vec<Line>,
+) -> Result<(), NoMemory>
+    ensures { OnOk result (lines.new.items ≡ lines.old.items ++ list_line (end.Holding machine pid) (names_of held.now)) }
+{
+    let ids = ids_of_held(alloc, held)?;
+    if ids.len() > 0 {
+        lines.push(Line::End(EndLine::Holding { machine, pid, ids }))?;
+    }
+    Ok(())
+}
