@@ -75,12 +75,12 @@ impl World {
 fn say_held_here(node: &Node, machine: u8, pid: Pid, lines: &mut Vec<Line>) -> Result<(), NoMemory>
     ensures { OnOk result (lines.new.items ≡ lines.old.items ++ list_line (end.Holding machine pid) (names_of (held_for (at node.now.kernel.records pid)))) }
 {
-    match node.kernel.records.get(pid) {
+    match node.kernel().records().get(pid) {
         Some(Record::Frozen(leaving)) => {
-            say_messages(node.alloc, machine, pid, leaving.held(), lines)
+            say_messages(node.alloc(), machine, pid, leaving.held(), lines)
         }
         Some(Record::Incoming(arriving)) => {
-            say_messages(node.alloc, machine, pid, arriving.held(), lines)
+            say_messages(node.alloc(), machine, pid, arriving.held(), lines)
         }
         _ => Ok(()),
     }

@@ -283,7 +283,7 @@ fn say_messages(
 fn say_expected(node: &Node, m: u8, pid: Pid, lines: &mut Vec<Line>) -> Result<bool, NoMemory>
     ensures { IfOk result (λ said. SaysSome said lines.old.items lines.new.items (awaited_lines m pid (at node.now.kernel.records pid))) }
 {
-    match node.kernel.records.get(pid) {
+    match node.kernel().records().get(pid) {
         Some(Record::Incoming(arriving)) => say_arriving(m, pid, arriving, lines),
         _ => Ok(false),
     }
