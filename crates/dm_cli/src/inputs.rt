@@ -4,12 +4,11 @@ ghost use Rattle.std.specs.List.{All};
 ghost use Rattle.dm_onekernel.specs.Boot.{IsValid};
 ghost use Rattle.dm_cli.specs.Words.{IsTaken, names_of};
 ghost use Rattle.dm_cli.specs.Asked.{AsksFiles, AsksNamed, FailsAlone, FailsBoot, FailsSchedule, FailsSecond};
-ghost use Rattle.dm_cli.specs.Inputs.{Accepts, AcceptsFiles, NoBoot, NoDirectives, NoFiles, NoRun, SaysBoot, SaysDirectives, first_migration};
+ghost use Rattle.dm_cli.specs.Inputs.{Accepts, AcceptsFiles, NoBoot, NoDirectives, NoFiles, NoRun, SaysBoot, SaysDirectives};
 ghost use Rattle.dm_cli.specs.Progress.{IsFor};
 
 use crate::read::{ReadNo, read_file};
 use crate::status::{Input, Status};
-use crate::today::first_migration;
 use crate::words::names;
 use dm_boot::{BootNo, read_boot};
 use dm_onekernel::Boot;
@@ -36,7 +35,6 @@ pub fn read_inputs<F: Shelf>(alloc: Global, words: &[&str], shelf: &mut F) -> Re
     ensures accepts { IfOk result (λ i. Accepts (map (λ w. w.now) words.now) (F.told shelf.old) i.boot i.directives.items) }
     ensures valid { IfOk result (λ i. IsValid i.boot) }
     ensures each { IfOk result (λ i. All (IsFor (length i.boot.machines)) i.directives.items) }
-    ensures still { IfOk result (λ i. first_migration 1 i.directives.items ≡ None) }
     ensures few { IfOk result (λ i. length i.directives.items ≤ 16777216) }
     ensures refused { IfErr result (λ s. s ≡ Status.Usage → IsTaken (map (λ w. w.now) words.now) → ⊥) }
     ensures none { IfErr result (λ s. NoRun (map (λ w. w.now) words.now) (F.told shelf.old) (F.faults shelf.old) (F.faults shelf.new) s) }
@@ -62,7 +60,6 @@ fn read_files<F: Shelf>(
     ensures accepts { IfOk result (λ i. AcceptsFiles (F.told shelf.old) boot.now schedule.now i.boot i.directives.items) }
     ensures valid { IfOk result (λ i. IsValid i.boot) }
     ensures each { IfOk result (λ i. All (IsFor (length i.boot.machines)) i.directives.items) }
-    ensures still { IfOk result (λ i. first_migration 1 i.directives.items ≡ None) }
     ensures few { IfOk result (λ i. length i.directives.items ≤ 16777216) }
     ensures none { IfErr result (λ s. NoFiles (F.told shelf.old) boot.now schedule.now (F.faults shelf.old) (F.faults shelf.new) s) }
     ensures same { F.told shelf.new ≡ F.told shelf.old }
@@ -74,10 +71,7 @@ fn read_files<F: Shelf>(
     let boot = read_system(alloc, boot, shelf)?;
     let machines = boot.machines.len() as u8;
     let directives = read_directives(alloc, schedule, machines, shelf)?;
-    match first_migration(directives.as_slice()) {
-        Some(line) => Err(Status::ScheduleRefused { line, why: 0 }),
-        None => Ok(Inputs { boot, directives }),
-    }
+    Ok(Inputs { boot, directives })
 }
 
 /// The system that the boot file of this name says.

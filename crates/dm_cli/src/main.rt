@@ -7,7 +7,6 @@ mod inputs;
 mod read;
 mod run;
 mod status;
-mod today;
 mod words;
 mod write;
 

@@ -17,7 +17,7 @@ ghost use Rattle.dm_cli.specs.Words.{IsTaken, names_of};
 ghost use Rattle.dm_cli.specs.declared.status.Status.{Status as TheStatus};
 ghost use Rattle.dm_cli.specs.declared.status.Input.TheVariants as input_;
 ghost use Rattle.dm_cli.specs.Asked.{AsksNamed, FailsBoot, FailsSchedule};
-ghost use Rattle.dm_cli.specs.Inputs.{Accepts, NoRun, first_migration};
+ghost use Rattle.dm_cli.specs.Inputs.{Accepts, NoRun};
 ghost use Rattle.dm_cli.specs.Output.{Lasts, Wears};
 ghost use Rattle.dm_cli.specs.Progress.{Came, Ended, HasCome, IsAfter, IsDue, IsFor, Offered, ended_with};
 ghost use Rattle.dm_cli.specs.Program.{RunSays, Says};
@@ -89,7 +89,6 @@ pub fn run_program<F: Shelf, K: Sink>(
 fn run<K: Sink>(alloc: Global, inputs: Inputs, out: &mut K, world: &mut Option<World>) -> Status
     requires valid { IsValid inputs.boot }
     requires each { All (IsFor (length inputs.boot.machines)) inputs.directives.items }
-    requires still { first_migration 1 inputs.directives.items ≡ None }
     requires few { length inputs.directives.items ≤ 16777216 }
     ensures says { RunSays inputs.boot inputs.directives.items (K.told out.old) (K.told out.new) world.new (K.faults out.old) (K.faults out.new) result }
     ensures writes { K.faults out.old ≤ K.faults out.new }
@@ -128,7 +127,6 @@ fn run_and_end<K: Sink>(
     requires running { world.old.stopped ≡ false }
     requires begun { state_of world.old ≡ first_world world.old.boot }
     requires each { All (IsFor (length world.old.boot.machines)) directives.now }
-    requires still { first_migration 1 directives.now ≡ None }
     requires few { length directives.now ≤ 16777216 }
     ensures ended { Ended world.old.boot directives.now (K.told out.old) (K.told out.new) world.new result }
     ensures fault { IfErr result (λ e. e ≡ Stop.WriteFault → RoseOrFull (K.faults out.old) (K.faults out.new)) }

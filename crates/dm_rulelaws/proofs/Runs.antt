@@ -13,6 +13,7 @@ use Rattle.dm_rulelaws.specs.Fits.{KernelFits}
 use Rattle.dm_rulelaws.specs.Found.{Found, ListsStand}
 use Rattle.dm_rulelaws.specs.KnownStands.{KnownStands}
 use Rattle.dm_rulelaws.proofs.Queued.{IsQueued}
+use Rattle.dm_rulelaws.proofs.FoundAlways.{FoundBy}
 
 -- what the kernel without machines and the lines say of processes and of what waits for them
 pub record Based (b : Boot) (pt : Point) : Type 0 where
@@ -36,3 +37,5 @@ pub record Based (b : Boot) (pt : Point) : Type 0 where
 pub record Run (b : Boot) (pt : Point) : Type 0 where
   pub based : Based b pt
   pub found : Found pt
+  -- by what each group keeps
+  pub kept : FoundBy pt

@@ -10,6 +10,7 @@ use Rattle.dm_rule.specs.Rule.{group_of}
 use Rattle.dm_rule.specs.Laws.{Leads, IsStep}
 use Rattle.dm_rulelaws.specs.Fits.{KernelFits}
 use Rattle.dm_rulelaws.specs.KnownStands.{KnownStands}
+use Rattle.dm_rulelaws.specs.Found.{Found}
 
 -- wherever the rule leads, each directive has its group
 abbrev pub GoesOnAlways : Type 0
@@ -25,6 +26,10 @@ FitsAlways = (b : Boot) (es : List Step) (pt : Point) → IsValid b → Leads b 
 -- once in the ring of the machine that has it, and in no other ring
 abbrev pub KnownAlways : Type 0
 KnownAlways = (b : Boot) (es : List Step) (pt : Point) → IsValid b → Leads b (first_point b) es pt → KnownStands pt.kernel pt.view
+
+-- wherever the rule leads, each message stands where its receiver is known, and each address names a machine that there is
+abbrev pub FoundAlways : Type 0
+FoundAlways = (b : Boot) (es : List Step) (pt : Point) → IsValid b → Leads b (first_point b) es pt → Found pt
 
 -- from where a run stands, with what is left to do, two runs of as many groups say the same and come to the same
 abbrev pub RuleDecides : Type 0

@@ -1,0 +1,371 @@
+-- Each line leaves messages where they stood, moves them within a machine, or brings one.
+use Rattle.std.proofs.Common.{◌≡◌, ◌⊎◌, ℕ, zero, suc, ◌+◌, ◌≤◌, ◌==◌, ◌&&◌, Bool, true, false, not, filter, List, [], ◌∷◌, ◌++◌, refl, ap, sym, subst, inl, inr, arith}
+use Rattle.std.specs.Prelude.{⊤, if◌then◌else◌, drop}
+use Rattle.std.specs.declared.option.Option.{Option}
+use Rattle.std.specs.declared.option.Option.TheVariants.{None, Some}
+use Rattle.std.proofs.lemmas.Bool.{cases_Bool}
+use Rattle.dm_link.specs.declared.Pid.{Pid}
+use Rattle.dm_link.specs.Names.{pid_eq}
+use Rattle.dm_message.specs.declared.MsgId.{MsgId}
+use Rattle.dm_message.specs.Ids.{id_eq}
+use Rattle.dm_message.specs.declared.kind.MessageKind.{MessageKind}
+use Rattle.dm_message.specs.declared.kind.MessageKind.TheVariants as kind
+use Rattle.dm_onekernel.specs.declared.label.Label.{Label}
+use Rattle.dm_onekernel.specs.declared.label.Label.TheVariants as label
+use Rattle.dm_schedule.specs.declared.Step.{Step}
+use Rattle.dm_schedule.specs.declared.Step.TheVariants as step
+use Rattle.dm_laws.proofs.Equal.{id_eq-is, id_eq-same}
+use Rattle.dm_rule.specs.declared.line.Line.{Line}
+use Rattle.dm_rule.specs.declared.line.Line.TheVariants as line
+use Rattle.dm_rule.specs.declared.line.Stage.{Stage}
+use Rattle.dm_rule.specs.declared.line.Stage.TheVariants as stage
+use Rattle.dm_rule.specs.Sets.{at_machine, at_pair, at_record, without_id, without_front}
+use Rattle.dm_rule.specs.View as view
+use Rattle.dm_rule.specs.View.{View, Pair, Told, About, NothingElse, Target, Of, view_after, after_head, after_label, after_put, after_taken, after_stage, after_proto, follows_up, asks_on, handled, handled_first, queued_for, held_for, dropped_for, forwarded_for, rejoins, served_told, kills, receiver_of, taken_id, oldest, routed_on}
+use Rattle.dm_rule.specs.Spots.{Spot, Queue, Held, Inbox, Untaken, times, untaken, standing}
+use Rattle.dm_rule.proofs.Lines.{eq_is, parts, at_place, pair_keeps}
+use Rattle.dm_rule.proofs.Once.{one_of}
+use Rattle.dm_rule.proofs.Standing.{times-append}
+use Rattle.dm_rulelaws.specs.Found.{machine_of}
+
+-- of each message that stands somewhere, with the machine
+abbrev pub Places : (MsgId → ℕ → Type 0) → View → Type 0
+Places G v = (i : MsgId) (z : Spot) → 1 ≤ standing v i z → G i (machine_of z)
+
+places_of : (G : MsgId → ℕ → Type 0) (v : View) → ((m : ℕ) (p : Pid) (i : MsgId) → 1 ≤ times i (v.queue m p) → G i m) → ((m : ℕ) (p : Pid) (i : MsgId) → 1 ≤ times i (v.held m p) → G i m) → ((m : ℕ) (i : MsgId) → 1 ≤ times i (v.inbox m) → G i m)
+    → ((a b : ℕ) (i : MsgId) → 1 ≤ times i (untaken (v.pair a b)) → G i b) → Places G v
+places_of G v queue held inbox out i (Queue m p) e = queue m p i e
+places_of G v queue held inbox out i (Held m p) e = held m p i e
+places_of G v queue held inbox out i (Inbox m) e = inbox m i e
+places_of G v queue held inbox out i (Untaken a b) e = out a b i e
+
+-- lists that are set
+set_machine : (G : MsgId → ℕ → Type 0) (f : ℕ → List MsgId) (m : ℕ) (xs : List MsgId) → ((i : MsgId) → 1 ≤ times i xs → G i m) → ((n : ℕ) (i : MsgId) → 1 ≤ times i (f n) → G i n) → (n : ℕ) (i : MsgId) → 1 ≤ times i (at_machine f m xs n) → G i n
+set_machine G f m xs here rest n i e = elim (cases_Bool (m == n)) [
+  | inl same ↦ subst (G i) (eq_is m n same) (here i (subst (λ (ys : List MsgId). 1 ≤ times i ys) (ap (λ (c : Bool). if c then xs else f n) same) e))
+  | inr apart ↦ rest n i (subst (λ (ys : List MsgId). 1 ≤ times i ys) (ap (λ (c : Bool). if c then xs else f n) apart) e)
+]
+
+set_record : (G : MsgId → ℕ → Type 0) (f : ℕ → Pid → List MsgId) (m : ℕ) (p : Pid) (xs : List MsgId) → ((i : MsgId) → 1 ≤ times i xs → G i m) → ((n : ℕ) (q : Pid) (i : MsgId) → 1 ≤ times i (f n q) → G i n)
+    → (n : ℕ) (q : Pid) (i : MsgId) → 1 ≤ times i (at_record f m p xs n q) → G i n
+set_record G f m p xs here rest n q i e = elim (cases_Bool ((m == n) && pid_eq p q)) [
+  | inl same ↦ subst (G i) (eq_is m n (parts (m == n) (pid_eq p q) same).0) (here i (subst (λ (ys : List MsgId). 1 ≤ times i ys) (ap (λ (c : Bool). if c then xs else f n q) same) e))
+  | inr apart ↦ rest n q i (subst (λ (ys : List MsgId). 1 ≤ times i ys) (ap (λ (c : Bool). if c then xs else f n q) apart) e)
+]
+
+set_pair : (G : MsgId → ℕ → Type 0) (f : ℕ → ℕ → Pair) (a b : ℕ) (x : Pair) → ((i : MsgId) → 1 ≤ times i (untaken x) → G i b) → ((c d : ℕ) (i : MsgId) → 1 ≤ times i (untaken (f c d)) → G i d)
+    → (c d : ℕ) (i : MsgId) → 1 ≤ times i (untaken (at_pair f a b x c d)) → G i d
+set_pair G f a b x here rest c d i e = elim (cases_Bool ((a == c) && (b == d))) [
+  | inl same ↦ subst (G i) (eq_is b d (parts (a == c) (b == d) same).1) (here i (subst (λ (y : Pair). 1 ≤ times i (untaken y)) (ap (λ (t : Bool). if t then x else f c d) same) e))
+  | inr apart ↦ rest c d i (subst (λ (y : Pair). 1 ≤ times i (untaken y)) (ap (λ (t : Bool). if t then x else f c d) apart) e)
+]
+
+-- what stands in a shorter list stood in the longer
+one_step : (i j : MsgId) (xs ys : List MsgId) → (1 ≤ times i ys → 1 ≤ times i xs) → 1 ≤ times i (j ∷ ys) → 1 ≤ times i (j ∷ xs)
+one_step i j xs ys h e = grow (one_of i j) (times i xs) (times i ys) h e
+  where
+    grow : (a b c : ℕ) → (1 ≤ c → 1 ≤ b) → 1 ≤ a + c → 1 ≤ a + b
+    grow zero b c h e = let f = h (omega (arith, e)) in omega (arith, f)
+    grow (suc a) b c h e = omega arith
+
+more_front : (i j : MsgId) (xs : List MsgId) → 1 ≤ times i xs → 1 ≤ times i (j ∷ xs)
+more_front i j xs e = omega (arith, e)
+
+front_fewer : (i j : MsgId) (xs : List MsgId) → 1 ≤ times i (without_front j xs) → 1 ≤ times i xs
+front_fewer i j [] e = e
+front_fewer i j (x ∷ xs) e = by (id_eq j x) e
+  where
+    by : (c : Bool) → 1 ≤ times i (if c then xs else x ∷ xs) → 1 ≤ times i (x ∷ xs)
+    by true f = more_front i x xs f
+    by false f = f
+
+first_fewer : (i : MsgId) (xs : List MsgId) → 1 ≤ times i (view.without_first xs) → 1 ≤ times i xs
+first_fewer i [] e = e
+first_fewer i (x ∷ xs) e = more_front i x xs e
+
+id_fewer : (i j : MsgId) (xs : List MsgId) → 1 ≤ times i (without_id j xs) → 1 ≤ times i xs
+id_fewer i j [] e = e
+id_fewer i j (x ∷ xs) e = id_by i x xs (without_id j xs) (id_eq j x) (id_fewer i j xs) e
+  where
+    id_by : (i x : MsgId) (xs ys : List MsgId) (c : Bool) → (1 ≤ times i ys → 1 ≤ times i xs) → 1 ≤ times i (if c then xs else x ∷ ys) → 1 ≤ times i (x ∷ xs)
+    id_by i x xs ys true h f = more_front i x xs f
+    id_by i x xs ys false h f = one_step i x xs ys h f
+
+-- of two lists put together, or with one more
+either : (i : MsgId) (xs ys : List MsgId) → 1 ≤ times i (xs ++ ys) → (1 ≤ times i xs) ⊎ (1 ≤ times i ys)
+either i xs ys e = by (times i xs) (times i ys) (let f = times-append i xs ys in omega (arith, e, f))
+  where
+    by : (a b : ℕ) → 1 ≤ a + b → (1 ≤ a) ⊎ (1 ≤ b)
+    by zero b h = inr (omega (arith, h))
+    by (suc a) b h = inl (omega arith)
+
+one_is : (i j : MsgId) → 1 ≤ times i (j ∷ []) → i ≡ j
+one_is i j e = elim (cases_Bool (id_eq i j)) [
+  | inl same ↦ id_eq-is i j same
+  | inr apart ↦ absurd (let f : one_of i j ≡ 0 = ap (λ (c : Bool). if c then 1 else 0) apart in omega (arith, e, f))
+]
+
+last_or : (G : MsgId → ℕ → Type 0) (m : ℕ) (j : MsgId) (xs : List MsgId) → G j m → ((i : MsgId) → 1 ≤ times i xs → G i m) → (i : MsgId) → 1 ≤ times i (xs ++ j ∷ []) → G i m
+last_or G m j xs new old i e = elim (either i xs (j ∷ []) e) [
+  | inl was ↦ old i was
+  | inr is ↦ subst (λ (k : MsgId). G k m) (sym (one_is i j is)) new
+]
+
+drop_suc : (i : MsgId) (xs : List MsgId) (k : ℕ) → 1 ≤ times i (drop (suc k) xs) → 1 ≤ times i (drop k xs)
+drop_suc i [] zero e = e
+drop_suc i [] (suc k) e = e
+drop_suc i (x ∷ xs) zero e = more_front i x xs e
+drop_suc i (x ∷ xs) (suc k) e = drop_suc i xs k e
+
+drop_more : (i : MsgId) (xs : List MsgId) (k : ℕ) → 1 ≤ times i (drop (k + 1) xs) → 1 ≤ times i (drop k xs)
+drop_more i xs k e = drop_suc i xs k (subst (λ (n : ℕ). 1 ≤ times i (drop n xs)) (let f : k + 1 ≡ suc k = omega arith in f) e)
+
+drop_last : (G : MsgId → Type 0) (j : MsgId) (xs : List MsgId) (k : ℕ) → G j → ((i : MsgId) → 1 ≤ times i (drop k xs) → G i) → (i : MsgId) → 1 ≤ times i (drop k (xs ++ j ∷ [])) → G i
+drop_last G j [] zero new old i e = subst G (sym (one_is i j e)) new
+drop_last G j [] (suc k) new old i e = absurd (omega (arith, (let f : times i (drop k []) ≡ 0 = nothing k in f), e))
+  where
+    nothing : (n : ℕ) → times i (drop n []) ≡ 0
+    nothing zero = refl
+    nothing (suc n) = refl
+drop_last G j (x ∷ xs) zero new old i e = elim (either i (x ∷ xs) (j ∷ []) e) [
+  | inl was ↦ old i was
+  | inr is ↦ subst G (sym (one_is i j is)) new
+]
+drop_last G j (x ∷ xs) (suc k) new old i e = drop_last G j xs k new old i e
+
+-- the same lists
+places_as : (G : MsgId → ℕ → Type 0) (v w : View) → w.queue ≡ v.queue → w.held ≡ v.held → w.inbox ≡ v.inbox → ((a b : ℕ) → untaken (w.pair a b) ≡ untaken (v.pair a b)) → Places G v → Places G w
+places_as G v w queue held inbox out h =
+    places_of G w (λ m p i e. h i (Queue m p) (subst (λ (f : ℕ → Pid → List MsgId). 1 ≤ times i (f m p)) queue e)) (λ m p i e. h i (Held m p) (subst (λ (f : ℕ → Pid → List MsgId). 1 ≤ times i (f m p)) held e))
+    (λ m i e. h i (Inbox m) (subst (λ (f : ℕ → List MsgId). 1 ≤ times i (f m)) inbox e)) (λ a b i e. h i (Untaken a b) (subst (λ (ys : List MsgId). 1 ≤ times i ys) (out a b) e))
+
+-- another inbox on the acting machine
+places_inbox : (G : MsgId → ℕ → Type 0) (v w : View) (m : ℕ) (xs : List MsgId) → w.queue ≡ v.queue → w.held ≡ v.held → w.inbox ≡ at_machine v.inbox m xs → ((a b : ℕ) → untaken (w.pair a b) ≡ untaken (v.pair a b)) → ((i : MsgId) → 1 ≤ times i xs → G i m) → Places G v
+    → Places G w
+places_inbox G v w m xs queue held inbox out here h =
+    places_of G w (λ n p i e. h i (Queue n p) (subst (λ (f : ℕ → Pid → List MsgId). 1 ≤ times i (f n p)) queue e)) (λ n p i e. h i (Held n p) (subst (λ (f : ℕ → Pid → List MsgId). 1 ≤ times i (f n p)) held e))
+    (λ n i e. set_machine G v.inbox m xs here (λ k j f. h j (Inbox k) f) n i (subst (λ (f : ℕ → List MsgId). 1 ≤ times i (f n)) inbox e)) (λ a b i e. h i (Untaken a b) (subst (λ (ys : List MsgId). 1 ≤ times i ys) (out a b) e))
+
+pub places_handled : (G : MsgId → ℕ → Type 0) (v : View) (id : MsgId) → Places G v → Places G (handled v id)
+places_handled G v id h = places_inbox G v (handled v id) v.acting (without_front id (v.inbox v.acting)) refl refl refl (λ a b. refl) (λ i e. h i (Inbox v.acting) (front_fewer i id (v.inbox v.acting) e)) h
+
+places_first : (G : MsgId → ℕ → Type 0) (v : View) → Places G v → Places G (handled_first v)
+places_first G v h = places_inbox G v (handled_first v) v.acting (view.without_first (v.inbox v.acting)) refl refl refl (λ a b. refl) (λ i e. h i (Inbox v.acting) (first_fewer i (v.inbox v.acting) e)) h
+
+places_queued : (G : MsgId → ℕ → Type 0) (v : View) (id : MsgId) (o : Option Pid) → G id v.acting → Places G v → Places G (queued_for v id o)
+places_queued G v id None new h = h
+places_queued G v id (Some p) new h =
+    places_of G (queued_for v id (Some p)) (λ m q i e. set_record G v.queue v.acting p (v.queue v.acting p ++ id ∷ []) (last_or G v.acting id (v.queue v.acting p) new (λ j f. h j (Queue v.acting p) f)) (λ n r j f. h j (Queue n r) f) m q i e)
+    (λ m q i e. h i (Held m q) e) (λ m i e. h i (Inbox m) e) (λ a b i e. h i (Untaken a b) e)
+
+places_held : (G : MsgId → ℕ → Type 0) (v : View) (id : MsgId) (o : Option Pid) → G id v.acting → Places G v → Places G (held_for v id o)
+places_held G v id None new h = h
+places_held G v id (Some p) new h =
+    places_of G (held_for v id (Some p)) (λ m q i e. h i (Queue m q) e) (λ m q i e. set_record G v.held v.acting p (v.held v.acting p ++ id ∷ []) (last_or G v.acting id (v.held v.acting p) new (λ j f. h j (Held v.acting p) f)) (λ n r j f. h j (Held n r) f) m q i e)
+    (λ m i e. h i (Inbox m) e) (λ a b i e. h i (Untaken a b) e)
+
+places_queue_less : (G : MsgId → ℕ → Type 0) (v w : View) (p : Pid) (xs : List MsgId) → w.queue ≡ at_record v.queue v.acting p xs → w.held ≡ v.held → w.inbox ≡ v.inbox → w.pair ≡ v.pair → ((i : MsgId) → 1 ≤ times i xs → 1 ≤ times i (v.queue v.acting p)) → Places G v → Places G w
+places_queue_less G v w p xs queue held inbox pair less h =
+    places_of G w
+    (λ m q i e. set_record G v.queue v.acting p xs (λ j f. h j (Queue v.acting p) (less j f)) (λ n r j f. h j (Queue n r) f) m q i (subst (λ (f : ℕ → Pid → List MsgId). 1 ≤ times i (f m q)) queue e))
+    (λ m q i e. h i (Held m q) (subst (λ (f : ℕ → Pid → List MsgId). 1 ≤ times i (f m q)) held e)) (λ m i e. h i (Inbox m) (subst (λ (f : ℕ → List MsgId). 1 ≤ times i (f m)) inbox e))
+    (λ a b i e. h i (Untaken a b) (subst (λ (f : ℕ → ℕ → Pair). 1 ≤ times i (untaken (f a b))) pair e))
+
+places_dropped : (G : MsgId → ℕ → Type 0) (v : View) (id : MsgId) (o : Option Pid) → Places G v → Places G (dropped_for v id o)
+places_dropped G v id None h = h
+places_dropped G v id (Some p) h = places_queue_less G v (dropped_for v id (Some p)) p (without_front id (v.queue v.acting p)) refl refl refl refl (λ i e. front_fewer i id (v.queue v.acting p) e) h
+
+-- the held messages come to the inbox
+places_rejoins : (G : MsgId → ℕ → Type 0) (v : View) (p : Pid) → Places G v → Places G (rejoins v p)
+places_rejoins G v p h =
+    places_of G (rejoins v p) (λ m q i e. h i (Queue m q) e) (λ m q i e. set_record G v.held v.acting p [] (λ j f. absurd (omega (arith, f))) (λ n r j f. h j (Held n r) f) m q i e)
+    (λ m i e. set_machine G v.inbox v.acting (v.held v.acting p ++ v.inbox v.acting)
+    (λ j f. elim (either j (v.held v.acting p) (v.inbox v.acting) f) [ inl was ↦ h j (Held v.acting p) was | inr was ↦ h j (Inbox v.acting) was ]) (λ n j f. h j (Inbox n) f) m i e)
+    (λ a b i e. h i (Untaken a b) e)
+
+-- those that wait for a process are taken from it
+places_cleared : (G : MsgId → ℕ → Type 0) (v w : View) (p : Pid) → w.queue ≡ at_record v.queue v.acting p [] → w.held ≡ at_record v.held v.acting p [] → w.inbox ≡ v.inbox → w.pair ≡ v.pair → Places G v → Places G w
+places_cleared G v w p queue held inbox pair h =
+    places_of G w
+    (λ m q i e. set_record G v.queue v.acting p [] (λ j f. absurd (omega (arith, f))) (λ n r j f. h j (Queue n r) f) m q i (subst (λ (f : ℕ → Pid → List MsgId). 1 ≤ times i (f m q)) queue e))
+    (λ m q i e. set_record G v.held v.acting p [] (λ j f. absurd (omega (arith, f))) (λ n r j f. h j (Held n r) f) m q i (subst (λ (f : ℕ → Pid → List MsgId). 1 ≤ times i (f m q)) held e)) (λ m i e. h i (Inbox m) (subst (λ (f : ℕ → List MsgId). 1 ≤ times i (f m)) inbox e))
+    (λ a b i e. h i (Untaken a b) (subst (λ (f : ℕ → ℕ → Pair). 1 ≤ times i (untaken (f a b))) pair e))
+
+-- a message that a machine takes
+places_taken_id : (G : MsgId → ℕ → Type 0) (v : View) (b : ℕ) (o : Option MsgId) → ((i : MsgId) → o ≡ Some i → G i b) → Places G v → Places G (taken_id v b o)
+places_taken_id G v b None new h = h
+places_taken_id G v b (Some j) new h = places_inbox G v (taken_id v b (Some j)) b (v.inbox b ++ j ∷ []) refl refl refl (λ c d. refl) (last_or G b j (v.inbox b) (new j refl) (λ i f. h i (Inbox b) f)) h
+
+oldest_stands : (p : Pair) (i : MsgId) → oldest p ≡ Some i → 1 ≤ times i (untaken p)
+oldest_stands p i e =
+    let f : times i (untaken p) ≡ one_of i i + times i (drop (suc p.taken) p.ids) = ap (times i) (at_place p.ids p.taken i e) in
+    let g : one_of i i ≡ 1 = ap (λ (c : Bool). if c then 1 else 0) (id_eq-same i) in
+    omega (arith, f, g)
+
+places_taken : (G : MsgId → ℕ → Type 0) (v : View) (a b n : ℕ) → Places G v → Places G (after_taken v a b n)
+places_taken G v a b n h =
+    let p = v.pair a b in
+    let q : Pair = record p { taken = p.taken + 1; kept = filter (λ k. not (k == n)) p.kept } in
+    let u = view.with_pair v a b q in
+    places_taken_id G u b (oldest p) (λ i e. h i (Untaken a b) (oldest_stands p i e))
+    (places_of G u (λ m r i e. h i (Queue m r) e) (λ m r i e. h i (Held m r) e) (λ m i e. h i (Inbox m) e)
+    (λ c d i e. set_pair G v.pair a b q (λ j f. h j (Untaken a b) (drop_more j p.ids p.taken f)) (λ x y j f. h j (Untaken x y) f) c d i e))
+
+-- a put
+routed_untaken : (G : MsgId → Type 0) (a b : ℕ) (p : Pair) (id : MsgId) → G id → ((i : MsgId) → 1 ≤ times i (untaken p) → G i) → (i : MsgId) → 1 ≤ times i (untaken (routed_on a b p id)) → G i
+routed_untaken G a b p id new old i e = by (a == b) e
+  where
+    by : (c : Bool) → 1 ≤ times i (drop (if c then p.taken + 1 else p.taken) (p.ids ++ id ∷ [])) → G i
+    by true f = drop_last G id p.ids p.taken new old i (drop_more i (p.ids ++ id ∷ []) p.taken f)
+    by false f = drop_last G id p.ids p.taken new old i f
+
+put_inbox : (G : MsgId → ℕ → Type 0) (f : ℕ → List MsgId) (b : ℕ) (id : MsgId) (c : Bool) → G id b → ((m : ℕ) (i : MsgId) → 1 ≤ times i (f m) → G i m) → (m : ℕ) (i : MsgId) → 1 ≤ times i ((if c then at_machine f b (f b ++ id ∷ []) else f) m) → G i m
+put_inbox G f b id true new old m i e = set_machine G f b (f b ++ id ∷ []) (last_or G b id (f b) new (old b)) old m i e
+put_inbox G f b id false new old m i e = old m i e
+
+pub places_put : (G : MsgId → ℕ → Type 0) (v : View) (a b : ℕ) (id : MsgId) (k : MessageKind) (q : Pid) → G id b → Places G v → Places G (after_put v a b id k q)
+places_put G v a b id k q new h =
+    places_of G (after_put v a b id k q) (λ m p i e. h i (Queue m p) e) (λ m p i e. h i (Held m p) e) (λ m i e. put_inbox G v.inbox b id (a == b) new (λ n j f. h j (Inbox n) f) m i e)
+    (λ c d i e. set_pair G v.pair a b (routed_on a b (v.pair a b) id) (routed_untaken (λ (j : MsgId). G j b) a b (v.pair a b) id new (λ j f. h j (Untaken a b) f)) (λ x y j f. h j (Untaken x y) f) c d i e)
+
+-- labels
+places_kills : (G : MsgId → ℕ → Type 0) (v : View) (k : MessageKind) (p : Pid) → Places G v → Places G (kills k v (Some p))
+places_kills G v kind.User p h = h
+places_kills G v kind.Stop p h = h
+places_kills G v kind.Resume p h = h
+places_kills G v kind.Kill p h = places_as G v (kills kind.Kill v (Some p)) refl refl refl (λ a b. refl) h
+places_kills G v kind.Read p h = h
+places_kills G v kind.Write p h = h
+places_kills G v kind.Block p h = h
+places_kills G v kind.Written p h = h
+places_kills G v kind.Gone p h = h
+places_kills G v kind.Create p h = h
+places_kills G v kind.Created p h = h
+places_kills G v kind.NoRoom p h = h
+places_kills G v kind.Migrate p h = h
+places_kills G v kind.Update p h = h
+places_kills G v kind.Ask p h = h
+places_kills G v kind.Refuse p h = h
+places_kills G v kind.PullState p h = h
+places_kills G v kind.State p h = h
+places_kills G v kind.PullBlock p h = h
+places_kills G v kind.Memory p h = h
+places_kills G v kind.AllTaken p h = h
+places_kills G v kind.Restart p h = h
+places_kills G v kind.Move p h = h
+places_kills G v kind.Moved p h = h
+places_kills G v kind.CallOff p h = h
+places_kills G v kind.Bury p h = h
+
+places_served : (G : MsgId → ℕ → Type 0) (v : View) (o : Option Told) → Places G v → Places G (served_told v o)
+places_served G v None h = h
+places_served G v (Some t) h = places_kills G v t.kind t.receiver h
+
+pub places_label : (G : MsgId → ℕ → Type 0) (v : View) (l : Label) → Places G v → Places G (after_label v l)
+places_label G v (label.Ran p k) h = places_as G v (after_label v (label.Ran p k)) refl refl refl (λ a b. refl) h
+places_label G v (label.Call p n c) h = h
+places_label G v (label.Send p id) h = h
+places_label G v (label.Wait p) h = h
+places_label G v (label.Out p x) h = h
+places_label G v (label.End p y) h = places_as G v (after_label v (label.End p y)) refl refl refl (λ a b. refl) h
+places_label G v (label.Refuse p id c) h = places_as G v (after_label v (label.Refuse p id c)) refl refl refl (λ a b. refl) h
+places_label G v (label.Receive p id) h = places_queue_less G v (after_label v (label.Receive p id)) p (without_id id (v.queue v.acting p)) refl refl refl refl (λ i e. id_fewer i id (v.queue v.acting p) e) h
+places_label G v (label.Dropped id) h = places_dropped G (handled v id) id (receiver_of (v.told id)) (places_handled G v id h)
+places_label G v (label.Served id) h = places_served G (handled v id) (v.told id) (places_handled G v id h)
+places_label G v (label.Gone id) h = places_handled G v id h
+places_label G v (label.Took id) h = places_handled G v id h
+places_label G v (label.Created id p) h = places_as G (handled v id) (after_label v (label.Created id p)) refl refl refl (λ a b. refl) (places_handled G v id h)
+places_label G v (label.NoSpace id f b) h = places_handled G v id h
+
+-- steps of migrations
+pub places_stage : (G : MsgId → ℕ → Type 0) (v : View) (p : Pid) (s : Stage) → Places G v → Places G (after_stage v p s)
+places_stage G v p stage.Frozen h = places_as G (handled_first v) (after_stage v p stage.Frozen) refl refl refl (λ a b. refl) (places_first G v h)
+places_stage G v p stage.Asked h = h
+places_stage G v p stage.Accepted h = places_as G (handled_first v) (after_stage v p stage.Accepted) refl refl refl (λ a b. refl) (places_first G v h)
+places_stage G v p stage.StateTaken h = places_as G (handled_first v) (after_stage v p stage.StateTaken) refl refl refl (λ a b. refl) (places_first G v h)
+places_stage G v p stage.MemoryTaken h = places_as G (handled_first v) (after_stage v p stage.MemoryTaken) refl refl refl (λ a b. refl) (places_first G v h)
+places_stage G v p stage.Left h = places_as G v (after_stage v p stage.Left) refl refl refl (λ a b. refl) h
+places_stage G v p stage.Restarted h = places_as G (rejoins (handled_first v) p) (after_stage v p stage.Restarted) refl refl refl (λ a b. refl) (places_rejoins G (handled_first v) p (places_first G v h))
+
+places_asks : (G : MsgId → ℕ → Type 0) (v : View) (a : About) → Places G v → Places G (asks_on v a)
+places_asks G v NothingElse h = h
+places_asks G v (Target m) h = h
+places_asks G v (Of p) h = places_as G v (asks_on v (Of p)) refl refl refl (λ a b. refl) h
+places_asks G v (view.Place p at moves) h = h
+
+places_follows : (G : MsgId → ℕ → Type 0) (v : View) (a : About) (k : MessageKind) → Places G v → Places G (follows_up v a k)
+places_follows G v a kind.User h = h
+places_follows G v a kind.Stop h = h
+places_follows G v a kind.Resume h = h
+places_follows G v a kind.Kill h = h
+places_follows G v a kind.Read h = h
+places_follows G v a kind.Write h = h
+places_follows G v a kind.Block h = h
+places_follows G v a kind.Written h = h
+places_follows G v a kind.Gone h = h
+places_follows G v a kind.Create h = h
+places_follows G v a kind.Created h = h
+places_follows G v a kind.NoRoom h = h
+places_follows G v a kind.Migrate h = h
+places_follows G v a kind.Update h = h
+places_follows G v a kind.Ask h = h
+places_follows G v a kind.Refuse h = h
+places_follows G v a kind.PullState h = h
+places_follows G v a kind.State h = places_asks G v a h
+places_follows G v a kind.PullBlock h = h
+places_follows G v a kind.Memory h = places_asks G v a h
+places_follows G v a kind.AllTaken h = h
+places_follows G v a kind.Restart h = h
+places_follows G v a kind.Move h = h
+places_follows G v a kind.Moved h = h
+places_follows G v a kind.CallOff h = h
+places_follows G v a kind.Bury h = h
+
+places_proto : (G : MsgId → ℕ → Type 0) (v : View) (o : Option Told) → Places G v → Places G (after_proto v o)
+places_proto G v None h = places_as G v (after_proto v None) refl refl refl (λ a b. refl) h
+places_proto G v (Some t) h = places_as G (follows_up v t.about t.kind) (after_proto v (Some t)) refl refl refl (λ a b. refl) (places_follows G v t.about t.kind h)
+
+pub places_forwarded : (G : MsgId → ℕ → Type 0) (v : View) (o : Option Pid) → Places G v → Places G (forwarded_for v o)
+places_forwarded G v None h = h
+places_forwarded G v (Some p) h = places_as G v (forwarded_for v (Some p)) refl refl refl (λ a b. refl) h
+
+-- heads
+places_head : (G : MsgId → ℕ → Type 0) (v : View) (d : Step) → Places G v → Places G (after_head v d)
+places_head G v (step.Turn m) h = places_as G v (after_head v (step.Turn m)) refl refl refl (λ a b. refl) h
+places_head G v (step.Tick m) h = places_as G v (after_head v (step.Tick m)) refl refl refl (λ a b. refl) h
+places_head G v (step.Deliver a b k) h = places_as G v (after_head v (step.Deliver a b k)) refl refl refl (λ c d. pair_keeps v.pair a b (view.marked (v.pair a b) k) refl c d) h
+places_head G v (step.Migrate p m) h = places_as G v (after_head v (step.Migrate p m)) refl refl refl (λ a b. refl) h
+
+-- what a line brings
+abbrev pub Brings : (MsgId → ℕ → Type 0) → View → Line → Type 0
+Brings G v (line.Put a b id k q) = G id b
+Brings G v (line.Queued id) = G id v.acting
+Brings G v (line.Held id) = G id v.acting
+Brings G v _ = ⊤
+
+pub places_line : (G : MsgId → ℕ → Type 0) (v : View) (l : Line) → Brings G v l → Places G v → Places G (view_after v l)
+places_line G v (line.Head d) new h = places_head G v d h
+places_line G v (line.Label l) new h = places_label G v l h
+places_line G v (line.Put a b id k q) new h = places_put G v a b id k q new h
+places_line G v (line.Packet a b k l) new h = places_as G v (view_after v (line.Packet a b k l)) refl refl refl (λ c d. pair_keeps v.pair a b (record (v.pair a b) { gone = view.gone_after l (v.pair a b).gone; wire = (v.pair a b).wire ++ record { load = l; delivered = false } ∷ [] }) refl c d) h
+places_line G v (line.Taken a b n) new h = places_taken G v a b n h
+places_line G v (line.Early a b n) new h = places_as G v (view_after v (line.Early a b n)) refl refl refl (λ c d. pair_keeps v.pair a b (record (v.pair a b) { kept = n ∷ filter (λ k. not (k == n)) (v.pair a b).kept }) refl c d) h
+places_line G v (line.Acked a b n) new h = places_as G v (view_after v (line.Acked a b n)) refl refl refl (λ c d. pair_keeps v.pair b a (record (v.pair b a) { acked = view.at_least (v.pair b a).acked n }) refl c d) h
+places_line G v (line.Queued id) new h = places_queued G (handled v id) id (receiver_of (v.told id)) new (places_handled G v id h)
+places_line G v (line.Held id) new h = places_held G (handled v id) id (receiver_of (v.told id)) new (places_handled G v id h)
+places_line G v (line.Forwarded id m) new h = places_forwarded G (handled v id) (receiver_of (v.told id)) (places_handled G v id h)
+places_line G v (line.Updated id n) new h = places_handled G v id h
+places_line G v (line.Migration s p) new h = places_stage G v p s h
+places_line G v (line.SentOn p n) new h = places_cleared G (handled_first v) (view_after v (line.SentOn p n)) p refl refl refl refl (places_first G v h)
+places_line G v (line.Lacks p a b) new h = places_as G (handled_first v) (view_after v (line.Lacks p a b)) refl refl refl (λ c d. refl) (places_first G v h)
+places_line G v (line.Stays p) new h = places_rejoins G (handled_first v) p (places_first G v h)
+places_line G v (line.Here id) new h = places_handled G v id h
+places_line G v (line.NoMove id) new h = places_handled G v id h
+places_line G v (line.Proto id) new h = places_proto G (handled v id) (v.told id) (places_handled G v id h)
+places_line G v (line.Idle m) new h = h
+places_line G v (line.Old a b n) new h = h
+places_line G v line.Nothing new h = h
+places_line G v (line.Resent m n) new h = h
+places_line G v (line.NoChild p) new h = h
+places_line G v (line.Pinned p) new h = h
+places_line G v (line.End e) new h = h

@@ -1,0 +1,41 @@
+-- All that holds wherever the rule leads holds at the start and behind each group; and so the laws.
+use Rattle.std.proofs.Common.{◌≡◌, List}
+use Rattle.std.specs.declared.option.Option.TheVariants.{Some}
+use Rattle.dm_onekernel.specs.declared.boot.Boot.{Boot}
+use Rattle.dm_onekernel.specs.Boot.{IsValid}
+use Rattle.dm_schedule.specs.declared.Step.{Step}
+use Rattle.dm_rule.specs.Laws.{Leads}
+use Rattle.dm_rule.specs.Parts.{Spelled}
+use Rattle.dm_rule.specs.Point.{Point, first_point}
+use Rattle.dm_rulelaws.specs.Laws.{FoundAlways, GoesOnAlways, KnownAlways}
+use Rattle.dm_rulelaws.specs.Order.{ReceivesInOrder}
+use Rattle.dm_rulelaws.proofs.BasedAlways.{based_start, based_group}
+use Rattle.dm_rulelaws.proofs.FoundAlways.{FoundBy, found_start, found_group, found_of}
+use Rattle.dm_rulelaws.proofs.GoesRuns.{Both, RunStarts, RunGoes, both_always, goes_on_by, known_by}
+use Rattle.dm_rulelaws.proofs.OrderAlways.{receives_in_order_by}
+use Rattle.dm_rulelaws.proofs.Runs.{Based, Run}
+
+run_by : (b : Boot) (pt : Point) → Based b pt → FoundBy pt → Run b pt
+run_by b pt based kept = record { based = based; found = found_of pt based.phased kept; kept = kept }
+
+pub run_start : RunStarts
+run_start b valid = run_by b (first_point b) (based_start b valid) (found_start b valid)
+
+pub run_group : RunGoes
+run_group b pt d w valid fit is h own = run_by b w.point (based_group b pt d w fit is h.based) (found_group b pt d w fit is h.based.phased h.kept)
+
+-- wherever the rule leads
+pub run_always : (b : Boot) (es : List Step) (pt : Point) → IsValid b → Leads b (first_point b) es pt → Both b pt
+run_always = both_always run_start run_group
+
+pub goes_on_always : GoesOnAlways
+goes_on_always = goes_on_by run_start run_group
+
+pub known_always : KnownAlways
+known_always = known_by run_start run_group
+
+pub found_always : FoundAlways
+found_always b es pt valid leads = (run_always b es pt valid leads).run.found
+
+pub receives_in_order : ReceivesInOrder
+receives_in_order = receives_in_order_by run_start run_group
