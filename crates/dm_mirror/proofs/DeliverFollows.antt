@@ -1,0 +1,98 @@
+-- What a machine gives, in order, is what the rule's parts say, and the world behind it stands.
+use Rattle.std.proofs.Common.{◌≡◌, ◌≢◌, ℕ, ◌==◌, Bool, true, false, List, [], ◌∷◌, refl, ap, ◌∙◌, sym, subst, inl, inr, arith}
+use Rattle.std.specs.Prelude.{if◌then◌else◌}
+use Rattle.std.specs.declared.option.Option.{Option}
+use Rattle.std.specs.declared.option.Option.TheVariants.{Some}
+use Rattle.std.proofs.Math.Path.{fun_ext}
+use Rattle.std.proofs.lemmas.Bool.Decides.{eqb_tells, nat_tests}
+use Rattle.dm_packet.specs.declared.Packet.{Packet}
+use Rattle.dm_onekernel.specs.declared.boot.Boot.{Boot}
+use Rattle.dm_onekernel.specs.Options.{bind}
+use Rattle.dm_rule.specs.declared.line.Line.{Line}
+use Rattle.dm_rule.specs.declared.line.Load.{Load}
+use Rattle.dm_rule.specs.Sets.{at_machine}
+use Rattle.dm_rule.specs.Parts as rule
+use Rattle.dm_rule.specs.Parts.{Part, Spelled, behind, spelled}
+use Rattle.dm_rule.specs.Point.{Point, after, after_line}
+use Rattle.dm_placed.specs.Placed.{Placed}
+use Rattle.dm_node.specs.State.{NodeState}
+use Rattle.dm_node.specs.declared.out.Out.TheVariants.{Says, Sends}
+use Rattle.dm_node.specs.Out.{Acted}
+use Rattle.dm_node.specs.Acts.{before}
+use Rattle.dm_node.specs.Wired.{packet_line, spoken, with_packet}
+use Rattle.dm_world.specs.World.{WorldState}
+use Rattle.dm_mirror.specs.Stands.{History, StandsWith}
+
+-- one value set
+pub machine_same : {X : Type 0} (f : ℕ → X) (m : ℕ) (x : X) → at_machine f m x m ≡ x
+machine_same f m x = let e : (m == m) ≡ true = grind (arith, nat_tests) in ap (λ (c : Bool). if c then x else f m) e
+
+pub machine_other : {X : Type 0} (f : ℕ → X) (m : ℕ) (x : X) (n : ℕ) → n ≢ m → at_machine f m x n ≡ f n
+machine_other f m x n apart = let e : (m == n) ≡ false = grind (arith, nat_tests) in ap (λ (c : Bool). if c then x else f n) e
+
+-- set again, and set to what it was
+pub machine_again : {X : Type 0} (f : ℕ → X) (m : ℕ) (x y : X) → at_machine (at_machine f m x) m y ≡ at_machine f m y
+machine_again f m x y = fun_ext (λ n. again_at f m x y n (m == n))
+  where
+    again_at : {X : Type 0} (f : ℕ → X) (m : ℕ) (x y : X) (n : ℕ) (c : Bool) → (if c then y else if c then x else f n) ≡ (if c then y else f n)
+    again_at f m x y n true = refl
+    again_at f m x y n false = refl
+
+pub machine_kept : {X : Type 0} (f : ℕ → X) (m : ℕ) → at_machine f m (f m) ≡ f
+machine_kept f m = fun_ext (λ n. elim (eqb_tells m n) [
+  | inl e ↦ ap (λ (c : Bool). if c then f m else f n) e.0 ∙ ap f e.1
+  | inr e ↦ ap (λ (c : Bool). if c then f m else f n) e.0
+])
+
+-- the world after machine c has acted, but for the count of directives
+abbrev pub acted_on : WorldState → ℕ → Acted → WorldState
+acted_on w c d = record { nodes = at_machine w.nodes c d.state; wires = (spoken w.wires d.outs).wires; groups = w.groups }
+
+pub record Follows (b : Boot) (c : ℕ) (w : WorldState) (pt : Point) (l : Placed) (d : Acted) (ps : List Part) : Type 0 where
+  pub end : Spelled
+  pub spells : spelled pt ps ≡ Some end
+  pub lines : (spoken w.wires d.outs).lines ≡ end.lines
+  pub history : History
+  pub stands : StandsWith b (acted_on w c d) end.point l history
+
+-- nothing more is given
+pub nothing : (b : Boot) (c : ℕ) (w : WorldState) (pt : Point) (l : Placed) (h : History) (n : NodeState) → w.nodes c ≡ n → StandsWith b w pt l h → Follows b c w pt l (record { state = n; outs = [] }) []
+nothing b c w pt l h n e s = record {
+  end = record { lines = []; point = pt };
+  spells = refl;
+  lines = refl;
+  history = h;
+  stands = (let kept : w.nodes ≡ at_machine w.nodes c n = sym (machine_kept w.nodes c) ∙ ap (at_machine w.nodes c) e in
+      let same : w ≡ acted_on w c (record { state = n; outs = [] }) = λ i. record { nodes = kept i; wires = w.wires; groups = w.groups } in
+      subst (λ (v : WorldState). StandsWith b v pt l h) same s);
+}
+
+spelled_on : (pt q : Point) (p : Part) (x : Line) (ps : List Part) (z : Spelled) → rule.lines_of pt p ≡ Some (x ∷ []) → after_line pt x ≡ Some q → spelled q ps ≡ Some z → spelled pt (p ∷ ps) ≡ Some (behind (x ∷ []) z)
+spelled_on pt q p x ps z lines next rest =
+    ap (λ (o : Option (List Line)). bind o (λ ls. bind (after pt ls) (λ next. bind (spelled next ps) (λ rest. Some (behind ls rest))))) lines
+    ∙ ap (λ (o : Option Point). bind (bind o (λ next. after next [])) (λ next. bind (spelled next ps) (λ rest. Some (behind (x ∷ []) rest)))) next
+    ∙ ap (λ (o : Option Spelled). bind o (λ rest. Some (behind (x ∷ []) rest))) rest
+
+-- a line first
+pub says_on : (b : Boot) (c : ℕ) (w : WorldState) (pt q : Point) (l : Placed) (n : NodeState) (x y : Line) (d : Acted) (ps : List Part) → x ≡ y → after_line pt y ≡ Some q → Follows b c (record w { nodes = at_machine w.nodes c n }) q l d ps
+    → Follows b c w pt l (before (Says x ∷ []) d) (rule.Says y ∷ ps)
+says_on b c w pt q l n x y d ps same next f = record {
+  end = behind (y ∷ []) f.end;
+  spells = spelled_on pt q (rule.Says y) y ps f.end refl next f.spells;
+  lines = λ i. same i ∷ f.lines i;
+  history = f.history;
+  stands = (let again : acted_on (record w { nodes = at_machine w.nodes c n }) c d ≡ acted_on w c d = λ i. record { nodes = machine_again w.nodes c n d.state i; wires = (spoken w.wires d.outs).wires; groups = w.groups } in
+      subst (λ (v : WorldState). StandsWith b v f.end.point l f.history) again f.stands);
+}
+
+-- a packet first
+pub sends_on : (b : Boot) (c : ℕ) (w : WorldState) (pt q : Point) (l : Placed) (n : NodeState) (p : Packet) (from to : ℕ) (carried : Load) (d : Acted) (ps : List Part) → packet_line w.wires p ≡ rule.packet_line pt.view from to carried → after_line pt (rule.packet_line pt.view from to carried) ≡ Some q
+    → Follows b c (record w { nodes = at_machine w.nodes c n; wires = with_packet w.wires p }) q l d ps → Follows b c w pt l (before (Sends p ∷ []) d) (rule.Transmits from to carried ∷ ps)
+sends_on b c w pt q l n p from to carried d ps same next f = record {
+  end = behind (rule.packet_line pt.view from to carried ∷ []) f.end;
+  spells = spelled_on pt q (rule.Transmits from to carried) (rule.packet_line pt.view from to carried) ps f.end refl next f.spells;
+  lines = λ i. same i ∷ f.lines i;
+  history = f.history;
+  stands = (let again : acted_on (record w { nodes = at_machine w.nodes c n; wires = with_packet w.wires p }) c d ≡ acted_on w c (before (Sends p ∷ []) d) = λ i. record { nodes = machine_again w.nodes c n d.state i; wires = (spoken (with_packet w.wires p) d.outs).wires; groups = w.groups } in
+      subst (λ (v : WorldState). StandsWith b v f.end.point l f.history) again f.stands);
+}
