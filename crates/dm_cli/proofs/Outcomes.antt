@@ -15,7 +15,7 @@ use Rattle.dm_outside.specs.Outside.{RoseOrFull}
 use Rattle.dm_cli.specs.declared.status.Status.{Status}
 use Rattle.dm_cli.specs.declared.status.Status.TheVariants.{Done, Usage, ReadFault, NoMemory, WriteFault, BootRefused, ScheduleRefused, TooLong, Worn}
 use Rattle.dm_cli.specs.declared.status.Input.TheVariants as input
-use Rattle.dm_cli.specs.Inputs.{Accepts, AfterBoot, BadSchedule, HasFile, NoFiles, NoRun, Refuses, RefusesBoot, RefusesSchedule, SaysBoot, SaysDirectives, SaysFiles, first_migration, most_boot, most_schedule}
+use Rattle.dm_cli.specs.Inputs.{Accepts, AfterBoot, HasFile, NoFiles, NoRun, Refuses, RefusesBoot, RefusesSchedule, SaysBoot, SaysDirectives, SaysFiles, most_boot, most_schedule}
 use Rattle.dm_cli.specs.Files.{IsLonger}
 use Rattle.dm_cli.specs.Status.{IsWant}
 use Rattle.dm_cli.specs.Words.{names_of}
@@ -41,13 +41,9 @@ abbrev schedule_part : Option (List ℕ) → ℕ → (List Directive → Status)
 schedule_part None machines k = Usage
 schedule_part (Some bytes) machines k = cond (nat_lt most_schedule (length bytes)) (TooLong input.Schedule) (schedule_read (directives_of bytes machines) k)
 
--- what the program can't do yet
-abbrev not_done : Option ℕ → Status
-not_done None = Done
-not_done (Some line) = ScheduleRefused line 0
-
+-- directives that are read make a run
 abbrev last_part : List Directive → Status
-last_part ds = not_done (first_migration 1 ds)
+last_part ds = Done
 
 -- why two files give no run
 abbrev outcome : Files → List ℕ → List ℕ → Status
@@ -94,19 +90,15 @@ said_directives : (files : Files) (schedule : List ℕ) (machines : ℕ) (ds : L
 said_directives files schedule machines ds k h = read_schedule_file files schedule h.bytes machines (Accepted ds) k h.file h.says
 
 -- files that say a system and directives
-said_files : (files : Files) (boot schedule : List ℕ) (b : Boot) (ds : List Directive) → SaysFiles (Some files) boot schedule b ds → outcome files boot schedule ≡ last_part ds
+said_files : (files : Files) (boot schedule : List ℕ) (b : Boot) (ds : List Directive) → SaysFiles (Some files) boot schedule b ds → outcome files boot schedule ≡ Done
 said_files files boot schedule b ds h =
     said_boot files boot b (λ x. schedule_part (files schedule) (length x.machines) last_part) h.says_boot
     ∙ said_directives files schedule (length b.machines) ds last_part h.says_directives
 
-bad_schedule : (files : Files) (boot schedule : List ℕ) (line why : ℕ) → BadSchedule (Some files) boot schedule line why → outcome files boot schedule ≡ ScheduleRefused line why
-bad_schedule files boot schedule line why (inl h) =
+bad_schedule : (files : Files) (boot schedule : List ℕ) (line why : ℕ) → AfterBoot (Some files) boot (λ machines. RefusesSchedule (Some files) schedule machines line why) → outcome files boot schedule ≡ ScheduleRefused line why
+bad_schedule files boot schedule line why h =
     said_boot files boot h.b (λ x. schedule_part (files schedule) (length x.machines) last_part) h.says
     ∙ refused_schedule files schedule (length h.b.machines) line why last_part h.holds
-bad_schedule files boot schedule line why (inr h) =
-    said_files files boot schedule h.0.b h.0.ds h.0.says
-    ∙ ap not_done h.0.directive
-    ∙ ap (λ w. ScheduleRefused line w) (sym h.1)
 
 late_schedule : (files : Files) (boot schedule : List ℕ) → AfterBoot (Some files) boot (λ machines. IsLonger (Some files) schedule most_schedule) → outcome files boot schedule ≡ TooLong input.Schedule
 late_schedule files boot schedule h =
@@ -167,7 +159,7 @@ one_reason words told files old new s t is h g some quiet = elim (want_or_not t)
 
 -- files that are accepted have the outcome of a run
 accepted : (words : List (List ℕ)) (files : Files) (b : Boot) (ds : List Directive) → Accepts words (Some files) b ds → outcome_of files (names_of words) ≡ Done
-accepted words files b ds h = ap (outcome_of files) h.names ∙ (said_files files h.boot h.schedule b ds h.says.says ∙ ap not_done h.says.directives)
+accepted words files b ds h = ap (outcome_of files) h.names ∙ said_files files h.boot h.schedule b ds h.says.says
 
 not_run : (words : List (List ℕ)) (files : Files) (old new : ℕ) (s : Status) → s ≡ Done → NoRun words (Some files) old new s → ⊥
 not_run words files old new Done e h = h.why

@@ -22,7 +22,6 @@ use Rattle.dm_schedule.specs.Numbers.{number_of, process_of}
 use Rattle.dm_schedule.specs.Operands.{Value, Values, value_of, values_of, within, ◌>>=◌}
 use Rattle.dm_schedule.specs.Schedule.{Schedule, Accepted, Refused, made, directive_of, begins_comment, line_directive, also, with_line, lines_from, directives_of}
 use Rattle.dm_mirror.specs.Todo.{IsDirective}
-use Rattle.dm_cli.specs.Inputs.{first_migration, is_migration}
 use Rattle.dm_cli.specs.Progress.{IsFor}
 
 -- each of these is
@@ -185,19 +184,12 @@ pub are_read : (text : List ℕ) (machines : ℕ) (ds : List Directive) → dire
 unfolding directives_of
 are_read text machines ds e = read_so text machines (lines_from machines 1 (lines text)) ds (lines_have machines 1 (lines text)) e
 
--- none of them moves a process
-still_from : (machines n : ℕ) (d : Directive) (ds : List Directive) (b : Bool) → is_migration d ≡ b → (if b then Some n else first_migration (n + 1) ds) ≡ None → (IsFor machines d → IsDirective machines d) × (first_migration (n + 1) ds ≡ None)
-still_from machines n (directive.One (step.Turn m)) ds false is e = ((λ h. (h, tt)), e)
-still_from machines n (directive.One (step.Tick m)) ds false is e = ((λ h. (h, tt)), e)
-still_from machines n (directive.One (step.Deliver a b k)) ds false is e = ((λ h. (h, tt)), e)
-still_from machines n (directive.One (step.Migrate p m)) ds false is e = absurd (cc)
-still_from machines n directive.Round ds false is e = ((λ h. tt), e)
-still_from machines n (directive.Spin k) ds false is e = ((λ h. tt), e)
-still_from machines n d ds true is e = absurd (cc)
+-- each can be done
+directive_for : (machines : ℕ) (d : Directive) → IsFor machines d → IsDirective machines d
+directive_for machines (directive.One s) h = h
+directive_for machines directive.Round h = tt
+directive_for machines (directive.Spin k) h = tt
 
-pub are_still : (machines n : ℕ) (ds : List Directive) → All (IsFor machines) ds → first_migration n ds ≡ None → All (IsDirective machines) ds
-unfolding first_migration
-are_still machines n [] h e = All-nil (IsDirective machines)
-are_still machines n (d ∷ ds) h e =
-    let k : (IsFor machines d → IsDirective machines d) × (first_migration (n + 1) ds ≡ None) = still_from machines n d ds (is_migration d) refl e in
-    All-cons (IsDirective machines) d ds (k.0 (All-head (IsFor machines) d ds h)) (are_still machines (n + 1) ds (All-tail (IsFor machines) d ds h) k.1)
+pub are_directives : (machines : ℕ) (ds : List Directive) → All (IsFor machines) ds → All (IsDirective machines) ds
+are_directives machines [] h = All-nil (IsDirective machines)
+are_directives machines (d ∷ ds) h = All-cons (IsDirective machines) d ds (directive_for machines d (All-head (IsFor machines) d ds h)) (are_directives machines ds (All-tail (IsFor machines) d ds h))

@@ -80,37 +80,11 @@ NoDirectives files name machines old new (status.ScheduleRefused line why) = Ref
 NoDirectives files name machines old new (status.TooLong input.Schedule) = IsLonger files name most_schedule
 NoDirectives files name machines old new _ = ⊥
 
--- a directive that moves a process, which the program can't do yet
-abbrev pub is_migration : Directive → Bool
-is_migration (directive.One (step.Turn m)) = false
-is_migration (directive.One (step.Tick m)) = false
-is_migration (directive.One (step.Deliver a b k)) = false
-is_migration (directive.One (step.Migrate p m)) = true
-is_migration directive.Round = false
-is_migration (directive.Spin k) = false
-
--- the number of the first directive that moves a process, the next one having number n
-unfoldable pub first_migration : ℕ → List Directive → Option ℕ
-first_migration n [] = None
-first_migration n (d ∷ ds) = if is_migration d then Some n else first_migration (n + 1) ds
-
 -- the boot file says a system, and the schedule is at fault
 pub record AfterBoot (files : Option (List ℕ → Option (List ℕ))) (boot : List ℕ) (Holds : ℕ → Type 0) : Type 0 where
   pub b : Boot
   pub says : SaysBoot files boot b
   pub holds : Holds (length b.machines)
-
--- files say a system and directives, and the program can't do the directive of this number yet
-pub record CannotDo (files : Option (List ℕ → Option (List ℕ))) (boot schedule : List ℕ) (number : ℕ) : Type 0 where
-  pub b : Boot
-  pub ds : List Directive
-  pub says : SaysFiles files boot schedule b ds
-  pub directive : first_migration 1 ds ≡ Some number
-
--- the schedule is at fault: a bad line, or a directive that the program can't do yet, which is told by its number with why 0
-abbrev pub BadSchedule : Option (List ℕ → Option (List ℕ)) → List ℕ → List ℕ → ℕ → ℕ → Type 0
-BadSchedule files boot schedule line why =
-    AfterBoot files boot (λ machines. RefusesSchedule files schedule machines line why) ⊎ (CannotDo files boot schedule line × (why ≡ 0))
 
 -- why files of these names give no run: the first that is at fault
 abbrev pub NoFiles : Option (List ℕ → Option (List ℕ)) → List ℕ → List ℕ → ℕ → ℕ → Status → Type 0
@@ -118,15 +92,14 @@ NoFiles files boot schedule old new (status.ReadFault input.Boot) = RoseOrFull o
 NoFiles files boot schedule old new (status.ReadFault input.Schedule) = AfterBoot files boot (λ machines. RoseOrFull old new)
 NoFiles files boot schedule old new (status.NoMemory lack) = ⊤
 NoFiles files boot schedule old new (status.BootRefused number place) = RefusesBoot files boot number place
-NoFiles files boot schedule old new (status.ScheduleRefused line why) = BadSchedule files boot schedule line why
+NoFiles files boot schedule old new (status.ScheduleRefused line why) = AfterBoot files boot (λ machines. RefusesSchedule files schedule machines line why)
 NoFiles files boot schedule old new (status.TooLong input.Boot) = IsLonger files boot most_boot
 NoFiles files boot schedule old new (status.TooLong input.Schedule) = AfterBoot files boot (λ machines. IsLonger files schedule most_schedule)
 NoFiles files boot schedule old new _ = ⊥
 
--- files of these names say this system and these directives, which the program can do
+-- files of these names say this system and these directives
 pub record AcceptsFiles (files : Option (List ℕ → Option (List ℕ))) (boot schedule : List ℕ) (b : Boot) (ds : List Directive) : Type 0 where
   pub says : SaysFiles files boot schedule b ds
-  pub directives : first_migration 1 ds ≡ None
 
 -- the words name such files
 pub record Accepts (words : List (List ℕ)) (files : Option (List ℕ → Option (List ℕ))) (b : Boot) (ds : List Directive) : Type 0 where

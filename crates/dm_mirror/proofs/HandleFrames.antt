@@ -1,0 +1,168 @@
+-- The kernel of a machine still stands for a point where one process has changed.
+use Rattle.std.proofs.Common.{◌≡◌, ◌≢◌, ℕ, ◌+◌, ◌≤◌, ◌==◌, ◌&&◌, Bool, true, false, List, [], ◌∷◌, map, refl, ap, ◌∙◌, sym, subst, inl, inr, arith}
+use Rattle.std.specs.Prelude.{if◌then◌else◌, slice_get}
+use Rattle.std.specs.declared.option.Option.{Option}
+use Rattle.std.specs.declared.option.Option.TheVariants.{None, Some}
+use Rattle.std.proofs.lemmas.Bool.{cases_Bool}
+use Rattle.std.proofs.lemmas.Bool.Decides.{nat_tests}
+use Rattle.dm_link.specs.declared.Pid.{Pid}
+use Rattle.dm_link.specs.Names.{pid_eq}
+use Rattle.dm_message.specs.declared.MsgId.{MsgId}
+use Rattle.dm_message.specs.declared.Message.{Message}
+use Rattle.dm_forward.specs.declared.record.Record.TheVariants as record_
+use Rattle.dm_process.specs.declared.process.Process.{Process}
+use Rattle.dm_migrate.specs.Departure.{Departure}
+use Rattle.dm_migrate.specs.Arrival.{Arrival}
+use Rattle.dm_onekernel.specs.declared.boot.Boot.{Boot}
+use Rattle.dm_onekernel.specs.Step as kernel
+use Rattle.dm_kernel.specs.Begun.{room_of}
+use Rattle.dm_kernel.specs.State as machine
+use Rattle.dm_kernel.specs.State.{KernelState}
+use Rattle.dm_laws.proofs.Equal.{id_eq-same, pid_eq-is}
+use Rattle.dm_rule.specs.Point.{Point}
+use Rattle.dm_rule.specs.Rule.{taken_at}
+use Rattle.dm_rule.specs.Sets.{at_machine, at_record}
+use Rattle.dm_rule.specs.Spots.{times}
+use Rattle.dm_rule.specs.View.{Known, Unknown, Here, Frozen, Incoming, Forward, Ended}
+use Rattle.dm_rulelaws.specs.Fits.{is_server}
+use Rattle.dm_placed.specs.Placed.{Placed}
+use Rattle.dm_mirror.specs.Stands.{AreMessages, HereStands, LeavesStand, ComesStand, KnownStands, KernelStands, RoomStands, servers_at}
+
+-- messages by name
+pub times_self : (i : MsgId) (is : List MsgId) → 1 ≤ times i (i ∷ is)
+times_self i is = let e : times i (i ∷ is) ≡ 1 + times i is = ap (λ (c : Bool). (if c then 1 else 0) + times i is) (id_eq-same i) in omega (arith, e)
+
+pub times_more : (i j : MsgId) (is : List MsgId) → times i is ≤ times i (j ∷ is)
+times_more i j is = omega arith
+
+pub map_same : (f g : MsgId → Option Message) (ids : List MsgId) → ((j : MsgId) → 1 ≤ times j ids → g j ≡ f j) → map g ids ≡ map f ids
+map_same f g [] same = refl
+map_same f g (j ∷ js) same =
+    let first : g j ≡ f j = same j (times_self j js) in
+    let rest : map g js ≡ map f js = map_same f g js (λ n least. same n (let more = times_more n j js in omega (arith, least, more))) in
+    λ i. first i ∷ rest i
+
+-- the message at the front
+pub record FrontOf (bag : MsgId → Option Message) (i : MsgId) (is : List MsgId) (ms : List Message) : Type 0 where
+  pub message : Message
+  pub rest : List Message
+  pub is_front : ms ≡ message ∷ rest
+  pub there : bag i ≡ Some message
+  pub others : AreMessages bag is rest
+
+pub front_of : (bag : MsgId → Option Message) (i : MsgId) (is : List MsgId) (ms : List Message) → AreMessages bag (i ∷ is) ms → FrontOf bag i is ms
+front_of bag i is [] e = cc
+front_of bag i is (y ∷ rest) e = record { message = y; rest = rest; is_front = refl; there = cc; others = cc }
+
+-- what is known of a process that stays
+here_on : (l placed : Placed) (p : Pid) (queue : List MsgId) (x : Process) → placed.processes p ≡ l.processes p → ((j : MsgId) → 1 ≤ times j queue → placed.bag j ≡ l.bag j) → HereStands l p queue x → HereStands placed p queue x
+here_on l placed p queue x same bag h = ((h.0.0, same ∙ h.0.1), map_same l.bag placed.bag queue bag ∙ h.1)
+
+leaves_on : (l placed : Placed) (p : Pid) (queue held : List MsgId) (to : ℕ) (d : Departure) → placed.processes p ≡ l.processes p → ((j : MsgId) → 1 ≤ times j queue → placed.bag j ≡ l.bag j) → ((j : MsgId) → 1 ≤ times j held → placed.bag j ≡ l.bag j)
+    → LeavesStand l p queue held to d → LeavesStand placed p queue held to d
+leaves_on l placed p queue held to d same bag holds h = record {
+  to = h.to;
+  asker = h.asker;
+  here = here_on l placed p queue d.process same bag h.here;
+  held = map_same l.bag placed.bag held holds ∙ h.held;
+  whole = h.whole;
+}
+
+comes_on : (l placed : Placed) (p : Pid) (held : List MsgId) (a : Arrival) → placed.processes p ≡ l.processes p → ((j : MsgId) → 1 ≤ times j held → placed.bag j ≡ l.bag j) → ComesStand l p held a → ComesStand placed p held a
+comes_on l placed p held a same holds h = record {
+  process = h.process;
+  there = same ∙ h.there;
+  whole = h.whole;
+  pieces = h.pieces;
+  held = map_same l.bag placed.bag held holds ∙ h.held;
+}
+
+pub known_on : (pt next : Point) (l placed : Placed) (p : Pid) (queue held : List MsgId) (k : Known) (r : Option machine.Known) → placed.processes p ≡ l.processes p → next.kernel.processes p ≡ pt.kernel.processes p
+    → ((j : MsgId) → 1 ≤ times j queue → placed.bag j ≡ l.bag j) → ((j : MsgId) → 1 ≤ times j held → placed.bag j ≡ l.bag j) → KnownStands pt l p queue held k r → KnownStands next placed p queue held k r
+known_on pt next l placed p queue held Unknown None same life bag holds h = tt
+known_on pt next l placed p queue held Here (Some (record_.Here x)) same life bag holds h = here_on l placed p queue x same bag h
+known_on pt next l placed p queue held (Frozen to) (Some (record_.Frozen d)) same life bag holds h = leaves_on l placed p queue held to d same bag holds h
+known_on pt next l placed p queue held (Incoming from) (Some (record_.Incoming a)) same life bag holds h = comes_on l placed p held a same holds h
+known_on pt next l placed p queue held (Forward at moves) (Some (record_.Forward to count)) same life bag holds h = h
+known_on pt next l placed p queue held Ended (Some (record_.Ended y)) same life bag holds h = ap kernel.ended life ∙ h
+known_on pt next l placed p queue held k r same life bag holds h = absurd h
+
+-- another kernel of machine m for another point, where only process p may have changed
+pub record Sets (pt next : Point) (l placed : Placed) (m : ℕ) (k s : KernelState) (p : Pid) : Type 0 where
+  pub here : s.here ≡ k.here
+  pub records : (q : Pid) → pid_eq p q ≡ false → s.records q ≡ k.records q
+  pub queue : (q : Pid) → pid_eq p q ≡ false → next.view.queue m q ≡ pt.view.queue m q
+  pub held : (q : Pid) → pid_eq p q ≡ false → next.view.held m q ≡ pt.view.held m q
+  pub known : (q : Pid) → pid_eq p q ≡ false → next.view.known m q ≡ pt.view.known m q
+  pub processes : (q : Pid) → pid_eq p q ≡ false → placed.processes q ≡ l.processes q
+  pub lives : (q : Pid) → pid_eq p q ≡ false → next.kernel.processes q ≡ pt.kernel.processes q
+  pub bag : (q : Pid) (j : MsgId) → pid_eq p q ≡ false → 1 ≤ times j (pt.view.queue m q) → placed.bag j ≡ l.bag j
+  pub holds : (q : Pid) (j : MsgId) → pid_eq p q ≡ false → 1 ≤ times j (pt.view.held m q) → placed.bag j ≡ l.bag j
+  -- what is known of it then
+  pub mine : is_server p ≡ false → KnownStands next placed p (next.view.queue m p) (next.view.held m p) (next.view.known m p) (s.records p)
+  pub keeps : is_server p ≡ true → s.records p ≡ k.records p
+
+known_sets : (b : Boot) (pt next : Point) (l placed : Placed) (m : ℕ) (k s : KernelState) (p q : Pid) → is_server q ≡ false → Sets pt next l placed m k s p → KernelStands b pt l m k → KnownStands next placed q (next.view.queue m q) (next.view.held m q) (next.view.known m q) (s.records q)
+known_sets b pt next l placed m k s p q server w h = elim (cases_Bool (pid_eq p q)) [
+  | inl same ↦
+      let e : p ≡ q = pid_eq-is p q same in
+      subst (λ (z : Pid). KnownStands next placed z (next.view.queue m z) (next.view.held m z) (next.view.known m z) (s.records z)) e (w.mine (ap is_server e ∙ server))
+  | inr apart ↦
+      let on = known_on pt next l placed q (pt.view.queue m q) (pt.view.held m q) (pt.view.known m q) (k.records q) (w.processes q apart) (w.lives q apart) (λ j least. w.bag q j apart least) (λ j least. w.holds q j apart least) (h.known q server) in
+      subst (KnownStands next placed q (next.view.queue m q) (next.view.held m q) (next.view.known m q)) (sym (w.records q apart))
+      (subst (λ (z : Known). KnownStands next placed q (next.view.queue m q) (next.view.held m q) z (k.records q)) (sym (w.known q apart))
+      (subst (λ (z : List MsgId). KnownStands next placed q (next.view.queue m q) z (pt.view.known m q) (k.records q)) (sym (w.held q apart))
+      (subst (λ (z : List MsgId). KnownStands next placed q z (pt.view.held m q) (pt.view.known m q) (k.records q)) (sym (w.queue q apart)) on)))
+]
+
+servers_set : (b : Boot) (pt next : Point) (l placed : Placed) (m : ℕ) (k s : KernelState) (p q : Pid) → is_server q ≡ true → Sets pt next l placed m k s p → KernelStands b pt l m k → s.records q ≡ None
+servers_set b pt next l placed m k s p q server w h = elim (cases_Bool (pid_eq p q)) [
+  | inl same ↦
+      let e : p ≡ q = pid_eq-is p q same in
+      ap s.records (sym e) ∙ w.keeps (ap is_server e ∙ server) ∙ ap k.records e ∙ h.no_server q server
+  | inr apart ↦ w.records q apart ∙ h.no_server q server
+]
+
+pub stands_set : (b : Boot) (pt next : Point) (l placed : Placed) (m : ℕ) (k s : KernelState) (p : Pid) → Sets pt next l placed m k s p → KernelStands b pt l m k → s.ring ≡ next.view.ring m → AreMessages placed.bag (next.view.inbox m) s.inbox
+    → s.made ≡ next.kernel.made m → RoomStands s.room (room_of (slice_get b.machines m)) (taken_at next m next.kernel.machines) → s.servers ≡ servers_at placed m → KernelStands b next placed m s
+stands_set b pt next l placed m k s p w h ring inbox made room servers = record {
+  here = w.here ∙ h.here;
+  known = λ q server. known_sets b pt next l placed m k s p q server w h;
+  no_server = λ q server. servers_set b pt next l placed m k s p q server w h;
+  ring = ring;
+  inbox = inbox;
+  made = made;
+  room = room;
+  servers = servers;
+}
+
+-- what machine m has, at m and elsewhere
+pub eq_off : (m n : ℕ) → n ≢ m → (m == n) ≡ false
+eq_off m n apart = elim (cases_Bool (m == n)) [
+  | inl same ↦ absurd (apart (let e : n ≡ m = grind (arith, nat_tests) in e))
+  | inr off ↦ off
+]
+
+pub eq_self : (m : ℕ) → (m == m) ≡ true
+eq_self m = grind (arith, nat_tests)
+
+pub machine_self : {X : Type 0} (f : ℕ → X) (m : ℕ) (x : X) → at_machine f m x m ≡ x
+machine_self f m x = ap (λ (c : Bool). if c then x else f m) (eq_self m)
+
+pub machine_off : {X : Type 0} (f : ℕ → X) (m n : ℕ) (x : X) → n ≢ m → at_machine f m x n ≡ f n
+machine_off f m n x apart = ap (λ (c : Bool). if c then x else f n) (eq_off m n apart)
+
+pub record_self : {X : Type 0} (f : ℕ → Pid → X) (m : ℕ) (p : Pid) (x : X) → pid_eq p p ≡ true → at_record f m p x m p ≡ x
+record_self f m p x same = ap (λ (c : Bool). if c && pid_eq p p then x else f m p) (eq_self m) ∙ ap (λ (c : Bool). if c then x else f m p) same
+
+pub record_off : {X : Type 0} (f : ℕ → Pid → X) (m n : ℕ) (p q : Pid) (x : X) → n ≢ m → at_record f m p x n q ≡ f n q
+record_off f m n p q x apart = ap (λ (c : Bool). if c && pid_eq p q then x else f n q) (eq_off m n apart)
+
+pub record_others : {X : Type 0} (f : ℕ → Pid → X) (m : ℕ) (p q : Pid) (x : X) → pid_eq p q ≡ false → at_record f m p x m q ≡ f m q
+record_others f m p q x apart = ap (λ (c : Bool). if c && pid_eq p q then x else f m q) (eq_self m) ∙ ap (λ (c : Bool). if c then x else f m q) apart
+
+pub pid_apart : (p q : Pid) → q ≢ p → pid_eq p q ≡ false
+pid_apart p q apart = elim (cases_Bool (pid_eq p q)) [
+  | inl same ↦ absurd (apart (sym (pid_eq-is p q same)))
+  | inr off ↦ off
+]

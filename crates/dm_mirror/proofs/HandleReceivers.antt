@@ -1,0 +1,83 @@
+-- Whom a message that is handled is for, in the machine's terms and the rule's.
+use Rattle.std.proofs.Common.{◌≡◌, ℕ, ◌==◌, ◌||◌, Bool, true, false, List, ap, ◌∙◌, sym, length, arith}
+use Rattle.std.specs.Prelude.{if◌then◌else◌}
+use Rattle.std.specs.declared.option.Option.{Option}
+use Rattle.std.proofs.lemmas.Bool.{false≢true}
+use Rattle.std.proofs.lemmas.Bool.Decides.{nat_tests}
+use Rattle.dm_link.specs.declared.Pid.{Pid}
+use Rattle.dm_link.specs.Names.{pid_eq}
+use Rattle.dm_message.specs.declared.MsgId.{MsgId}
+use Rattle.dm_message.specs.declared.Message.{Message}
+use Rattle.dm_message.specs.Plain.{PlainMessage}
+use Rattle.dm_onekernel.specs.declared.boot.Boot.{Boot}
+use Rattle.dm_onekernel.specs.Boot.{switchboard, manager}
+use Rattle.dm_onekernel.specs.Manager as manage
+use Rattle.dm_onekernel.specs.Switchboard as board
+use Rattle.dm_rule.specs.Point.{Point}
+use Rattle.dm_rule.specs.Parts.{Part}
+use Rattle.dm_rule.specs.Rule as rule
+use Rattle.dm_rulelaws.specs.Fits.{is_server}
+use Rattle.dm_kernel.specs.Handle.{handles, kernel_handles, board_handles, manager_handles, process_handles}
+use Rattle.dm_kernel.specs.State.{KernelState}
+
+-- a process: it has neither number 0 nor a server's name
+pub record IsProcess (p : Pid) : Type 0 where
+  pub number : (p.num == 0) ≡ false
+  pub no_board : pid_eq p switchboard ≡ false
+  pub no_manager : pid_eq p manager ≡ false
+
+pub no_kernel : (p : Pid) → IsProcess p → p.num ≡ 0 → ⊥
+no_kernel p h e = false≢true (sym h.number ∙ (let k : (p.num == 0) ≡ true = grind (arith, nat_tests) in k))
+
+pub not_server : (p : Pid) → IsProcess p → is_server p ≡ false
+not_server p h = ap (λ (c : Bool). c || pid_eq p manager) h.no_board ∙ h.no_manager
+
+pub to_kernel : (b : Boot) (s : KernelState) (y : Message) → (y.to.pid.num == 0) ≡ true → handles b s y ≡ kernel_handles b s y y.what
+to_kernel b s y num =
+    ap (λ (c : Bool). if c then kernel_handles b s y y.what else if pid_eq y.to.pid switchboard then board_handles s y s.servers else if pid_eq y.to.pid manager then manager_handles s y s.servers else process_handles s y (s.records y.to.pid)) num
+
+pub to_board : (b : Boot) (s : KernelState) (y : Message) → (y.to.pid.num == 0) ≡ false → pid_eq y.to.pid switchboard ≡ true → handles b s y ≡ board_handles s y s.servers
+to_board b s y num one =
+    ap (λ (c : Bool). if c then kernel_handles b s y y.what else if pid_eq y.to.pid switchboard then board_handles s y s.servers else if pid_eq y.to.pid manager then manager_handles s y s.servers else process_handles s y (s.records y.to.pid)) num
+    ∙ ap (λ (c : Bool). if c then board_handles s y s.servers else if pid_eq y.to.pid manager then manager_handles s y s.servers else process_handles s y (s.records y.to.pid)) one
+
+pub to_manager : (b : Boot) (s : KernelState) (y : Message) → (y.to.pid.num == 0) ≡ false → pid_eq y.to.pid switchboard ≡ false → pid_eq y.to.pid manager ≡ true → handles b s y ≡ manager_handles s y s.servers
+to_manager b s y num one two =
+    ap (λ (c : Bool). if c then kernel_handles b s y y.what else if pid_eq y.to.pid switchboard then board_handles s y s.servers else if pid_eq y.to.pid manager then manager_handles s y s.servers else process_handles s y (s.records y.to.pid)) num
+    ∙ ap (λ (c : Bool). if c then board_handles s y s.servers else if pid_eq y.to.pid manager then manager_handles s y s.servers else process_handles s y (s.records y.to.pid)) one
+    ∙ ap (λ (c : Bool). if c then manager_handles s y s.servers else process_handles s y (s.records y.to.pid)) two
+
+pub to_process : (b : Boot) (s : KernelState) (y : Message) → IsProcess y.to.pid → handles b s y ≡ process_handles s y (s.records y.to.pid)
+to_process b s y h =
+    ap (λ (c : Bool). if c then kernel_handles b s y y.what else if pid_eq y.to.pid switchboard then board_handles s y s.servers else if pid_eq y.to.pid manager then manager_handles s y s.servers else process_handles s y (s.records y.to.pid)) h.number
+    ∙ ap (λ (c : Bool). if c then board_handles s y s.servers else if pid_eq y.to.pid manager then manager_handles s y s.servers else process_handles s y (s.records y.to.pid)) h.no_board
+    ∙ ap (λ (c : Bool). if c then manager_handles s y s.servers else process_handles s y (s.records y.to.pid)) h.no_manager
+
+-- the rule's
+abbrev rule_board : Point → MsgId → PlainMessage → Option (List Part)
+rule_board pt i x = rule.board_took i (board.takes pt.kernel.switchboard x x.what)
+
+abbrev rule_manager : Point → MsgId → PlainMessage → Option (List Part)
+rule_manager pt i x = rule.manager_took i (manage.takes pt.kernel.manager pt.kernel.machines (length pt.kernel.images) x x.what)
+
+pub rule_to_kernel : (b : Boot) (pt : Point) (m : ℕ) (i : MsgId) (x : PlainMessage) → (x.to.num == 0) ≡ true → rule.handles b pt m i x ≡ rule.kernel_handles b pt m i x.what
+rule_to_kernel b pt m i x num =
+    ap (λ (c : Bool). if c then rule.kernel_handles b pt m i x.what else if pid_eq x.to switchboard then rule_board pt i x else if pid_eq x.to manager then rule_manager pt i x else rule.process_handles pt m i x (pt.view.known m x.to)) num
+
+pub rule_to_board : (b : Boot) (pt : Point) (m : ℕ) (i : MsgId) (x : PlainMessage) → (x.to.num == 0) ≡ false → pid_eq x.to switchboard ≡ true → rule.handles b pt m i x ≡ rule.board_took i (board.takes pt.kernel.switchboard x x.what)
+rule_to_board b pt m i x num one =
+    ap (λ (c : Bool). if c then rule.kernel_handles b pt m i x.what else if pid_eq x.to switchboard then rule_board pt i x else if pid_eq x.to manager then rule_manager pt i x else rule.process_handles pt m i x (pt.view.known m x.to)) num
+    ∙ ap (λ (c : Bool). if c then rule_board pt i x else if pid_eq x.to manager then rule_manager pt i x else rule.process_handles pt m i x (pt.view.known m x.to)) one
+
+pub rule_to_manager : (b : Boot) (pt : Point) (m : ℕ) (i : MsgId) (x : PlainMessage) → (x.to.num == 0) ≡ false → pid_eq x.to switchboard ≡ false → pid_eq x.to manager ≡ true
+    → rule.handles b pt m i x ≡ rule.manager_took i (manage.takes pt.kernel.manager pt.kernel.machines (length pt.kernel.images) x x.what)
+rule_to_manager b pt m i x num one two =
+    ap (λ (c : Bool). if c then rule.kernel_handles b pt m i x.what else if pid_eq x.to switchboard then rule_board pt i x else if pid_eq x.to manager then rule_manager pt i x else rule.process_handles pt m i x (pt.view.known m x.to)) num
+    ∙ ap (λ (c : Bool). if c then rule_board pt i x else if pid_eq x.to manager then rule_manager pt i x else rule.process_handles pt m i x (pt.view.known m x.to)) one
+    ∙ ap (λ (c : Bool). if c then rule_manager pt i x else rule.process_handles pt m i x (pt.view.known m x.to)) two
+
+pub rule_to_process : (b : Boot) (pt : Point) (m : ℕ) (i : MsgId) (x : PlainMessage) → IsProcess x.to → rule.handles b pt m i x ≡ rule.process_handles pt m i x (pt.view.known m x.to)
+rule_to_process b pt m i x h =
+    ap (λ (c : Bool). if c then rule.kernel_handles b pt m i x.what else if pid_eq x.to switchboard then rule_board pt i x else if pid_eq x.to manager then rule_manager pt i x else rule.process_handles pt m i x (pt.view.known m x.to)) h.number
+    ∙ ap (λ (c : Bool). if c then rule_board pt i x else if pid_eq x.to manager then rule_manager pt i x else rule.process_handles pt m i x (pt.view.known m x.to)) h.no_board
+    ∙ ap (λ (c : Bool). if c then rule_manager pt i x else rule.process_handles pt m i x (pt.view.known m x.to)) h.no_manager
