@@ -1,0 +1,213 @@
+-- What the processes of the lines take of a machine's room: it stays where each of them takes the same, and changes with one
+-- that takes something else, or is made.
+use Rattle.std.proofs.Common.{◌≡◌, ◌≢◌, ℕ, zero, suc, ◌+◌, ◌<◌, ◌≤◌, refl, ap, ◌∙◌, sym, subst, inl, inr, arith, nat_le}
+use Rattle.std.proofs.lemmas.Bool.{cases_Bool}
+use Rattle.std.proofs.lemmas.Bool.Decides.{eqb_tells, nat_tests}
+use Rattle.dm_link.specs.declared.Pid.{Pid}
+use Rattle.dm_link.specs.Names.{pid_of}
+use Rattle.dm_onekernel.specs.Boot.{first_number}
+use Rattle.dm_rule.specs.Point.{Point}
+use Rattle.dm_rule.specs.Rule.{Room, and, taken_by, taken_of_home, taken_at}
+
+-- a process of another home, or with another number
+home_apart : (home n : ℕ) (p : Pid) → home ≢ p.home → pid_of home n ≢ p
+home_apart home n p h e = h (ap (λ (q : Pid). q.home) e)
+
+number_apart : (home n : ℕ) (p : Pid) → n ≢ p.num → pid_of home n ≢ p
+number_apart home n p h e = h (ap (λ (q : Pid). q.num) e)
+
+number_same : (p : Pid) (n : ℕ) → p.num ≡ n → pid_of p.home n ≡ p
+number_same p n e = λ i. record { home = p.home; num = sym e i }
+
+-- the first processes of a home take the same
+same_home : (pt next : Point) (m home n : ℕ) → ((k : ℕ) → k < n → taken_by next m (pid_of home (first_number + k)) ≡ taken_by pt m (pid_of home (first_number + k)))
+    → taken_of_home next m home n ≡ taken_of_home pt m home n
+same_home pt next m home zero f = refl
+same_home pt next m home (suc n) f = λ i. and (same_home pt next m home n (λ k h. f k (omega arith)) i) (f n (omega arith) i)
+
+same_made : (pt next : Point) (m home : ℕ) → next.kernel.made home ≡ pt.kernel.made home → ((n : ℕ) → taken_by next m (pid_of home n) ≡ taken_by pt m (pid_of home n))
+    → taken_of_home next m home (next.kernel.made home) ≡ taken_of_home pt m home (pt.kernel.made home)
+same_made pt next m home e f = ap (taken_of_home next m home) e ∙ same_home pt next m home (pt.kernel.made home) (λ k h. f (first_number + k))
+
+-- the first homes
+same_homes : (pt next : Point) (m homes : ℕ)
+    → ((home : ℕ) → home < homes → taken_of_home next m home (next.kernel.made home) ≡ taken_of_home pt m home (pt.kernel.made home))
+    → taken_at next m homes ≡ taken_at pt m homes
+same_homes pt next m zero f = refl
+same_homes pt next m (suc home) f = λ i. and (same_homes pt next m home (λ k h. f k (omega arith)) i) (f home (omega arith) i)
+
+-- two points whose machine m has the same of each process take the same there
+pub taken_same : (pt next : Point) (m : ℕ) → next.kernel.machines ≡ pt.kernel.machines → ((h : ℕ) → next.kernel.made h ≡ pt.kernel.made h)
+    → ((p : Pid) → taken_by next m p ≡ taken_by pt m p) → taken_at next m next.kernel.machines ≡ taken_at pt m pt.kernel.machines
+taken_same pt next m machines made same =
+    ap (taken_at next m) machines ∙ same_homes pt next m pt.kernel.machines (λ home h. same_made pt next m home (made home) (λ n. same (pid_of home n)))
+
+-- n takes y where o took x
+record Changed (o n x y : Room) : Type 0 where
+  slots : n.slots + x.slots ≡ o.slots + y.slots
+  blocks : n.blocks + x.blocks ≡ o.blocks + y.blocks
+
+-- the change is in the first part, or in the second
+changed_first : (o n x y r s : Room) → Changed o n x y → s ≡ r → Changed (and o r) (and n s) x y
+changed_first o n x y r s h e =
+    let a = h.slots in
+    let b = h.blocks in
+    let c : s.slots ≡ r.slots = ap (λ (t : Room). t.slots) e in
+    let d : s.blocks ≡ r.blocks = ap (λ (t : Room). t.blocks) e in
+    record { slots = omega (arith, a, c); blocks = omega (arith, b, d) }
+
+changed_second : (o n x y r s : Room) → Changed o n x y → s ≡ r → Changed (and r o) (and s n) x y
+changed_second o n x y r s h e =
+    let a = h.slots in
+    let b = h.blocks in
+    let c : s.slots ≡ r.slots = ap (λ (t : Room). t.slots) e in
+    let d : s.blocks ≡ r.blocks = ap (λ (t : Room). t.blocks) e in
+    record { slots = omega (arith, a, c); blocks = omega (arith, b, d) }
+
+changed_itself : (o n x y : Room) → o ≡ x → n ≡ y → Changed o n x y
+changed_itself o n x y e f =
+    let a : o.slots ≡ x.slots = ap (λ (t : Room). t.slots) e in
+    let b : o.blocks ≡ x.blocks = ap (λ (t : Room). t.blocks) e in
+    let c : n.slots ≡ y.slots = ap (λ (t : Room). t.slots) f in
+    let d : n.blocks ≡ y.blocks = ap (λ (t : Room). t.blocks) f in
+    record { slots = omega (arith, a, c); blocks = omega (arith, b, d) }
+
+-- the process is one of the first of its home
+changed_home : (pt next : Point) (m : ℕ) (p : Pid) (n : ℕ) → first_number ≤ p.num → p.num < first_number + n → ((q : Pid) → q ≢ p → taken_by next m q ≡ taken_by pt m q)
+    → Changed (taken_of_home pt m p.home n) (taken_of_home next m p.home n) (taken_by pt m p) (taken_by next m p)
+changed_home pt next m p zero first below others = absurd (omega (arith, first, below))
+changed_home pt next m p (suc n) first below others =
+    elim (eqb_tells p.num (first_number + n)) [
+      | inl e ↦
+          let same : pid_of p.home (first_number + n) ≡ p = number_same p (first_number + n) e.1 in
+          changed_second (taken_by pt m (pid_of p.home (first_number + n))) (taken_by next m (pid_of p.home (first_number + n))) (taken_by pt m p) (taken_by next m p)
+          (taken_of_home pt m p.home n) (taken_of_home next m p.home n)
+          (changed_itself (taken_by pt m (pid_of p.home (first_number + n))) (taken_by next m (pid_of p.home (first_number + n))) (taken_by pt m p) (taken_by next m p) (ap (taken_by pt m) same) (ap (taken_by next m) same))
+          (same_home pt next m p.home n (λ k h. others (pid_of p.home (first_number + k)) (number_apart p.home (first_number + k) p (let f : p.num ≡ first_number + n = e.1 in λ z. omega (arith, f, z, h)))))
+      | inr e ↦
+          changed_first (taken_of_home pt m p.home n) (taken_of_home next m p.home n) (taken_by pt m p) (taken_by next m p)
+          (taken_by pt m (pid_of p.home (first_number + n))) (taken_by next m (pid_of p.home (first_number + n)))
+          (changed_home pt next m p n first (let f : p.num ≢ first_number + n = e.1 in omega (arith, f, below)) others)
+          (others (pid_of p.home (first_number + n)) (number_apart p.home (first_number + n) p (λ z. e.1 (sym z))))
+    ]
+
+changed_homes : (pt next : Point) (m : ℕ) (p : Pid) (homes : ℕ) → ((h : ℕ) → next.kernel.made h ≡ pt.kernel.made h) → p.home < homes → first_number ≤ p.num
+    → p.num < first_number + pt.kernel.made p.home → ((q : Pid) → q ≢ p → taken_by next m q ≡ taken_by pt m q)
+    → Changed (taken_at pt m homes) (taken_at next m homes) (taken_by pt m p) (taken_by next m p)
+changed_homes pt next m p zero made within first below others = absurd (omega (arith, within))
+changed_homes pt next m p (suc home) made within first below others =
+    elim (eqb_tells home p.home) [
+      | inl e ↦
+          let here : Changed (taken_of_home pt m p.home (pt.kernel.made p.home)) (taken_of_home next m p.home (pt.kernel.made p.home)) (taken_by pt m p) (taken_by next m p) =
+          changed_home pt next m p (pt.kernel.made p.home) first below others in
+          let there : Changed (taken_of_home pt m home (pt.kernel.made home)) (taken_of_home next m home (next.kernel.made home)) (taken_by pt m p) (taken_by next m p) =
+          subst (λ (n : ℕ). Changed (taken_of_home pt m home (pt.kernel.made home)) (taken_of_home next m home n) (taken_by pt m p) (taken_by next m p)) (sym (made home))
+          (subst (λ (h : ℕ). Changed (taken_of_home pt m h (pt.kernel.made h)) (taken_of_home next m h (pt.kernel.made h)) (taken_by pt m p) (taken_by next m p)) (sym e.1) here) in
+          changed_second (taken_of_home pt m home (pt.kernel.made home)) (taken_of_home next m home (next.kernel.made home)) (taken_by pt m p) (taken_by next m p)
+          (taken_at pt m home) (taken_at next m home) there
+          (same_homes pt next m home (λ h low. same_made pt next m h (made h) (λ n. others (pid_of h n) (home_apart h n p (let f : home ≡ p.home = e.1 in λ z. omega (arith, f, z, low))))))
+      | inr e ↦
+          changed_first (taken_at pt m home) (taken_at next m home) (taken_by pt m p) (taken_by next m p)
+          (taken_of_home pt m home (pt.kernel.made home)) (taken_of_home next m home (next.kernel.made home))
+          (changed_homes pt next m p home made (let f : home ≢ p.home = e.1 in omega (arith, f, within)) first below others)
+          (same_made pt next m home (made home) (λ n. others (pid_of home n) (home_apart home n p e.1)))
+    ]
+
+-- one process p of those made takes something else
+pub taken_changed : (pt next : Point) (m : ℕ) (p : Pid) → next.kernel.machines ≡ pt.kernel.machines → ((h : ℕ) → next.kernel.made h ≡ pt.kernel.made h)
+    → p.home < pt.kernel.machines → first_number ≤ p.num → p.num < first_number + pt.kernel.made p.home
+    → ((q : Pid) → q ≢ p → taken_by next m q ≡ taken_by pt m q)
+    → ((taken_at next m next.kernel.machines).slots + (taken_by pt m p).slots ≡ (taken_at pt m pt.kernel.machines).slots + (taken_by next m p).slots)
+    × ((taken_at next m next.kernel.machines).blocks + (taken_by pt m p).blocks ≡ (taken_at pt m pt.kernel.machines).blocks + (taken_by next m p).blocks)
+taken_changed pt next m p machines made within first below others =
+    let h : Changed (taken_at pt m pt.kernel.machines) (taken_at next m next.kernel.machines) (taken_by pt m p) (taken_by next m p) =
+    subst (λ (n : ℕ). Changed (taken_at pt m pt.kernel.machines) (taken_at next m n) (taken_by pt m p) (taken_by next m p)) (sym machines)
+    (changed_homes pt next m p pt.kernel.machines made within first below others) in
+    (h.slots, h.blocks)
+
+-- the order of what is added
+and_first : (r s t : Room) → and (and r s) t ≡ and (and r t) s
+and_first r s t = let a : r.slots + s.slots + t.slots ≡ r.slots + t.slots + s.slots = omega arith in
+    let b : r.blocks + s.blocks + t.blocks ≡ r.blocks + t.blocks + s.blocks = omega arith in
+    λ i. record { slots = a i; blocks = b i }
+
+and_second : (r s t : Room) → and r (and s t) ≡ and (and r s) t
+and_second r s t = let a : r.slots + (s.slots + t.slots) ≡ r.slots + s.slots + t.slots = omega arith in
+    let b : r.blocks + (s.blocks + t.blocks) ≡ r.blocks + s.blocks + t.blocks = omega arith in
+    λ i. record { slots = a i; blocks = b i }
+
+made_home : (pt next : Point) (m home : ℕ) → next.kernel.made home ≡ pt.kernel.made home + 1
+    → ((q : Pid) → q ≢ pid_of home (first_number + pt.kernel.made home) → taken_by next m q ≡ taken_by pt m q)
+    → taken_of_home next m home (next.kernel.made home) ≡ and (taken_of_home pt m home (pt.kernel.made home)) (taken_by next m (pid_of home (first_number + pt.kernel.made home)))
+made_home pt next m home made others =
+    let more : next.kernel.made home ≡ suc (pt.kernel.made home) = omega (arith, made) in
+    ap (taken_of_home next m home) more
+    ∙ ap (λ (r : Room). and r (taken_by next m (pid_of home (first_number + pt.kernel.made home))))
+    (same_home pt next m home (pt.kernel.made home) (λ k h. others (pid_of home (first_number + k)) (number_apart home (first_number + k) (pid_of home (first_number + pt.kernel.made home)) (λ z. omega (arith, h, z)))))
+
+made_homes : (pt next : Point) (m home homes : ℕ) → home < homes → next.kernel.made home ≡ pt.kernel.made home + 1 → ((h : ℕ) → h ≢ home → next.kernel.made h ≡ pt.kernel.made h)
+    → ((q : Pid) → q ≢ pid_of home (first_number + pt.kernel.made home) → taken_by next m q ≡ taken_by pt m q)
+    → taken_at next m homes ≡ and (taken_at pt m homes) (taken_by next m (pid_of home (first_number + pt.kernel.made home)))
+made_homes pt next m home zero within one made others = absurd (omega (arith, within))
+made_homes pt next m home (suc h) within one made others =
+    let new = taken_by next m (pid_of home (first_number + pt.kernel.made home)) in
+    let apart = λ (k : ℕ) (f : k ≢ home). same_made pt next m k (made k f) (λ n. others (pid_of k n) (home_apart k n (pid_of home (first_number + pt.kernel.made home)) f)) in
+    elim (eqb_tells h home) [
+      | inl e ↦
+          let below = same_homes pt next m h (λ k low. apart k (let f : h ≡ home = e.1 in λ z. omega (arith, f, z, low))) in
+          let here : taken_of_home next m h (next.kernel.made h) ≡ and (taken_of_home pt m h (pt.kernel.made h)) new =
+          subst (λ (k : ℕ). taken_of_home next m k (next.kernel.made k) ≡ and (taken_of_home pt m k (pt.kernel.made k)) new) (sym e.1) (made_home pt next m home one others) in
+          (λ i. and (below i) (here i)) ∙ and_second (taken_at pt m h) (taken_of_home pt m h (pt.kernel.made h)) new
+      | inr e ↦
+          (λ i. and (made_homes pt next m home h (let f : h ≢ home = e.1 in omega (arith, f, within)) one made others i) (apart h e.1 i))
+          ∙ and_first (taken_at pt m h) new (taken_of_home pt m h (pt.kernel.made h))
+    ]
+
+-- a process is made, the next of its home
+pub taken_made : (pt next : Point) (m home : ℕ) → next.kernel.machines ≡ pt.kernel.machines → home < pt.kernel.machines
+    → next.kernel.made home ≡ pt.kernel.made home + 1 → ((h : ℕ) → h ≢ home → next.kernel.made h ≡ pt.kernel.made h)
+    → ((q : Pid) → q ≢ pid_of home (first_number + pt.kernel.made home) → taken_by next m q ≡ taken_by pt m q)
+    → taken_at next m next.kernel.machines ≡ and (taken_at pt m pt.kernel.machines) (taken_by next m (pid_of home (first_number + pt.kernel.made home)))
+taken_made pt next m home machines within one made others = ap (taken_at next m) machines ∙ made_homes pt next m home pt.kernel.machines within one made others
+
+-- the processes of a home beyond those that it made take nothing
+abbrev pub no_room : Room
+no_room = record { slots = 0; blocks = 0 }
+
+and_none : (r s : Room) → s ≡ no_room → and r s ≡ r
+and_none r s e =
+    let a : r.slots + s.slots ≡ r.slots = ap (λ (t : Room). r.slots + t.slots) e ∙ (let z : r.slots + 0 ≡ r.slots = omega arith in z) in
+    let b : r.blocks + s.blocks ≡ r.blocks = ap (λ (t : Room). r.blocks + t.blocks) e ∙ (let z : r.blocks + 0 ≡ r.blocks = omega arith in z) in
+    λ i. record { slots = a i; blocks = b i }
+
+past_home : (pt : Point) (m home n all : ℕ) → n ≤ all → ((k : ℕ) → n ≤ k → taken_by pt m (pid_of home (first_number + k)) ≡ no_room) → taken_of_home pt m home all ≡ taken_of_home pt m home n
+past_home pt m home n zero le none = ap (taken_of_home pt m home) (let e : 0 ≡ n = omega (arith, le) in e)
+past_home pt m home n (suc k) le none =
+    elim (eqb_tells n (suc k)) [
+      | inl e ↦ ap (taken_of_home pt m home) (sym e.1)
+      | inr e ↦
+          let below : n ≤ k = (let f : n ≢ suc k = e.1 in omega (arith, f, le)) in
+          and_none (taken_of_home pt m home k) (taken_by pt m (pid_of home (first_number + k))) (none k below) ∙ past_home pt m home n k below none
+    ]
+
+-- each process takes as much of machine n as before; those that other homes made are the same, and what home m hadn't made takes nothing
+pub taken_elsewhere : (pt next : Point) (n m : ℕ) → next.kernel.machines ≡ pt.kernel.machines → ((h : ℕ) → h ≢ m → next.kernel.made h ≡ pt.kernel.made h)
+    → ((p : Pid) → taken_by next n p ≡ taken_by pt n p) → ((k : ℕ) → next.kernel.made m ≤ k → taken_by next n (pid_of m (first_number + k)) ≡ no_room)
+    → ((k : ℕ) → pt.kernel.made m ≤ k → taken_by pt n (pid_of m (first_number + k)) ≡ no_room) → taken_at next n next.kernel.machines ≡ taken_at pt n pt.kernel.machines
+taken_elsewhere pt next n m machines made same after before =
+    ap (taken_at next n) machines
+    ∙ same_homes pt next n pt.kernel.machines (λ home low.
+    elim (eqb_tells home m) [
+      | inl e ↦ subst (λ (h : ℕ). taken_of_home next n h (next.kernel.made h) ≡ taken_of_home pt n h (pt.kernel.made h)) (sym e.1) there
+      | inr e ↦ same_made pt next n home (made home e.1) (λ k. same (pid_of home k))
+    ])
+  where
+    there : taken_of_home next n m (next.kernel.made m) ≡ taken_of_home pt n m (pt.kernel.made m)
+    there = elim (cases_Bool (nat_le (next.kernel.made m) (pt.kernel.made m))) [
+      | inl few ↦
+          sym (past_home next n m (next.kernel.made m) (pt.kernel.made m) (let le : next.kernel.made m ≤ pt.kernel.made m = grind (arith, nat_tests) in le) after)
+          ∙ same_home pt next n m (pt.kernel.made m) (λ k low. same (pid_of m (first_number + k)))
+      | inr many ↦
+          same_home pt next n m (next.kernel.made m) (λ k low. same (pid_of m (first_number + k)))
+          ∙ past_home pt n m (pt.kernel.made m) (next.kernel.made m) (let le : pt.kernel.made m ≤ next.kernel.made m = grind (arith, nat_tests) in le) before
+    ]

@@ -1,0 +1,140 @@
+-- The process that a turn serves, and what serving it gives by the machine and by the rule.
+use Rattle.std.proofs.Common.{◌≡◌, ◌≢◌, ℕ, ◌+◌, ◌≤◌, ◌&&◌, Bool, true, false, List, [], ◌∷◌, ◌++◌, map, length, refl, ap, ◌∙◌, sym, subst, inl, inr, arith}
+use Rattle.std.specs.Prelude.{if◌then◌else◌}
+use Rattle.std.specs.declared.option.Option.{Option}
+use Rattle.std.specs.declared.option.Option.TheVariants.{None, Some}
+use Rattle.std.proofs.lemmas.Bool.{cases_Bool, false≢true}
+use Rattle.dm_link.specs.declared.Pid.{Pid}
+use Rattle.dm_link.specs.Names.{pid_eq}
+use Rattle.dm_message.specs.declared.Message.{Message}
+use Rattle.dm_message.specs.declared.MsgId.{MsgId}
+use Rattle.dm_message.specs.Ids.{id_eq}
+use Rattle.dm_message.specs.Plain.{PlainMessage}
+use Rattle.dm_process.specs.declared.process.Process.{Process}
+use Rattle.dm_forward.specs.declared.record.Record.TheVariants as record_
+use Rattle.dm_onekernel.specs.declared.boot.Boot.{Boot}
+use Rattle.dm_onekernel.specs.Kernel.{Alive, OneKernel}
+use Rattle.dm_onekernel.specs.Plain.{plain_process}
+use Rattle.dm_laws.proofs.Equal.{id_eq-is, pid_eq-same}
+use Rattle.dm_laws.proofs.Sound.{Sound}
+use Rattle.dm_rule.specs.declared.line.Line.{Line}
+use Rattle.dm_rule.specs.Parts as rule
+use Rattle.dm_rule.specs.Point.{Point, after}
+use Rattle.dm_rule.specs.Sets.{moved_back}
+use Rattle.dm_rule.specs.Spots.{Spot, Queue, times, standing, StandsOutside, StandsRight}
+use Rattle.dm_rule.specs.View.{View, receiver_of, is_kernels}
+use Rattle.dm_rule.proofs.Standing.{once_at}
+use Rattle.dm_rulelaws.proofs.GoesTurns.{Droppable, IsFor}
+use Rattle.dm_placed.specs.Placed.{Placed, Mirrors}
+use Rattle.dm_placed.proofs.Queues.{with_queue}
+use Rattle.dm_kernel.specs.declared.part.Part.TheVariants as part
+use Rattle.dm_kernel.specs.State.{KernelState, Turned, with_here}
+use Rattle.dm_mirror.specs.Own.{AllOwnStand}
+use Rattle.dm_mirror.specs.Made.{MadeStands}
+use Rattle.dm_mirror.specs.Stands.{AreMessages, KernelStands}
+use Rattle.dm_mirror.proofs.Turning.{routed, rule_routed, are_still, IsSent}
+use Rattle.dm_mirror.proofs.KernelSets.{Leaves, is_queue_of, off_if, on_if, eq_self, queue_of_others, inbox_stands}
+use Rattle.dm_mirror.proofs.KernelGoes.{LivesHere, goes_stands}
+use Rattle.dm_mirror.proofs.ServeDrops.{AreAlone}
+
+-- process p of machine m, as the machine has it, at a point behind the head of a turn
+pub record Served (b : Boot) (m : ℕ) (pt : Point) (l : Placed) (k : KernelState) (p : Pid) (x : Process) : Type 0 where
+  pub at : LivesHere m pt l k p x
+  pub acting : pt.view.acting ≡ m
+  pub mirrors : Mirrors pt.kernel pt.view pt.addresses l
+  pub stands : KernelStands b pt l m k
+  pub made : MadeStands pt.kernel
+  pub going : x.stopped ≡ false
+  pub kept : (i : MsgId) → StandsRight i (pt.kernel.bag i) (standing pt.view i)
+  pub told : (i : MsgId) (w : PlainMessage) → pt.kernel.bag i ≡ Some w → receiver_of (pt.view.told i) ≡ Some w.to
+  pub drops : Droppable pt.kernel p (pt.view.queue m p)
+  pub r : MsgId → ℕ
+  pub e : MsgId → ℕ
+  pub sound : Sound r e pt.kernel
+  pub own : AllOwnStand pt.view l
+
+-- what serving it gives
+pub record Acts (b : Boot) (m : ℕ) (pt : Point) (l : Placed) (k : KernelState) (p : Pid) (turned : Option Turned) (parts : Option (List rule.Part)) : Type 0 where
+  pub state : KernelState
+  pub says : List Line
+  pub route : Option Message
+  pub turn : turned ≡ Some (record { state = state; parts = map part.Says says ++ routed route })
+  pub outcome : parts ≡ Some (map rule.Says says ++ rule_routed route)
+  pub next : Point
+  pub after : after pt says ≡ Some next
+  pub placed : Placed
+  pub mirrors : Mirrors next.kernel next.view next.addresses placed
+  pub kernel : KernelStands b next placed m state
+  pub leaves : Leaves m (is_queue_of m p) p pt l next placed
+  pub sent : IsSent placed route
+  pub still : are_still says ≡ true
+  pub count : state.sent ≡ k.sent
+  pub records : (q : Pid) → pid_eq p q ≡ false → state.records q ≡ k.records q
+
+pub acts_as : (b : Boot) (m : ℕ) (pt : Point) (l : Placed) (k : KernelState) (p : Pid) (t u : Option Turned) (ps qs : Option (List rule.Part)) → t ≡ u → ps ≡ qs → Acts b m pt l k p u qs → Acts b m pt l k p t ps
+acts_as b m pt l k p t u ps qs e f h = record {
+  state = h.state;
+  says = h.says;
+  route = h.route;
+  turn = e ∙ h.turn;
+  outcome = f ∙ h.outcome;
+  next = h.next;
+  after = h.after;
+  placed = h.placed;
+  mirrors = h.mirrors;
+  kernel = h.kernel;
+  leaves = h.leaves;
+  sent = h.sent;
+  still = h.still;
+  count = h.count;
+  records = h.records;
+}
+
+-- the machine's kernel with the process at the ring's back
+abbrev pub moved_round : KernelState → Pid → KernelState
+moved_round k p = record k { ring = moved_back p k.ring }
+
+-- the process goes on, and is at the ring's back
+pub served_goes : (b : Boot) (m : ℕ) (pt next : Point) (l placed : Placed) (k : KernelState) (p : Pid) (x y : Process) (queue : List Message) → Served b m pt l k p x → Leaves m (is_queue_of m p) p pt l next placed → next.view.known m p ≡ pt.view.known m p
+    → next.view.ring m ≡ moved_back p (pt.view.ring m) → next.kernel.processes p ≡ Some (Alive (plain_process y)) → placed.processes p ≡ Some (with_queue y queue) → AreMessages placed.bag (next.view.queue m p) y.queue → length y.memory ≡ length x.memory
+    → KernelStands b next placed m (with_here (moved_round k p) p y)
+served_goes b m pt next l placed k p x y queue s leaves known ring alive there messages memory =
+    goes_stands b m (is_queue_of m p) p pt next l placed k (with_here (moved_round k p) p y) x y queue s.at leaves
+    (record { here = refl; records = λ q off. off_if (pid_eq p q) (Some (record_.Here y)) (k.records q) off; made = refl; servers = refl }) (λ q off. queue_of_others m p q off) (λ q. refl)
+    (on_if (pid_eq p p) (Some (record_.Here y)) (k.records p) (pid_eq-same p)) refl (ap (moved_back p) s.stands.ring ∙ sym ring) (inbox_stands m (is_queue_of m p) p pt next l placed k.inbox leaves refl s.stands.inbox) known alive there
+    messages memory s.stands
+
+-- the messages of its queue are for it, and stand nowhere else
+pub is_for : (s : OneKernel) (p : Pid) (ids : List MsgId) (i : MsgId) → Droppable s p ids → 1 ≤ times i ids → IsFor s p i
+is_for s p [] i h least = absurd (omega (arith, least))
+is_for s p (j ∷ js) i h least = elim (cases_Bool (id_eq i j)) [
+  | inl same ↦ subst (IsFor s p) (sym (id_eq-is i j same)) h.0
+  | inr apart ↦
+      let e : times i (j ∷ js) ≡ 0 + times i js = ap (λ (c : Bool). (if c then 1 else 0) + times i js) apart in
+      is_for s p js i h.2 (omega (arith, least, e))
+]
+
+-- a message that stands at a spot stands nowhere else
+outside_elsewhere : (c : Bool) (f : Spot → ℕ) (x y : Spot) → 1 ≤ f x → y ≢ x → StandsOutside c f → f y ≡ 0
+outside_elsewhere true f x y least apart h = elim h [
+  | inl none ↦ none y
+  | inr once ↦ (once_at f x once least).1 y apart
+]
+outside_elsewhere false f x y least apart h = h y
+
+right_elsewhere : (i : MsgId) (o : Option PlainMessage) (f : Spot → ℕ) (x y : Spot) → 1 ≤ f x → y ≢ x → StandsRight i o f → f y ≡ 0
+right_elsewhere i None f x y least apart h = outside_elsewhere (is_kernels i) f x y least apart h
+right_elsewhere i (Some u) f x y least apart h = (once_at f x h least).1 y apart
+
+pub queue_alone : (m : ℕ) (p : Pid) (s : OneKernel) (v : View) → ((i : MsgId) → StandsRight i (s.bag i) (standing v i)) → AreAlone (is_queue_of m p) v (v.queue m p)
+queue_alone m p s v kept j least i spot off there = elim (cases_Bool (id_eq j i)) [
+  | inl same ↦
+      let is : j ≡ i = id_eq-is j i same in
+      let none : standing v j spot ≡ 0 = right_elsewhere j (s.bag j) (standing v j) (Queue m p) spot least apart (kept j) in
+      let some : standing v j spot ≡ standing v i spot = ap (λ (k : MsgId). standing v k spot) is in
+      absurd (omega (arith, none, some, there))
+  | inr away ↦ away
+]
+  where
+    apart : spot ≢ Queue m p
+    apart e = false≢true (sym off ∙ ap (is_queue_of m p) e ∙ ap (λ (c : Bool). c && pid_eq p p) (eq_self m) ∙ pid_eq-same p)
