@@ -262,6 +262,6 @@ module _ (b : Boot) (w : WorldState) (pt : Point) (l : Placed) (h : History) (a 
     nodes = λ m lt. node_at m (s.nodes m lt);
     pairs = λ x y xs ys ne. pair_on x y (s.pairs x y xs ys ne);
     counts = λ x y. subst (λ (ids : List MsgId). length ids ≤ b.numbers) (sym (e.ids x y)) (s.counts x y);
-    own = λ i m there plain. let k = s.own i m there plain in record { told = k.told; mine = k.mine };
+    own = λ i m there plain. let k = s.own i m there plain in record { told = k.told; mine = k.mine; sender = k.sender };
     tokens = tokens_on;
   })

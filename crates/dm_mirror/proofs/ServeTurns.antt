@@ -150,7 +150,7 @@ chosen b m pt l k p h first =
         r = state.r;
         e = state.e;
         sound = state.sound;
-        own = λ i x there none. (let o = h.own i x there none in record { told = o.told; mine = o.mine });
+        own = λ i x there none. (let o = h.own i x there none in record { told = o.told; mine = o.mine; sender = o.sender });
       };
       goes = two.1;
     }

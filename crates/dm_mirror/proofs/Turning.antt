@@ -8,11 +8,13 @@ use Rattle.dm_link.specs.Names.{place_of}
 use Rattle.dm_linkupdate.specs.Notice.{kernel_at}
 use Rattle.dm_message.specs.declared.Message.{Message}
 use Rattle.dm_message.specs.declared.MsgId.{MsgId}
+use Rattle.dm_message.specs.declared.kind.MessageKind.TheVariants as kind
 use Rattle.dm_message.specs.Kinds.{kind_of}
 use Rattle.dm_message.specs.Plain.{plain_message}
 use Rattle.dm_process.specs.declared.process.Process.{Process}
 use Rattle.dm_forward.specs.Records.{incoming_of}
 use Rattle.dm_onekernel.specs.declared.boot.Boot.{Boot}
+use Rattle.dm_onekernel.specs.Boot.{manager}
 use Rattle.dm_schedule.specs.declared.Step.{Step}
 use Rattle.dm_schedule.specs.declared.Step.TheVariants as step
 use Rattle.dm_rule.specs.declared.line.Line.{Line}
@@ -117,6 +119,8 @@ pub record MayOwn (pt : Point) (placed : Placed) (records : AllRecords) (x : Mes
   pub receiver : given pt.addresses (own_gives pt.kernel pt.view pt.addresses x.id x.to.pid (kind_of x.what)) (Receiver x.id) ≡ place_of x.to
   pub sender : given pt.addresses (own_gives pt.kernel pt.view pt.addresses x.id x.to.pid (kind_of x.what)) (Sender x.id) ≡ place_of x.sender
   pub about : pt.view.topic ≡ about_of x.what
+  -- a request to move a process is the manager's
+  pub asker : kind_of x.what ≡ kind.Migrate → x.sender.pid ≡ manager
   pub carried : is_between (kind_of x.what) ≡ true → (p : Pid) → about_of x.what ≡ Of p → IsCarried placed (pt.view.asked p) records p x
 
 -- a message may be put
@@ -164,6 +168,11 @@ abbrev pub LateMay : Point → Placed → AllRecords → Late → Type 0
 LateMay pt placed records Nothing = ⊤
 LateMay pt placed records (Leaves p x) = MayOwn pt placed records x
 
+-- the lines name the process that leaves before its messages go on
+abbrev pub LateTopic : Point → Late → Type 0
+LateTopic pt Nothing = ⊤
+LateTopic pt (Leaves p x) = pt.view.topic ≡ Of p
+
 -- machine m's turn, or its part in a directive to move a process, from a point with the head said, with this kernel with places, these
 -- records of all machines and this kernel of the machine: what the kernel and the rule come to
 pub record Turns (b : Boot) (m : ℕ) (d : Step) (turned : Option Turned) (pt start : Point) (l : Placed) (records : AllRecords) (k : KernelState) : Type 0 where
@@ -180,6 +189,9 @@ pub record Turns (b : Boot) (m : ℕ) (d : Step) (turned : Option Turned) (pt st
   pub kernel : KernelStands b (late_point next late) placed m state
   -- the kernel of the machine has counted its own messages of this turn already
   pub sent : k.sent ≡ pt.view.count m → state.sent ≡ next.view.count m + (owns routes + late_owns late)
+  -- at most one message is the kernel's own
+  pub single : owns routes + late_owns late ≤ 1
+  pub topic : LateTopic next late
   pub elsewhere : Elsewhere m start l (late_point next late) placed
   pub may : AllMayPut (late_point next late) placed (at_machine records m state.records) routes
   pub late_may : LateMay (late_point next late) placed (at_machine records m state.records) late

@@ -18,6 +18,7 @@ use Rattle.dm_world.specs.Next as world
 use Rattle.dm_world.specs.Ends as world_ends
 use Rattle.dm_world.specs.Ends.{MayEnd}
 use Rattle.dm_world.specs.Readable.{IsReadable, AreReadBack, gave}
+use Rattle.dm_world.specs.Whole.{AreWhole}
 use Rattle.dm_mirror.specs.Able.{AllMayAct}
 use Rattle.dm_mirror.specs.Stands.{Stands}
 use Rattle.dm_mirror.specs.Todo.{IsDirective, IsTodo}
@@ -27,12 +28,12 @@ use Rattle.dm_mirror.specs.Run.{GoesOn, RunStands, Steps}
 abbrev pub StartStands : Type 0
 StartStands = (b : Boot) → IsValid b → Stands b (first_world b) (first_point b)
 
--- where the world stands for a point, each machine may act, and packets are read again, it may do each directive, and it does
--- what the rule says, or stops worn
+-- where the world stands for a point, each machine may act, and packets are read again, it may do each directive; and where a
+-- process that it freezes can be carried whole, it does what the rule says, or stops worn
 abbrev pub StepsStand : Type 0
 StepsStand =
     (b : Boot) (es : List Step) (w : WorldState) (pt : Point) (e : Step) → IsValid b → Leads b (first_point b) es pt → Stands b w pt → AllMayAct b w → IsReadable w → IsStep (length b.machines) e
-    → MayStep b w e × Steps b w pt e
+    → MayStep b w e × (AreWhole w e → Steps b w pt e)
 
 -- which directive comes next is what the printed lines say
 abbrev pub NextIsSaid : Type 0
@@ -56,7 +57,8 @@ RunBegins = (b : Boot) (ds : List Directive) → IsValid b → All (IsDirective 
 
 pub record RunGoes (b : Boot) (ds : List Directive) (gs : List (List Line)) (pt : Point) (w : WorldState) (n : Next) : Type 0 where
   pub may : MayStep b w n.step
-  pub steps : Steps b w pt n.step
+  -- where a process that it freezes can be carried whole
+  pub steps : AreWhole w n.step → Steps b w pt n.step
   -- where what the machine gives is read again
   pub on : (g : GoesOn b w pt n.step) → AreReadBack (gave b w n.step) → RunStands b ds (gs ++ g.said.lines ∷ []) g.group.point n.left g.said.state
 

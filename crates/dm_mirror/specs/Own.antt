@@ -1,13 +1,14 @@
 -- The kernels' own messages carry what their first puts told.
 use Rattle.std.specs.Prelude.{◌≡◌, true}
-use Rattle.std.specs.declared.option.Option.{Option}
 use Rattle.std.specs.declared.option.Option.TheVariants.{None, Some}
 use Rattle.dm_message.specs.declared.Message.{Message}
 use Rattle.dm_message.specs.declared.MsgId.{MsgId}
 use Rattle.dm_message.specs.declared.What.{What}
 use Rattle.dm_message.specs.declared.What.TheVariants as what
+use Rattle.dm_message.specs.declared.kind.MessageKind.TheVariants as kind
 use Rattle.dm_message.specs.Kinds.{kind_of}
 use Rattle.dm_message.specs.Plain.{plain_message}
+use Rattle.dm_onekernel.specs.Boot.{manager}
 use Rattle.dm_rule.specs.View.{About, NothingElse, Target, Of, Place, Told, View, is_kernels}
 use Rattle.dm_placed.specs.Placed.{Placed}
 
@@ -48,6 +49,8 @@ told_of m = record { kind = kind_of m.what; receiver = m.to.pid; about = about_o
 pub record OwnStands (v : View) (i : MsgId) (m : Message) : Type 0 where
   pub told : v.told i ≡ Some (told_of m)
   pub mine : is_kernels i ≡ true
+  -- a request to move a process is the manager's
+  pub sender : kind_of m.what ≡ kind.Migrate → m.sender.pid ≡ manager
 
 abbrev pub AllOwnStand : View → Placed → Type 0
 AllOwnStand v l = (i : MsgId) (m : Message) → l.bag i ≡ Some m → plain_message m ≡ None → OwnStands v i m

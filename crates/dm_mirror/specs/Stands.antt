@@ -1,6 +1,6 @@
 -- The world stands for a point: each machine has exactly what the printed lines say of it, with the plain values of the kernel
 -- without machines and the places of the addresses.
-use Rattle.std.specs.Prelude.{◌≡◌, ◌≢◌, ⊤, ℕ, ◌<◌, ◌≤◌, ◌==◌, true, false, if◌then◌else◌, is_some, List, length, map, take, drop, slice_get}
+use Rattle.std.specs.Prelude.{◌≡◌, ◌≢◌, ⊤, ℕ, ◌<◌, ◌≤◌, ◌==◌, true, false, if◌then◌else◌, is_some, List, [], length, map, take, drop, slice_get}
 use Rattle.std.specs.List.{All}
 use Rattle.std.specs.declared.option.Option.{Option}
 use Rattle.std.specs.declared.option.Option.TheVariants.{None, Some}
@@ -60,7 +60,8 @@ pub record LeavesStand (l : Placed) (p : Pid) (queue held_ : List MsgId) (at : �
 pub record ComesStand (l : Placed) (p : Pid) (held_ : List MsgId) (a : Arrival) : Type 0 where
   pub process : Process
   pub there : l.processes p ≡ Some process
-  pub whole : CanMove process
+  -- whatever waits for it
+  pub whole : CanMove (record process { queue = [] })
   pub pieces : a ≡ coming process None a.held a.wanted
   pub held : AreMessages l.bag held_ a.held
 

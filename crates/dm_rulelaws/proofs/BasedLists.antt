@@ -22,6 +22,8 @@ use Rattle.dm_rule.proofs.PhasesAlways.{Phased}
 use Rattle.dm_rulelaws.specs.Found.{ListsStand, has_no_queue, has_nothing_held}
 use Rattle.dm_rulelaws.specs.KnownStands.{KnownStands}
 use Rattle.dm_rulelaws.proofs.BasedGroups.{group_keeps}
+use Rattle.dm_rulelaws.proofs.BasedNeeds.{Serves}
+use Rattle.dm_rule.proofs.PhasesQuiet.{is_kill}
 use Rattle.dm_rulelaws.proofs.BasedLoud.{Stays, Loud, keeps_by}
 use Rattle.dm_rulelaws.proofs.BasedSets.{set_all, killed_or}
 
@@ -48,15 +50,22 @@ lists_learn v w p k known queue held no_queue none h = record {
 }
 
 -- a process ends, or is left
-lists_ended : (v : View) (p : Pid) → ListsStand v → ListsStand (view.ended v p)
-lists_ended v p h = lists_learn v (view.ended v p) p Ended refl refl refl (λ e. absurd (false≢true e)) (λ e. absurd (false≢true e)) h
+lists_ended : (v : View) (p : Pid) → v.known v.acting p ≡ Here → ListsStand v → ListsStand (view.ended v p)
+lists_ended v p here h = lists_learn v (view.ended v p) p Ended refl refl refl (λ e. absurd (false≢true e)) (λ e. h.held v.acting p (ap has_nothing_held here)) h
 
 lists_handled : (v : View) (id : MsgId) → ListsStand v → ListsStand (handled v id)
 lists_handled v id h = record { queue = h.queue; held = h.held }
 
-lists_served : (v : View) (o : Option Told) → ListsStand v → ListsStand (served_told v o)
-lists_served v None h = h
-lists_served v (Some t) h = killed_or ListsStand t.kind v t.receiver (λ k. lists_ended v t.receiver h) (λ k. h)
+lists_served : (v : View) (o : Option Told) → ((t : Told) → o ≡ Some t → is_kill t.kind ≡ true → v.known v.acting t.receiver ≡ Here) → ListsStand v → ListsStand (served_told v o)
+lists_served v None here h = h
+lists_served v (Some t) here h = killed_or ListsStand t.kind v t.receiver (λ k. lists_ended v t.receiver (here t refl k) h) (λ k. h)
+
+-- what a message kills is here
+kills_here : (v : View) (id : MsgId) (t : Told) → Serves v id → v.told id ≡ Some t → is_kill t.kind ≡ true → v.known v.acting t.receiver ≡ Here
+kills_here v id t serves told =
+    let is = serves.is in
+    let f : serves.told ≡ t = cc in
+    subst (λ (x : Told). is_kill x.kind ≡ true → v.known v.acting x.receiver ≡ Here) f (λ k. (serves.rests k).here)
 
 -- a queue or a held list changes
 lists_queue : (v : View) (p : Pid) (xs : List MsgId) → NoQueue v v.acting p xs → ListsStand v → ListsStand (record v { queue = at_record v.queue v.acting p xs })
@@ -110,9 +119,9 @@ lists_loud = record {
       let k = lists_queue v p (without_id id (v.queue v.acting p)) (λ e. ap (without_id id) (h.queue v.acting p e)) h in
       record { queue = k.queue; held = k.held };
   refuse = λ pt t p id c here alike sane is h. record { queue = h.queue; held = h.held };
-  end = λ pt t p y rests sane is h. lists_ended pt.view p h;
+  end = λ pt t p y rests sane is h. lists_ended pt.view p rests.here h;
   dropped = λ pt t id alike sane is h. lists_dropped (handled pt.view id) id (receiver_of (pt.view.told id)) (lists_handled pt.view id h);
-  served = λ pt t id serves sane is h. lists_served (handled pt.view id) (pt.view.told id) (lists_handled pt.view id h);
+  served = λ pt t id serves sane is h. lists_served (handled pt.view id) (pt.view.told id) (λ u told kills. kills_here pt.view id u serves told kills) (lists_handled pt.view id h);
   created = λ pt t id p unborn sane is h.
       lists_learn pt.view (view.view_after pt.view (line.Label (label.Created id p))) p Here refl refl refl
       (λ e. absurd (false≢true e)) (λ e. h.held pt.view.acting p (ap has_nothing_held (unborn.unknown pt.view.acting))) h;

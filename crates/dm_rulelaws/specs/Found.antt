@@ -55,7 +55,7 @@ has_nothing_held Here = true
 has_nothing_held (Frozen to) = false
 has_nothing_held (Incoming from) = false
 has_nothing_held (Forward at moves) = true
-has_nothing_held Ended = false
+has_nothing_held Ended = true
 
 pub record ListsStand (v : View) : Type 0 where
   pub queue : (m : ℕ) (p : Pid) → has_no_queue (v.known m p) ≡ true → v.queue m p ≡ []

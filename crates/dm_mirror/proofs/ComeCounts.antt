@@ -1,0 +1,148 @@
+-- How many pieces a process that moves has, by its bytes and by the rule, and which of them is asked for next.
+use Rattle.std.proofs.Common.{◌≡◌, ℕ, ◌+◌, ◌*◌, ◌/◌, ◌<◌, ◌≤◌, ◌==◌, Bool, true, false, not, List, [], ◌∷◌, ◌++◌, length, map, refl, ap, ◌∙◌, sym, subst, nat_lt, nat_le, arith}
+use Rattle.std.specs.Prelude.{if◌then◌else◌, option_map}
+use Rattle.std.specs.List.{flat_map}
+use Rattle.std.specs.declared.option.Option.{Option}
+use Rattle.std.specs.declared.option.Option.TheVariants.{None, Some}
+use Rattle.std.proofs.lemmas.List.{length-append}
+use Rattle.std.proofs.lemmas.List.Concat.{flat_map-cons}
+use Rattle.std.proofs.lemmas.Bool.Decides.{nat_tests}
+use Rattle.dm_link.specs.declared.Link.{Link}
+use Rattle.dm_link.specs.Plain.{plain_link}
+use Rattle.dm_process.specs.declared.process.Process.{Process}
+use Rattle.dm_process.specs.Lawful.{IsLawfulProcess}
+use Rattle.dm_process.specs.declared.process.Status.{Status}
+use Rattle.dm_process.specs.declared.process.Status.TheVariants as status
+use Rattle.dm_packet.specs.Field.{number}
+use Rattle.dm_carry.specs.declared.Shell.{Shell}
+use Rattle.dm_carry.specs.Shell.{front, front_of, registers, shell_of, spelling}
+use Rattle.dm_carry.specs.Statuses.{spell_status}
+use Rattle.dm_carry.specs.Table.{mask_of, spell_slot}
+use Rattle.dm_carry.proofs.Sizes.{numbers_size}
+use Rattle.dm_migrate.specs.declared.arriving.Wanted.{Wanted}
+use Rattle.dm_migrate.specs.declared.arriving.Wanted.TheVariants.{Chunk, Block, Nothing}
+use Rattle.dm_migrate.specs.Arrival.{after_block, after_chunk}
+use Rattle.dm_migrate.specs.Pieces.{HasBlock, HasChunk, is_last, state_of}
+use Rattle.dm_migrate.specs.Way.{HasPiece}
+use Rattle.dm_onekernel.specs.Plain.{plain_process, plain_status}
+use Rattle.dm_rule.specs.Migrating.{chunks_of, link_size, links_size, pieces_of, state_size, status_size}
+use Rattle.dm_mirror.specs.Tokens.{IsAsked, chunks}
+
+-- the bytes of a status, of the links, and of what stands before them
+status_length : (size : ℕ) (s : Status) → length (spell_status size s) ≡ 1 + status_size (plain_status s)
+status_length size status.Ready = omega arith
+status_length size (status.Waiting mask base most) = omega arith
+status_length size (status.Moving dir owner base own left pending) = omega arith
+
+slot_length : (o : Option Link) → length (spell_slot o) ≡ link_size (option_map plain_link o)
+slot_length None = omega arith
+slot_length (Some l) = omega arith
+
+slots_length : (xs : List (Option Link)) → length (flat_map spell_slot xs) ≡ links_size (map (option_map plain_link) xs)
+slots_length [] = omega arith
+slots_length (x ∷ xs) =
+    let one : length (flat_map spell_slot (x ∷ xs)) ≡ length (spell_slot x) + length (flat_map spell_slot xs) = ap length (flat_map-cons spell_slot x xs) ∙ length-append (spell_slot x) (flat_map spell_slot xs) in
+    omega (arith, one, slot_length x, slots_length xs)
+
+registers_length : (xs : List ℕ) → length xs ≡ 16 → length (registers.spell xs) ≡ 64
+unfolding registers
+registers_length xs e = omega (arith, e, numbers_size xs)
+
+front_length : (s : Shell) → length s.regs.r ≡ 16 → length (front.spell (front_of s)) ≡ 86 + status_size (plain_status s.status)
+front_length s sixteen =
+    let st = spell_status (256 * s.blocks) s.status in
+    let r = registers.spell s.regs.r in
+    let pc = (number 4).spell s.regs.pc in
+    let counts = (number 4).spell s.sent ++ ((number 4).spell s.moves ++ (r ++ pc)) in
+    let regs_len : length (r ++ pc) ≡ 68 = length-append r pc ∙ omega (arith, registers_length s.regs.r sixteen) in
+    let counts_len : length counts ≡ 76 = omega (arith, regs_len) in
+    let front_len : length (front.spell (front_of s)) ≡ 9 + (length st + 76) = omega (arith, length-append st counts, counts_len) in
+    omega (arith, front_len, status_length (256 * s.blocks) s.status)
+
+shell_length : (s : Shell) → length s.regs.r ≡ 16 → length (spelling s) ≡ 102 + status_size (plain_status s.status) + links_size (map (option_map plain_link) s.table)
+unfolding spelling
+shell_length s sixteen =
+    let links = flat_map spell_slot s.table in
+    let mask = (number 16).spell (mask_of s.table) in
+    let table_len : length (mask ++ links) ≡ 16 + length links = omega arith in
+    let whole : length (spelling s) ≡ length (front.spell (front_of s)) + length (mask ++ links) = length-append (front.spell (front_of s)) (mask ++ links) in
+    omega (arith, whole, table_len, front_length s sixteen, slots_length s.table)
+
+-- the state bytes of a process are as many as the rule says
+pub state_length : (x : Process) → length x.regs.r ≡ 16 → length (state_of x) ≡ state_size (plain_process x)
+state_length x sixteen = shell_length (shell_of x) sixteen
+
+pub chunks_same : (x : Process) → length x.regs.r ≡ 16 → chunks x ≡ chunks_of (plain_process x)
+chunks_same x sixteen = ap (λ (n : ℕ). (n + 511) / 512) (state_length x sixteen)
+
+-- tests on numbers
+test_same : (a c : ℕ) → a ≡ c → (a == c) ≡ true
+test_same a c e = grind (arith, nat_tests)
+
+test_below : (a c : ℕ) → a < c → (a == c) ≡ false
+test_below a c e = grind (arith, nat_tests)
+
+least_of : (a c : ℕ) → nat_le a c ≡ true → a ≤ c
+least_of a c e = grind (arith, nat_tests)
+
+more_than : (a c : ℕ) → nat_le a c ≡ false → c < a
+more_than a c e = grind (arith, nat_tests)
+
+below_of : (a c : ℕ) → nat_lt a c ≡ true → a < c
+below_of a c e = grind (arith, nat_tests)
+
+not_below : (a c : ℕ) → nat_lt a c ≡ false → c ≤ a
+not_below a c e = grind (arith, nat_tests)
+
+-- a chunk is the last where as many were asked for as there are
+pub chunk_count : (last : Bool) (n k size : ℕ) → nat_le size (512 * (k + 1)) ≡ last → n ≡ k + 1 → 512 * k < size → (n == (size + 511) / 512) ≡ last
+chunk_count true n k size e asked there =
+    let f = least_of size (512 * (k + 1)) e in
+    let g : (size + 511) / 512 ≡ k + 1 = omega (arith, f, there) in
+    test_same n ((size + 511) / 512) (asked ∙ sym g)
+chunk_count false n k size e asked there =
+    let f = more_than size (512 * (k + 1)) e in
+    let g : k + 2 ≤ (size + 511) / 512 = omega (arith, f) in
+    test_below n ((size + 511) / 512) (omega (arith, asked, g))
+
+pub chunk_last : (x : Process) (n k : ℕ) → length x.regs.r ≡ 16 → IsAsked x n (Chunk k) → (n == chunks_of (plain_process x)) ≡ is_last (state_of x) k
+chunk_last x n k sixteen asked =
+    ap (λ (c : ℕ). n == c) (sym (chunks_same x sixteen)) ∙ chunk_count (is_last (state_of x) k) n k (length (state_of x)) refl asked.0 asked.1
+
+-- what is asked for then
+chunk_next : (last : Bool) (x : Process) (n k : ℕ) → nat_le (length (state_of x)) (512 * (k + 1)) ≡ last → IsAsked x n (Chunk k) → HasPiece x (after_chunk k last) → IsAsked x (n + 1) (after_chunk k last)
+chunk_next true x n k e asked there =
+    let f : chunks x ≡ k + 1 = (let g = least_of (length (state_of x)) (512 * (k + 1)) e in let h = asked.1 in omega (arith, g, h)) in
+    (omega (arith, f, asked.0), there)
+chunk_next false x n k e asked there = (omega (arith, asked.0), there)
+
+pub asked_after_chunk : (x : Process) (n k : ℕ) → IsAsked x n (Chunk k) → HasPiece x (after_chunk k (is_last (state_of x) k)) → IsAsked x (n + 1) (after_chunk k (is_last (state_of x) k))
+asked_after_chunk x n k asked there = chunk_next (is_last (state_of x) k) x n k refl asked there
+
+-- a block is the last where as many pieces were asked for as there are
+pub block_count : (more : Bool) (n j chunks blocks : ℕ) → nat_lt (j + 1) blocks ≡ more → n ≡ chunks + j + 1 → j < blocks → (n == chunks + blocks) ≡ not more
+block_count true n j chunks blocks e asked there =
+    let f = below_of (j + 1) blocks e in
+    test_below n (chunks + blocks) (omega (arith, f, asked))
+block_count false n j chunks blocks e asked there =
+    let f = not_below (j + 1) blocks e in
+    test_same n (chunks + blocks) (omega (arith, f, asked, there))
+
+pub block_last : (x : Process) (n j : ℕ) → length x.regs.r ≡ 16 → length x.memory ≡ 256 * (length x.memory / 256) → IsAsked x n (Block j) → (n == pieces_of (plain_process x)) ≡ not (nat_lt (j + 1) (length x.memory / 256))
+block_last x n j sixteen whole asked =
+    let there : j < length x.memory / 256 = (let f = asked.1 in omega (arith, f, whole)) in
+    ap (λ (c : ℕ). n == c + length x.memory / 256) (sym (chunks_same x sixteen)) ∙ block_count (nat_lt (j + 1) (length x.memory / 256)) n j (chunks x) (length x.memory / 256) refl asked.0 there
+
+block_next : (more : Bool) (x : Process) (n j : ℕ) → IsAsked x n (Block j) → HasPiece x (if more then Block (j + 1) else Nothing) → IsAsked x (n + 1) (if more then Block (j + 1) else Nothing)
+block_next true x n j asked there = (omega (arith, asked.0), there)
+block_next false x n j asked there = tt
+
+pub asked_after_block : (x : Process) (n j : ℕ) → IsAsked x n (Block j) → HasPiece x (after_block j (length x.memory / 256)) → IsAsked x (n + 1) (after_block j (length x.memory / 256))
+asked_after_block x n j asked there = block_next (nat_lt (j + 1) (length x.memory / 256)) x n j asked there
+
+-- the memory of a process is one of whole blocks
+pub whole_memory : (x : Process) → IsLawfulProcess x → length x.memory ≡ 256 * (length x.memory / 256)
+whole_memory x h =
+    let e : length x.memory ≡ 256 * h.size.0 = h.size.1 in
+    let d : length x.memory / 256 ≡ h.size.0 = omega (arith, e) in
+    omega (arith, e, d)

@@ -1,0 +1,111 @@
+-- Where everything stands at the end is what the printed lines say.
+use Rattle.std.proofs.Common.{◌≡◌, ℕ, ◌+◌, ◌<◌, List, [], ◌∷◌, ◌++◌, length, ap, ◌∙◌, sym, arith}
+use Rattle.std.proofs.lemmas.Bool.Decides.{nat_tests}
+use Rattle.dm_link.specs.Names.{pid_of}
+use Rattle.dm_onekernel.specs.declared.boot.Boot.{Boot}
+use Rattle.dm_onekernel.specs.Boot.{IsValid, first_number}
+use Rattle.dm_schedule.specs.declared.Step.{Step}
+use Rattle.dm_rule.specs.declared.line.Line.{Line}
+use Rattle.dm_rule.specs.declared.line.EndLine.TheVariants as end
+use Rattle.dm_rule.specs.Ends.{says, each_machine, first_with, has, list_line}
+use Rattle.dm_rule.specs.Ends as rule
+use Rattle.dm_rule.specs.Laws.{Leads}
+use Rattle.dm_rule.specs.Point.{Point, first_point}
+use Rattle.dm_rule.specs.Spots as spots
+use Rattle.dm_rule.proofs.Pairs.{pair_home}
+use Rattle.dm_rulelaws.proofs.Runs.{Run}
+use Rattle.dm_placed.specs.Placed.{Placed}
+use Rattle.dm_world.specs.World.{WorldState}
+use Rattle.dm_world.specs.Ends as world
+use Rattle.dm_mirror.specs.Stands.{History, StandsWith}
+use Rattle.dm_mirror.specs.Made.{MadeStands}
+use Rattle.dm_mirror.specs.Laws.{EndIsSaid}
+use Rattle.dm_mirror.proofs.EndLists.{homes_same, machines_same, names_are}
+use Rattle.dm_mirror.proofs.EndProcesses.{IsOfHome, holding_said, no_server, process_said, queue_said}
+use Rattle.dm_mirror.proofs.Made.{made_always}
+use Rattle.dm_mirror.proofs.EndServers.{servers_said, stream_said}
+
+-- all that is used of a run
+record Final (b : Boot) (w : WorldState) (pt : Point) (l : Placed) (h : History) : Type 0 where
+  stands : StandsWith b w pt l h
+  run : Run b pt
+  made : MadeStands pt.kernel
+  some : 0 < pt.kernel.machines
+
+of_home : (b : Boot) (w : WorldState) (pt : Point) (l : Placed) (h : History) (home n : ℕ) → home < pt.kernel.machines → Final b w pt l h → IsOfHome b w pt l h (pid_of home (first_number + n))
+of_home b w pt l h home n below f = record { stands = f.stands; run = f.run; server = no_server home n }
+
+made_same : (b : Boot) (w : WorldState) (pt : Point) (l : Placed) (h : History) (m : ℕ) → m < pt.kernel.machines → Final b w pt l h → (w.nodes m).kernel.made ≡ pt.kernel.made m
+made_same b w pt l h m below f = (f.stands.nodes m below).kernel.made
+
+processes_said : (b : Boot) (w : WorldState) (pt : Point) (l : Placed) (h : History) → Final b w pt l h
+    → world.homes_with w (world.process_lines pt.kernel.machines w) pt.kernel.machines ≡ rule.each_process pt (λ p. rule.process_lines pt p (pt.kernel.processes p))
+processes_said b w pt l h f =
+    homes_same w pt (world.process_lines pt.kernel.machines w) (λ p. rule.process_lines pt p (pt.kernel.processes p)) pt.kernel.machines (λ m below. made_same b w pt l h m below f)
+    (λ home n below fewer. process_said b w pt l h (pid_of home (first_number + n)) (of_home b w pt l h home n below f) (f.made.all home n below fewer))
+
+queues_said : (b : Boot) (w : WorldState) (pt : Point) (l : Placed) (h : History) → Final b w pt l h → world.homes_with w (world.queue_of pt.kernel.machines w) pt.kernel.machines ≡ rule.queue_lines pt
+queues_said b w pt l h f =
+    homes_same w pt (world.queue_of pt.kernel.machines w) (λ p. rule.queue_at pt.view p (first_with has pt.view p pt.kernel.machines)) pt.kernel.machines (λ m below. made_same b w pt l h m below f)
+    (λ home n below fewer. queue_said b w pt l h (pid_of home (first_number + n)) (of_home b w pt l h home n below f) (f.made.all home n below fewer))
+
+-- the servers are on machine 0
+servers_there : (b : Boot) (w : WorldState) (pt : Point) (l : Placed) (h : History) → Final b w pt l h → world.server_lines (w.nodes 0).kernel.servers ≡ rule.server_lines pt
+servers_there b w pt l h f =
+    ap world.server_lines ((f.stands.nodes 0 f.some).kernel.servers) ∙ servers_said pt l f.stands.mirrors
+
+inboxes_said : (b : Boot) (w : WorldState) (pt : Point) (l : Placed) (h : History) → Final b w pt l h
+    → each_machine (λ m. list_line (end.Inbox m) (world.names_of (w.nodes m).kernel.inbox)) pt.kernel.machines ≡ rule.inbox_lines pt
+inboxes_said b w pt l h f =
+    machines_same (λ m. list_line (end.Inbox m) (world.names_of (w.nodes m).kernel.inbox)) (λ m. list_line (end.Inbox m) (pt.view.inbox m)) pt.kernel.machines
+    (λ m below. ap (list_line (end.Inbox m)) (names_are l.bag (pt.view.inbox m) (w.nodes m).kernel.inbox (λ i x there. (f.stands.mirrors.places.message i x there).id) ((f.stands.nodes m below).kernel.inbox)))
+
+streams_said : (b : Boot) (w : WorldState) (pt : Point) (l : Placed) (h : History) → Final b w pt l h
+    → each_machine (λ a. each_machine (λ c. world.stream_line w a c) pt.kernel.machines) pt.kernel.machines ≡ rule.stream_lines pt
+streams_said b w pt l h f =
+    machines_same (λ a. each_machine (λ c. world.stream_line w a c) pt.kernel.machines) (λ a. each_machine (λ c. list_line (end.Stream a c) (spots.untaken (pt.view.pair a c))) pt.kernel.machines) pt.kernel.machines
+    (λ a from. machines_same (λ c. world.stream_line w a c) (λ c. list_line (end.Stream a c) (spots.untaken (pt.view.pair a c))) pt.kernel.machines
+    (λ c to. stream_said b pt l w h a c (pair_home pt.view a f.run.based.phased.pairs) (λ apart. f.stands.pairs a c from to apart)))
+
+holdings_said : (b : Boot) (w : WorldState) (pt : Point) (l : Placed) (h : History) → Final b w pt l h
+    → each_machine (λ m. world.homes_with w (world.held_line w m) pt.kernel.machines) pt.kernel.machines ≡ rule.holding_lines pt
+holdings_said b w pt l h f =
+    machines_same (λ m. world.homes_with w (world.held_line w m) pt.kernel.machines) (λ m. rule.each_process pt (λ p. list_line (end.Holding m p) (pt.view.held m p))) pt.kernel.machines
+    (λ m below. homes_same w pt (world.held_line w m) (λ p. list_line (end.Holding m p) (pt.view.held m p)) pt.kernel.machines (λ k less. made_same b w pt l h k less f)
+    (λ home n less fewer. holding_said b w pt l h (pid_of home (first_number + n)) m (of_home b w pt l h home n less f) below))
+
+-- all lines, part by part
+abbrev ending : List Line → List Line → List Line → List Line → List Line → List Line → ℕ → List Line
+ending ps ss qs hs is ts groups = says end.Final ∷ ps ++ ss ++ qs ++ hs ++ is ++ ts ++ says (end.Groups groups) ∷ []
+
+end_same : (b : Boot) (w : WorldState) (pt : Point) (l : Placed) (h : History) → Final b w pt l h → world.end_lines pt.kernel.machines w ≡ rule.end_lines pt
+end_same b w pt l h f =
+    let n = pt.kernel.machines in
+    let ps = rule.each_process pt (λ p. rule.process_lines pt p (pt.kernel.processes p)) in
+    let ss = rule.server_lines pt in
+    let qs = world.homes_with w (world.queue_of n w) n in
+    let hs = each_machine (λ m. world.homes_with w (world.held_line w m) n) n in
+    let is = each_machine (λ m. list_line (end.Inbox m) (world.names_of (w.nodes m).kernel.inbox)) n in
+    let ts = each_machine (λ a. each_machine (λ c. world.stream_line w a c) n) n in
+    ap (λ (ls : List Line). ending ls (world.server_lines (w.nodes 0).kernel.servers) qs hs is ts w.groups) (processes_said b w pt l h f)
+    ∙ (ap (λ (ls : List Line). ending ps ls qs hs is ts w.groups) (servers_there b w pt l h f)
+    ∙ (ap (λ (ls : List Line). ending ps ss ls hs is ts w.groups) (queues_said b w pt l h f)
+    ∙ (ap (λ (ls : List Line). ending ps ss (rule.queue_lines pt) ls is ts w.groups) (holdings_said b w pt l h f)
+    ∙ (ap (λ (ls : List Line). ending ps ss (rule.queue_lines pt) (rule.holding_lines pt) ls ts w.groups) (inboxes_said b w pt l h f)
+    ∙ (ap (λ (ls : List Line). ending ps ss (rule.queue_lines pt) (rule.holding_lines pt) (rule.inbox_lines pt) ls w.groups) (streams_said b w pt l h f)
+    ∙ ap (ending ps ss (rule.queue_lines pt) (rule.holding_lines pt) (rule.inbox_lines pt) (rule.stream_lines pt)) f.stands.groups)))))
+
+-- where the world stands for a point
+pub end_is : (b : Boot) (w : WorldState) (pt : Point) (l : Placed) (h : History) → IsValid b → Run b pt → MadeStands pt.kernel → StandsWith b w pt l h → world.end_lines (length b.machines) w ≡ rule.end_lines pt
+end_is b w pt l h valid run made stands =
+    let machines = run.based.machines in
+    let least = valid.some_machines in
+    let some : 0 < pt.kernel.machines = grind (arith, nat_tests) in
+    ap (λ (n : ℕ). world.end_lines n w) (sym machines) ∙ end_same b w pt l h (record { stands = stands; run = run; made = made; some = some })
+
+-- all that holds wherever the rule leads
+abbrev pub RunAlways : Type 0
+RunAlways = (b : Boot) (es : List Step) (pt : Point) → IsValid b → Leads b (first_point b) es pt → Run b pt
+
+pub end_is_said_by : RunAlways → EndIsSaid
+end_is_said_by runs b es w pt valid leads ((l, h, stands), counts) = end_is b w pt l h valid (runs b es pt valid leads) (made_always b es pt valid leads) stands

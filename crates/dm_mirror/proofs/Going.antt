@@ -1,0 +1,104 @@
+-- A run of the world begins, and goes on directive by directive.
+use Rattle.std.proofs.Common.{◌≡◌, ℕ, List, [], ◌∷◌, ◌++◌, length, refl, ap, ◌∙◌, sym, subst, append_assoc, arith}
+use Rattle.std.specs.declared.option.Option.TheVariants.{Some}
+use Rattle.std.proofs.lemmas.List.{append-nil}
+use Rattle.std.proofs.lemmas.List.Elements.{All-nil}
+use Rattle.dm_onekernel.specs.declared.boot.Boot.{Boot}
+use Rattle.dm_onekernel.specs.Boot.{IsValid}
+use Rattle.dm_onekernel.specs.Start.{start}
+use Rattle.dm_onekernel.specs.Step.{replay}
+use Rattle.dm_laws.proofs.Runs.{received_once}
+use Rattle.dm_schedule.specs.declared.Step.{Step}
+use Rattle.dm_schedule.specs.declared.Directive.{Directive}
+use Rattle.dm_rule.specs.declared.line.Line.{Line}
+use Rattle.dm_rule.specs.Good.{Todo, Next, all_of, next_step, IsKept, IsRun}
+use Rattle.dm_rule.specs.Laws.{IsStep, Leads}
+use Rattle.dm_rule.specs.Parts.{Spelled}
+use Rattle.dm_rule.specs.Point.{Point, first_point, labels}
+use Rattle.dm_rule.specs.Rule.{group_of}
+use Rattle.dm_rule.proofs.Groups.{stands_once_always}
+use Rattle.dm_rulelaws.proofs.RunLabels.{group_replay, labels-append, replay-append}
+use Rattle.dm_world.specs.World.{WorldState}
+use Rattle.dm_world.specs.Next as world
+use Rattle.dm_mirror.specs.Todo.{IsTwo}
+use Rattle.dm_mirror.specs.Run.{joined, GoesOn, RunStands}
+use Rattle.dm_mirror.specs.Laws.{StepsStand, RunBegins, RunGoesOn}
+use Rattle.dm_world.specs.Readable.{AreReadBack, gave}
+use Rattle.dm_world.specs.May.{MayStep}
+use Rattle.dm_mirror.proofs.DeliverKeeps.{first_readable}
+use Rattle.dm_mirror.proofs.May.{acts_start, acts_step}
+use Rattle.dm_mirror.proofs.Next.{NextFits, machines_stay, next_fits, next_is_said}
+use Rattle.dm_mirror.proofs.Readable.{readable_step}
+use Rattle.dm_mirror.proofs.Starting.{start_stands}
+use Rattle.dm_mirror.proofs.Staying.{kernel_stays}
+
+pub run_begins : RunBegins
+run_begins b ds valid fit = record {
+  able = acts_start b valid;
+  readable = first_readable b;
+  good = record { run = (refl, refl); replays = refl; received = λ i. omega arith };
+  steps = [];
+  leads = refl;
+  todo = record { pairs = All-nil (IsTwo (length b.machines)); machines_ = All-nil _; directives = fit };
+  stands = start_stands b valid;
+}
+
+-- one more directive, and one more group
+leads_last : (b : Boot) (es : List Step) (pt mid : Point) (e : Step) (v : Spelled) → Leads b pt es mid → IsStep mid.kernel.machines e → group_of b mid e ≡ Some v → Leads b pt (es ++ e ∷ []) v.point
+leads_last b [] pt mid e v leads fit is = (v, subst (λ (q : Point). IsStep q.kernel.machines e) (sym leads) fit, ap (λ (q : Point). group_of b q e) leads ∙ is, refl)
+leads_last b (d ∷ ds) pt mid e v (w, first, group, rest) fit is = (w, first, group, leads_last b ds w.point mid e v rest fit is)
+
+run_last : (b : Boot) (gs : List (List Line)) (pt end : Point) (t left : Todo) (n : Next) (v : Spelled) (g : List Line) → IsRun b pt t gs end left → next_step end.kernel.machines end.view left ≡ Some n → group_of b end n.step ≡ Some v → v.lines ≡ g → IsKept b v.point
+    → IsRun b pt t (gs ++ g ∷ []) v.point n.left
+run_last b [] pt end t left n v g (e, f) next is lines kept = (
+  n,
+  v,
+  ap (λ (q : Point). next_step q.kernel.machines q.view t) e ∙ (ap (next_step end.kernel.machines end.view) f ∙ next),
+  ap (λ (q : Point). group_of b q n.step) e ∙ is,
+  lines,
+  kept,
+  (refl, refl),
+)
+run_last b (h ∷ hs) pt end t left n v g (m, w, first, group, said, stands, rest) next is lines kept = (m, w, first, group, said, stands, run_last b hs w.point end m.left left n v g rest next is lines kept)
+
+joined_last : (gs : List (List Line)) (g : List Line) → joined (gs ++ g ∷ []) ≡ joined gs ++ g
+joined_last [] g = append-nil g
+joined_last (h ∷ hs) g = ap (λ (ls : List Line). h ++ ls) (joined_last hs g) ∙ sym (append_assoc h (joined hs) g)
+
+-- the labels replay, with one more group
+replays_last : (b : Boot) (gs : List (List Line)) (pt : Point) (e : Step) (v : Spelled) (g : List Line) → replay (start b) (labels (joined gs)) ≡ Some pt.kernel → group_of b pt e ≡ Some v → v.lines ≡ g
+    → replay (start b) (labels (joined (gs ++ g ∷ []))) ≡ Some v.point.kernel
+replays_last b gs pt e v g before is lines =
+    ap (replay (start b)) (ap labels (joined_last gs g) ∙ labels-append (joined gs) g)
+    ∙ replay-append (labels (joined gs)) (labels g) (start b) pt.kernel v.point.kernel before (ap (λ (ls : List Line). replay pt.kernel (labels ls)) (sym lines) ∙ group_replay b pt e v is)
+
+-- where the machines do what the rule says, the run goes on
+goes_on : (b : Boot) (ds : List Directive) (gs : List (List Line)) (pt : Point) (left : Todo) (w : WorldState) (n : Next) → IsValid b → pt.kernel.machines ≡ length b.machines → RunStands b ds gs pt left w
+    → next_step pt.kernel.machines pt.view left ≡ Some n → NextFits (length b.machines) n → MayStep b w n.step → (g : GoesOn b w pt n.step) → AreReadBack (gave b w n.step) → RunStands b ds (gs ++ g.said.lines ∷ []) g.group.point n.left g.said.state
+goes_on b ds gs pt left w n valid machines r is fits may g again =
+    let on = leads_last b r.steps (first_point b) pt n.step g.group r.leads (subst (λ (k : ℕ). IsStep k n.step) (sym machines) fits.step) g.due in
+    let lines = sym g.lines in
+    let replays = replays_last b gs pt n.step g.group g.said.lines r.good.replays g.due lines in
+    let ((l, h, stands), count) = g.stands in
+    let kept : IsKept b g.group.point = record { once = λ id. stands_once_always b (r.steps ++ n.step ∷ []) g.group.point id valid on; counts = stands.counts } in
+    record {
+      good = record {
+        run = run_last b gs (first_point b) pt (all_of ds) left n g.group g.said.lines r.good.run is g.due lines kept;
+        replays = replays;
+        received = λ i. received_once b (labels (joined (gs ++ g.said.lines ∷ []))) g.group.point.kernel i valid replays;
+      };
+      steps = r.steps ++ n.step ∷ [];
+      leads = on;
+      todo = fits.left;
+      stands = g.stands;
+      able = acts_step kernel_stays b w n.step g.said valid may g.happens r.able;
+      readable = readable_step b w n.step g.said may g.happens again r.readable;
+    }
+
+pub run_goes_on_by : StepsStand → RunGoesOn
+run_goes_on_by steps b ds gs pt left w n valid r is =
+    let machines = machines_stay b r.steps pt valid r.leads in
+    let due : next_step pt.kernel.machines pt.view left ≡ Some n = sym (next_is_said b r.steps w pt left valid r.leads r.stands r.todo) ∙ is in
+    let fits = next_fits (length b.machines) (world.undelivered w) left n r.todo is in
+    let (may, does) = steps b r.steps w pt n.step valid r.leads r.stands r.able r.readable fits.step in
+    record { may = may; steps = does; on = λ g. goes_on b ds gs pt left w n valid machines r due fits may g }

@@ -1,0 +1,220 @@
+-- A directive acts on one machine.
+use Rattle.std.proofs.Common.{◌≡◌, ℕ, zero, suc, ◌+◌, ◌==◌, ◌&&◌, Bool, true, false, List, [], ◌∷◌, refl, ap, ◌∙◌, sym, subst, arith}
+use Rattle.std.specs.Prelude.{⊤, if◌then◌else◌}
+use Rattle.std.specs.declared.option.Option.{Option}
+use Rattle.std.specs.declared.option.Option.TheVariants.{None, Some}
+use Rattle.std.specs.declared.result.Result.{Result}
+use Rattle.std.specs.declared.result.Result.TheVariants.{Ok, Err}
+use Rattle.std.proofs.lemmas.Bool.Decides.{nat_tests}
+use Rattle.std.proofs.lemmas.List.{append-nil}
+use Rattle.std.proofs.lemmas.List.Elements.{All-nil}
+use Rattle.dm_message.specs.declared.Message.{Message}
+use Rattle.dm_packet.specs.declared.Packet.{Packet}
+use Rattle.dm_packet.specs.declared.Packet.TheVariants as packet
+use Rattle.dm_packet.specs.declared.Bad.{Bad}
+use Rattle.dm_packet.specs.Packets.{packet_of}
+use Rattle.dm_wire.specs.Sent.{Sent, bytes_at, marked}
+use Rattle.dm_wire.specs.Wire.{after_mark}
+use Rattle.dm_stream.specs.Packets.{Load, Data, Ack}
+use Rattle.dm_onekernel.specs.declared.boot.Boot.{Boot}
+use Rattle.dm_schedule.specs.declared.Step.{Step}
+use Rattle.dm_schedule.specs.declared.Step.TheVariants as step
+use Rattle.dm_rule.specs.declared.line.Line.TheVariants as line
+use Rattle.dm_kernel.specs.State.{KernelState, Turned}
+use Rattle.dm_kernel.specs.Turn as kernel
+use Rattle.dm_kernel.specs.Asking as asking
+use Rattle.dm_link.specs.declared.Pid.{Pid}
+use Rattle.dm_node.specs.State.{NodeState, here}
+use Rattle.dm_node.specs.Out.{Acted, Acts, Goes, Worn}
+use Rattle.dm_node.specs.Acts as machine
+use Rattle.dm_node.proofs.Here.{StaysAt, asks_move_stays}
+use Rattle.dm_world.specs.World.{WorldState, Said, Says, acted, turned, arrives, reads, delivers, world_step}
+use Rattle.dm_mirror.specs.Local.{IsFresh, PutsFrom, marked_by, ActsLocally, SamePacket, DoesSame, ReadsLocally, NothingComes}
+use Rattle.dm_mirror.proofs.Outs.{IsFrom, ActsFrom, acts_from, tick_from, arrives_from, packets_to, all_fresh, spoken_off, spoken_on}
+
+-- a kernel stays on its machine, whatever a turn gives
+abbrev pub KernelStays : Type 0
+KernelStays = (b : Boot) (k : KernelState) (t : Turned) → kernel.turn b k ≡ Some t → t.state.here ≡ k.here
+
+says_same : (s t : Said) → Some (Says s) ≡ Some (Says t) → s ≡ t
+says_same s t e = cc
+
+-- what an event of machine m gives to the world
+acted_puts : (w : WorldState) (e : Step) (m : ℕ) (d : Acted) → IsFrom m d → PutsFrom m (λ c. packets_to c d.outs) w (acted w e m d).state
+acted_puts w e m d h = record {
+  nodes = λ n apart. ap (λ (c : Bool). if c then d.state else w.nodes n) (let f : (m == n) ≡ false = grind (arith, nat_tests) in f);
+  others = λ a c apart. spoken_off m d.outs w.wires a c h.outs apart;
+  own = λ c. spoken_on m d.outs w.wires c h.outs;
+  fresh = λ c. all_fresh c d.outs;
+  groups = refl;
+}
+
+acted_node : (w : WorldState) (e : Step) (m : ℕ) (d : Acted) → (acted w e m d).state.nodes m ≡ d.state
+acted_node w e m d = ap (λ (c : Bool). if c then d.state else w.nodes m) (let f : (m == m) ≡ true = grind (arith, nat_tests) in f)
+
+-- a turn
+abbrev ActsSome : ℕ → Option Acts → Type 0
+ActsSome m None = ⊤
+ActsSome m (Some a) = ActsFrom m a
+
+record Turns (e : Step) (m : ℕ) (w : WorldState) (o : Option Acts) (s : Said) : Type 0 where
+  acted_ : Acted
+  is : o ≡ Some (Goes acted_)
+  from : IsFrom m acted_
+  said : s ≡ acted w e m acted_
+
+turned_is : (e : Step) (m : ℕ) (w : WorldState) (o : Option Acts) (s : Said) → ActsSome m o → turned w e m o ≡ Some (Says s) → Turns e m w o s
+turned_is e m w None s h is = cc
+turned_is e m w (Some (Goes d)) s h is = record { acted_ = d; is = refl; from = h; said = says_same s (acted w e m d) (sym is) }
+turned_is e m w (Some (Worn x y)) s h is = cc
+
+turns_from : (n : NodeState) (m : ℕ) (o : Option Turned) → here n ≡ m → ((t : Turned) → o ≡ Some t → t.state.here ≡ n.kernel.here) → ActsSome m (machine.turns n o)
+turns_from n m None is stays = tt
+turns_from n m (Some t) is stays = acts_from m t.parts (record n { kernel = t.state }) (stays t refl ∙ is)
+
+turn_is : KernelStays → (b : Boot) (w : WorldState) (m : ℕ) (s : Said) → here (w.nodes m) ≡ m → world_step b w (step.Turn m) ≡ Some (Says s) → Turns (step.Turn m) m w (machine.turn b (w.nodes m)) s
+turn_is stays b w m s is happens =
+    turned_is (step.Turn m) m w (machine.turn b (w.nodes m)) s (turns_from (w.nodes m) m (kernel.turn b (w.nodes m).kernel) is (λ t e. stays b (w.nodes m).kernel t e)) happens
+
+-- the machine with the manager has it tell a process to move
+asks_here : (o : Option Turned) (h : ℕ) → StaysAt h o → (t : Turned) → o ≡ Some t → t.state.here ≡ h
+asks_here o h stays t e = subst (StaysAt h) e stays
+
+asks_is : (w : WorldState) (p : Pid) (m : ℕ) (s : Said) → here (w.nodes 0) ≡ 0 → turned w (step.Migrate p m) 0 (machine.asks_move (w.nodes 0) p m) ≡ Some (Says s) → Turns (step.Migrate p m) 0 w (machine.asks_move (w.nodes 0) p m) s
+asks_is w p m s is happens =
+    let k = (w.nodes 0).kernel in
+    turned_is (step.Migrate p m) 0 w (machine.asks_move (w.nodes 0) p m) s
+    (turns_from (w.nodes 0) 0 (asking.asks_move k p m) is (asks_here (asking.asks_move k p m) k.here (asks_move_stays k p m))) happens
+
+-- a delivery: what comes of the packet that some bytes spell
+record Comes (w : WorldState) (e : Step) (a c : ℕ) (r : Result Packet Bad) (s : Said) : Type 0 where
+  load : Load Message
+  is : (u : WorldState) → reads u e a c r ≡ arrives u e a c load
+  said : s ≡ acted w e c (machine.arrives (w.nodes c) a load)
+
+comes : (w : WorldState) (e : Step) (a c : ℕ) (r : Result Packet Bad) (s : Said) → reads w e a c r ≡ Some (Says s) → Comes w e a c r s
+comes w e a c (Ok (packet.Data from to k m)) s is = record { load = Data k m; is = λ u. refl; said = says_same s (acted w e c (machine.arrives (w.nodes c) a (Data k m))) (sym is) }
+comes w e a c (Ok (packet.Ack from to k)) s is = record { load = Ack k; is = λ u. refl; said = says_same s (acted w e c (machine.arrives (w.nodes c) a (Ack k))) (sym is) }
+comes w e a c (Err bad) s is = cc
+
+-- where no such packet is to be delivered, there is none to mark
+marked_none : (ps : List Sent) (k : ℕ) → bytes_at ps k ≡ None → marked ps k ≡ ps
+marked_none [] k e = refl
+marked_none (p ∷ ps) zero e = cc
+marked_none (p ∷ ps) (suc k) e = ap (λ (qs : List Sent). p ∷ qs) (marked_none ps k e)
+
+mark_by : (wires : ℕ → ℕ → List Sent) (a c k x y : ℕ) (b : Bool) → ((a == x) && (c == y)) ≡ b → bytes_at (wires a c) k ≡ None → (if b then marked (wires x y) k else wires x y) ≡ wires x y
+mark_by wires a c k x y true e none =
+    let f : a ≡ x = grind (arith, nat_tests) in
+    let g : c ≡ y = grind (arith, nat_tests) in
+    marked_none (wires x y) k (ap (λ (n : ℕ). bytes_at (wires n y) k) (sym f) ∙ (ap (λ (n : ℕ). bytes_at (wires a n) k) (sym g) ∙ none))
+mark_by wires a c k x y false e none = refl
+
+mark_none : (wires : ℕ → ℕ → List Sent) (a c k x y : ℕ) → bytes_at (wires a c) k ≡ None → after_mark wires a c k x y ≡ wires x y
+mark_none wires a c k x y none = mark_by wires a c k x y ((a == x) && (c == y)) refl none
+
+nothing_puts : (w : WorldState) (a c k : ℕ) → bytes_at (w.wires a c) k ≡ None → PutsFrom c (λ y. []) (marked_by (step.Deliver a c k) w) (record w { groups = w.groups + 1 })
+nothing_puts w a c k none = record {
+  nodes = λ n apart. refl;
+  others = λ x y apart. sym (mark_none w.wires a c k x y none);
+  own = λ y. sym (append-nil (after_mark w.wires a c k c y) ∙ mark_none w.wires a c k c y none);
+  fresh = λ y. All-nil IsFresh;
+  groups = refl;
+}
+
+pub nothing_comes : NothingComes
+nothing_comes b w a c k none = ap (delivers w (step.Deliver a c k) a c k) none
+
+-- the same machine does the same
+delivers_same : (b : Boot) (w u : WorldState) (a c k : ℕ) (s : Said) (o : Option (List ℕ)) → bytes_at (w.wires a c) k ≡ o → bytes_at (u.wires a c) k ≡ o → here (w.nodes c) ≡ c → u.nodes c ≡ w.nodes c
+    → delivers w (step.Deliver a c k) a c k o ≡ Some (Says s) → DoesSame b w u (step.Deliver a c k) s
+delivers_same b w u a c k s None here_is there_is is node happens =
+    let e = step.Deliver a c k in
+    let x : Said = record { state = record w { groups = w.groups + 1 }; lines = line.Head e ∷ line.Nothing ∷ [] } in
+    let y : Said = record { state = record u { groups = u.groups + 1 }; lines = line.Head e ∷ line.Nothing ∷ [] } in
+    let same : s ≡ x = says_same s x (sym happens) in
+    record {
+      said = y;
+      happens = nothing_comes b u a c k there_is;
+      node = node ∙ ap (λ (z : Said). z.state.nodes c) (sym same);
+      more = λ n. [];
+      puts = subst (λ (z : Said). PutsFrom c (λ n. []) (marked_by e w) z.state) (sym same) (nothing_puts w a c k here_is);
+      puts_there = nothing_puts u a c k there_is;
+    }
+delivers_same b w u a c k s (Some bytes) here_is there_is is node happens =
+    let e = step.Deliver a c k in
+    let x = marked_by e w in
+    let y = marked_by e u in
+    let p = comes x e a c (packet_of bytes) s happens in
+    let d = machine.arrives (w.nodes c) a p.load in
+    let from = arrives_from c (w.nodes c) a p.load is in
+    let same : machine.arrives (u.nodes c) a p.load ≡ d = ap (λ (n : NodeState). machine.arrives n a p.load) node in
+    record {
+      said = acted y e c d;
+      happens = ap (delivers u e a c k) there_is ∙ (p.is y ∙ ap (λ (v : Acted). Some (Says (acted y e c v))) same);
+      node = acted_node y e c d ∙ sym (ap (λ (z : Said). z.state.nodes c) p.said ∙ acted_node x e c d);
+      more = λ n. packets_to n d.outs;
+      puts = subst (λ (z : Said). PutsFrom c (λ n. packets_to n d.outs) x z.state) (sym p.said) (acted_puts x e c d from);
+      puts_there = acted_puts y e c d from;
+    }
+
+turn_same : KernelStays → (b : Boot) (w u : WorldState) (m : ℕ) (s : Said) → here (w.nodes m) ≡ m → u.nodes m ≡ w.nodes m → world_step b w (step.Turn m) ≡ Some (Says s) → DoesSame b w u (step.Turn m) s
+turn_same stays b w u m s is node happens =
+    let e = step.Turn m in
+    let t = turn_is stays b w m s is happens in
+    let d = t.acted_ in
+    record {
+      said = acted u e m d;
+      happens = ap (turned u e m) (ap (machine.turn b) node ∙ t.is);
+      node = acted_node u e m d ∙ sym (ap (λ (z : Said). z.state.nodes m) t.said ∙ acted_node w e m d);
+      more = λ n. packets_to n d.outs;
+      puts = subst (λ (z : Said). PutsFrom m (λ n. packets_to n d.outs) w z.state) (sym t.said) (acted_puts w e m d t.from);
+      puts_there = acted_puts u e m d t.from;
+    }
+
+tick_same : (b : Boot) (w u : WorldState) (m : ℕ) (s : Said) → here (w.nodes m) ≡ m → u.nodes m ≡ w.nodes m → world_step b w (step.Tick m) ≡ Some (Says s) → DoesSame b w u (step.Tick m) s
+tick_same b w u m s is node happens =
+    let e = step.Tick m in
+    let d = machine.tick (w.nodes m) in
+    let from = tick_from m (w.nodes m) is in
+    let said : s ≡ acted w e m d = says_same s (acted w e m d) (sym happens) in
+    record {
+      said = acted u e m d;
+      happens = ap (λ (n : NodeState). Some (Says (acted u e m (machine.tick n)))) node;
+      node = acted_node u e m d ∙ sym (ap (λ (z : Said). z.state.nodes m) said ∙ acted_node w e m d);
+      more = λ n. packets_to n d.outs;
+      puts = subst (λ (z : Said). PutsFrom m (λ n. packets_to n d.outs) w z.state) (sym said) (acted_puts w e m d from);
+      puts_there = acted_puts u e m d from;
+    }
+
+migrate_same : (b : Boot) (w u : WorldState) (p : Pid) (m : ℕ) (s : Said) → here (w.nodes 0) ≡ 0 → u.nodes 0 ≡ w.nodes 0 → world_step b w (step.Migrate p m) ≡ Some (Says s) → DoesSame b w u (step.Migrate p m) s
+migrate_same b w u p m s is node happens =
+    let e = step.Migrate p m in
+    let t = asks_is w p m s is happens in
+    let d = t.acted_ in
+    record {
+      said = acted u e 0 d;
+      happens = ap (turned u e 0) (ap (λ (n : NodeState). machine.asks_move n p m) node ∙ t.is);
+      node = acted_node u e 0 d ∙ sym (ap (λ (z : Said). z.state.nodes 0) t.said ∙ acted_node w e 0 d);
+      more = λ n. packets_to n d.outs;
+      puts = subst (λ (z : Said). PutsFrom 0 (λ n. packets_to n d.outs) w z.state) (sym t.said) (acted_puts w e 0 d t.from);
+      puts_there = acted_puts u e 0 d t.from;
+    }
+
+pub reads_locally : KernelStays → ReadsLocally
+reads_locally stays b w u (step.Turn m) s is node same happens = turn_same stays b w u m s is node happens
+reads_locally stays b w u (step.Tick m) s is node same happens = tick_same b w u m s is node happens
+reads_locally stays b w u (step.Deliver a c k) s is node same happens = delivers_same b w u a c k s (bytes_at (w.wires a c) k) refl same is node happens
+reads_locally stays b w u (step.Migrate p m) s is node same happens = migrate_same b w u p m s is node happens
+
+-- a world does what it does
+same_packet : (e : Step) (w : WorldState) → SamePacket e w w
+same_packet (step.Turn m) w = tt
+same_packet (step.Tick m) w = tt
+same_packet (step.Deliver a c k) w = refl
+same_packet (step.Migrate p m) w = tt
+
+pub acts_locally : KernelStays → ActsLocally
+acts_locally stays b w e s is happens =
+    let d = reads_locally stays b w w e s is refl (same_packet e w) happens in
+    (d.more, d.puts)

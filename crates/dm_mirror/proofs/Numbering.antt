@@ -1,0 +1,155 @@
+-- How a boot file numbers its processes: those of each home from the first number on, in the order of the file.
+use Rattle.std.proofs.Common.{◌≡◌, ◌≢◌, inl, inr, ℕ, ◌+◌, ◌<◌, ◌≤◌, ◌==◌, Bool, true, false, List, [], ◌∷◌, ◌++◌, length, refl, ap, ◌∙◌, sym, subst, is_some, nat_le, nat_lt, arith}
+use Rattle.std.specs.Prelude.{◌&&◌, if◌then◌else◌, slice_get}
+use Rattle.std.specs.declared.option.Option.{Option}
+use Rattle.std.specs.declared.option.Option.TheVariants.{None, Some}
+use Rattle.std.proofs.lemmas.Bool.{cases_Bool, false≢true}
+use Rattle.std.proofs.lemmas.Bool.Decides.{nat_tests}
+use Rattle.dm_link.specs.declared.Pid.{Pid}
+use Rattle.dm_link.specs.Names.{pid_of, pid_eq}
+use Rattle.dm_process.specs.declared.process.Process.{Process}
+use Rattle.dm_onekernel.specs.declared.boot.BootImage.{BootImage}
+use Rattle.dm_onekernel.specs.declared.boot.BootProcess.{BootProcess}
+use Rattle.dm_onekernel.specs.declared.boot.Boot.{Boot}
+use Rattle.dm_onekernel.specs.Boot.{starting_at, slots_of, links_are_valid, processes_are_valid, process_is_valid, process_named}
+use Rattle.dm_onekernel.specs.Kernel.{Life}
+use Rattle.dm_onekernel.specs.Options.{bind}
+use Rattle.dm_onekernel.specs.Start.{first_life, life_at}
+use Rattle.dm_placed.specs.PlacedStart.{started, started_at}
+use Rattle.dm_laws.proofs.Equal.{pid_eq-is}
+use Rattle.dm_rulelaws.proofs.FitsRises.{both}
+use Rattle.dm_rulelaws.proofs.FitsStart.{get_some}
+
+-- the processes of a list by name
+life_if : (b : Boot) (p : BootProcess) (c : Bool) (o : Option BootProcess) (x : Option Life) → x ≡ bind o (first_life b) → (if c then first_life b p else x) ≡ bind (if c then Some p else o) (first_life b)
+life_if b p true o x e = refl
+life_if b p false o x e = e
+
+pub life_named : (b : Boot) (ps : List BootProcess) (q : Pid) → life_at b ps q ≡ bind (process_named q ps) (first_life b)
+life_named b [] q = refl
+life_named b (p ∷ ps) q = life_if b p (pid_eq p.pid q) (process_named q ps) (life_at b ps q) (life_named b ps q)
+
+started_if : (b : Boot) (p : BootProcess) (c : Bool) (o : Option BootProcess) (x : Option Process) → x ≡ bind o (started b) → (if c then started b p else x) ≡ bind (if c then Some p else o) (started b)
+started_if b p true o x e = refl
+started_if b p false o x e = e
+
+pub started_named : (b : Boot) (ps : List BootProcess) (q : Pid) → started_at b ps q ≡ bind (process_named q ps) (started b)
+started_named b [] q = refl
+started_named b (p ∷ ps) q = started_if b p (pid_eq p.pid q) (process_named q ps) (started_at b ps q) (started_named b ps q)
+
+-- a process of a list after some others of the file
+pub record Listed (b : Boot) (earlier : List BootProcess) (p : BootProcess) (ps : List BootProcess) : Type 0 where
+  pub home : p.pid.home < length b.machines
+  pub number : p.pid.num ≡ 3 + starting_at p.pid.home earlier
+  pub image : BootImage
+  pub there : slice_get b.images p.image ≡ Some image
+  pub rest : processes_are_valid b (earlier ++ p ∷ []) ps ≡ true
+
+some_of : {X : Type 0} (o : Option X) → is_some o ≡ true → (x : X) × (o ≡ Some x)
+some_of None e = absurd (false≢true e)
+some_of (Some x) e = (x, refl)
+
+pub listed : (b : Boot) (earlier : List BootProcess) (p : BootProcess) (ps : List BootProcess) → processes_are_valid b earlier (p ∷ ps) ≡ true → Listed b earlier p ps
+listed b earlier p ps h =
+    let k = both (process_is_valid b (starting_at p.pid.home earlier) p) (processes_are_valid b (earlier ++ p ∷ []) ps) h in
+    let n = 3 + starting_at p.pid.home earlier in
+    let one = both (nat_lt p.pid.home (length b.machines)) ((p.pid.num == n) && (nat_lt p.image (length b.images) && (nat_le (length p.links) (slots_of b.format) && links_are_valid b p.links))) k.0 in
+    let second = both (p.pid.num == n) (nat_lt p.image (length b.images) && (nat_le (length p.links) (slots_of b.format) && links_are_valid b p.links)) one.1 in
+    let three = both (nat_lt p.image (length b.images)) (nat_le (length p.links) (slots_of b.format) && links_are_valid b p.links) second.1 in
+    let home = one.0 in
+    let number = second.0 in
+    let (image, there) = some_of (slice_get b.images p.image) (get_some b.images p.image three.0) in
+    record { home = grind (arith, nat_tests); number = grind (arith, nat_tests); image = image; there = there; rest = k.1 }
+
+abbrev pub one_if : Bool → ℕ
+one_if c = if c then 1 else 0
+
+pub starting-last : (m : ℕ) (ps : List BootProcess) (p : BootProcess) → starting_at m (ps ++ p ∷ []) ≡ starting_at m ps + one_if (p.pid.home == m)
+starting-last m [] p = omega arith
+starting-last m (q ∷ qs) p = let h = starting-last m qs p in omega (arith, h)
+
+-- the number of the process that comes next
+pub number_of : (b : Boot) (earlier : List BootProcess) (p : BootProcess) (ps : List BootProcess) (q : Pid) → Listed b earlier p ps → p.pid ≡ q → q.num ≡ 3 + starting_at q.home earlier
+number_of b earlier p ps q k is = sym (ap (λ (v : Pid). v.num) is) ∙ k.number ∙ ap (λ (v : Pid). 3 + starting_at v.home earlier) is
+
+-- a number below those that are left is none of theirs
+apart_by : (b : Boot) (earlier : List BootProcess) (p : BootProcess) (ps : List BootProcess) (q : Pid) (c : Bool) → pid_eq p.pid q ≡ c → Listed b earlier p ps → q.num < 3 + starting_at q.home earlier → pid_eq p.pid q ≡ false
+apart_by b earlier p ps q false e k low = e
+apart_by b earlier p ps q true e k low = absurd (let n = number_of b earlier p ps q k (pid_eq-is p.pid q e) in omega (arith, low, n))
+
+pub none_below : (b : Boot) (earlier ps : List BootProcess) (q : Pid) → processes_are_valid b earlier ps ≡ true → q.num < 3 + starting_at q.home earlier → process_named q ps ≡ None
+none_below b earlier [] q h low = refl
+none_below b earlier (p ∷ ps) q h low =
+    let k = listed b earlier p ps h in
+    let more = starting-last q.home earlier p in
+    let apart = apart_by b earlier p ps q (pid_eq p.pid q) refl k low in
+    ap (λ (c : Bool). if c then Some p else process_named q ps) apart ∙ none_below b (earlier ++ p ∷ []) ps q k.rest (omega (arith, low, more))
+
+-- the first of a list isn't named again
+pub none_again : (b : Boot) (earlier : List BootProcess) (p : BootProcess) (ps : List BootProcess) (q : Pid) → Listed b earlier p ps → pid_eq p.pid q ≡ true → process_named q ps ≡ None
+none_again b earlier p ps q k same =
+    let is = pid_eq-is p.pid q same in
+    let n = number_of b earlier p ps q k is in
+    let more = starting-last q.home earlier p in
+    let home : p.pid.home ≡ q.home = ap (λ (v : Pid). v.home) is in
+    let one : one_if (p.pid.home == q.home) ≡ 1 = (let e : (p.pid.home == q.home) ≡ true = grind (arith, nat_tests) in ap one_if e) in
+    none_below b (earlier ++ p ∷ []) ps q k.rest (omega (arith, n, more, one))
+
+-- a process that a list names
+pub record Named (b : Boot) (earlier ps : List BootProcess) (q : Pid) (p : BootProcess) : Type 0 where
+  pub is : p.pid ≡ q
+  pub home : q.home < length b.machines
+  pub least : 3 + starting_at q.home earlier ≤ q.num
+  pub most : q.num < 3 + (starting_at q.home earlier + starting_at q.home ps)
+  pub image : BootImage
+  pub there : slice_get b.images p.image ≡ Some image
+
+named_if : (b : Boot) (earlier : List BootProcess) (p : BootProcess) (ps : List BootProcess) (q : Pid) (x : BootProcess) (c : Bool) → pid_eq p.pid q ≡ c → Listed b earlier p ps → (if c then Some p else process_named q ps) ≡ Some x
+    → (process_named q ps ≡ Some x → Named b (earlier ++ p ∷ []) ps q x) → Named b earlier (p ∷ ps) q x
+named_if b earlier p ps q x true e k is rest =
+    let same : p ≡ x = cc in
+    let name = pid_eq-is p.pid q e in
+    let n = number_of b earlier p ps q k name in
+    let home : p.pid.home ≡ q.home = ap (λ (v : Pid). v.home) name in
+    let one : one_if (p.pid.home == q.home) ≡ 1 = (let e : (p.pid.home == q.home) ≡ true = grind (arith, nat_tests) in ap one_if e) in
+    let within = k.home in
+    subst (Named b earlier (p ∷ ps) q) same
+    (record { is = name; home = omega (arith, home, within); least = omega (arith, n); most = omega (arith, n, one); image = k.image; there = k.there })
+named_if b earlier p ps q x false e k is rest =
+    let r = rest is in
+    let more = starting-last q.home earlier p in
+    let least = r.least in
+    let most = r.most in
+    record { is = r.is; home = r.home; least = omega (arith, least, more); most = omega (arith, most, more); image = r.image; there = r.there }
+
+pub named_is : (b : Boot) (earlier ps : List BootProcess) (q : Pid) (x : BootProcess) → processes_are_valid b earlier ps ≡ true → process_named q ps ≡ Some x → Named b earlier ps q x
+named_is b earlier [] q x h is = absurd (let f : None ≡ Some x = is in cc)
+named_is b earlier (p ∷ ps) q x h is =
+    let k = listed b earlier p ps h in
+    named_if b earlier p ps q x (pid_eq p.pid q) refl k is (named_is b (earlier ++ p ∷ []) ps q x k.rest)
+
+-- each number that a home has given is a process's
+past_one : (b : Boot) (earlier : List BootProcess) (p : BootProcess) (ps : List BootProcess) (home n : ℕ) → Listed b earlier p ps → pid_eq p.pid (pid_of home (3 + n)) ≡ false → starting_at home earlier ≤ n → starting_at home (earlier ++ p ∷ []) ≤ n
+past_one b earlier p ps home n k apart least =
+    let more = starting-last home earlier p in
+    let number = k.number in
+    elim (cases_Bool (p.pid.home == home)) [
+      | inl same ↦
+          let e : p.pid.home ≡ home = grind (arith, nat_tests) in
+          let f : p.pid.num ≡ 3 + starting_at home earlier = number ∙ ap (λ h. 3 + starting_at h earlier) e in
+          let one : one_if (p.pid.home == home) ≡ 1 = ap one_if same in
+          let off : p.pid.num ≢ 3 + n = (λ g. false≢true (sym apart ∙ (let t : pid_eq p.pid (pid_of home (3 + n)) ≡ true = grind (arith, nat_tests) in t))) in
+          omega (arith, least, more, f, one, off)
+      | inr other ↦ let zero_ : one_if (p.pid.home == home) ≡ 0 = ap one_if other in omega (arith, least, more, zero_)
+    ]
+
+pub named_all : (b : Boot) (earlier ps : List BootProcess) (home n : ℕ) → processes_are_valid b earlier ps ≡ true → starting_at home earlier ≤ n → n < starting_at home earlier + starting_at home ps → is_some (process_named (pid_of home (3 + n)) ps) ≡ true
+named_all b earlier [] home n h least most = absurd (omega (arith, least, most))
+named_all b earlier (p ∷ ps) home n h least most = elim (cases_Bool (pid_eq p.pid (pid_of home (3 + n)))) [
+  | inl same ↦ ap (λ (c : Bool). is_some (if c then Some p else process_named (pid_of home (3 + n)) ps)) same
+  | inr apart ↦
+      let k = listed b earlier p ps h in
+      let more = starting-last home earlier p in
+      ap (λ (c : Bool). is_some (if c then Some p else process_named (pid_of home (3 + n)) ps)) apart
+      ∙ named_all b (earlier ++ p ∷ []) ps home n k.rest (past_one b earlier p ps home n k apart least) (omega (arith, most, more))
+]

@@ -1,0 +1,207 @@
+-- How much a step of the kernel without machines raises its counts, and which processes there are behind it: what processes say.
+use Rattle.std.proofs.Common.{◌≡◌, ℕ, ◌+◌, ◌≤◌, Bool, true, false, refl, ap, ◌∙◌, sym, subst, is_some, arith, length}
+use Rattle.std.specs.Prelude.{if◌then◌else◌}
+use Rattle.std.specs.declared.option.Option.{Option}
+use Rattle.std.specs.declared.option.Option.TheVariants.{None, Some}
+use Rattle.dm_link.specs.declared.Pid.{Pid}
+use Rattle.dm_link.specs.Names.{pid_eq}
+use Rattle.dm_message.specs.declared.MsgId.{MsgId}
+use Rattle.dm_onekernel.specs.declared.label.Label.TheVariants as label
+use Rattle.dm_onekernel.specs.declared.label.Reply.{Reply}
+use Rattle.dm_onekernel.specs.declared.label.Why.{Why}
+use Rattle.dm_onekernel.specs.Options.{bind}
+use Rattle.dm_onekernel.specs.PlainProcess.{PlainProcess, PlainStatus, Ready, Waiting, Moving}
+use Rattle.dm_onekernel.specs.Kernel.{Life, Alive, Ended, Switchboard, Manager, OneKernel, with_process, with_sent}
+use Rattle.dm_onekernel.specs.Calls as calls
+use Rattle.dm_onekernel.specs.Receiving as receiving
+use Rattle.dm_onekernel.specs.Service.{without_message}
+use Rattle.dm_onekernel.specs.Step as step
+use Rattle.dm_laws.proofs.Equal.{pid_eq-is}
+use Rattle.dm_laws.proofs.Steps.{bind-is, when-is, Nexts, nexts, alive-is, Completing, completing}
+
+-- how many messages a process has sent
+abbrev pub sent_of : Option Life → ℕ
+sent_of None = 0
+sent_of (Some (Alive x)) = x.sent
+sent_of (Some (Ended y)) = 0
+
+-- no count is raised by more than k
+pub record Within (k : ℕ) (s t : OneKernel) : Type 0 where
+  pub sent : (p : Pid) → sent_of (t.processes p) ≤ sent_of (s.processes p) + k
+  pub board : t.switchboard.sent ≤ s.switchboard.sent + k
+  pub manager : t.manager.sent ≤ s.manager.sent + k
+  pub children : length t.manager.children ≤ length s.manager.children + k
+  pub made : (h : ℕ) → t.made h ≤ s.made h + k
+  pub names : length t.switchboard.names ≤ length s.switchboard.names + k
+
+-- nobody was made
+pub record Stays (s t : OneKernel) : Type 0 where
+  pub machines : t.machines ≡ s.machines
+  pub made : (h : ℕ) → t.made h ≡ s.made h
+  pub lives : (p : Pid) → is_some (t.processes p) ≡ is_some (s.processes p)
+
+pub record Raises (k : ℕ) (s t : OneKernel) : Type 0 where
+  pub within : Within k s t
+  pub stays : Stays s t
+
+-- nothing but the bag changes
+pub bag_raises : (s t : OneKernel) → ((p : Pid) → t.processes p ≡ s.processes p) → ((h : ℕ) → t.made h ≡ s.made h) → t.switchboard ≡ s.switchboard → t.manager ≡ s.manager → t.machines ≡ s.machines → Raises 0 s t
+bag_raises s t processes made board manager machines =
+    let board_ = ap (λ (v : Switchboard). v.sent) board in
+    let names_ = ap (λ (v : Switchboard). length v.names) board in
+    let manager_ = ap (λ (v : Manager). v.sent) manager in
+    let children = ap (λ (v : Manager). length v.children) manager in
+    record {
+      within = record {
+        sent = λ p. let e = ap sent_of (processes p) in omega (arith, e);
+        board = omega (arith, board_);
+        names = omega (arith, names_);
+        manager = omega (arith, manager_);
+        children = omega (arith, children);
+        made = λ h. let e = made h in omega (arith, e);
+      };
+      stays = record { machines = machines; made = made; lives = λ p. ap is_some (processes p) };
+    }
+
+-- a process is set
+set_sent : (s : OneKernel) (p q : Pid) (life : Life) (k : ℕ) (c : Bool) → pid_eq p q ≡ c → sent_of (Some life) ≤ sent_of (s.processes p) + k → sent_of (if c then Some life else s.processes q) ≤ sent_of (s.processes q) + k
+set_sent s p q life k true e le = subst (λ (v : Pid). sent_of (Some life) ≤ sent_of (s.processes v) + k) (pid_eq-is p q e) le
+set_sent s p q life k false e le = omega arith
+
+set_lives : (s : OneKernel) (p q : Pid) (life : Life) (c : Bool) → pid_eq p q ≡ c → is_some (s.processes p) ≡ true → is_some (if c then Some life else s.processes q) ≡ is_some (s.processes q)
+set_lives s p q life true e there = sym (ap (λ (v : Pid). is_some (s.processes v)) (sym (pid_eq-is p q e)) ∙ there)
+set_lives s p q life false e there = refl
+
+pub set_raises : (s t : OneKernel) (p : Pid) (x : PlainProcess) (life : Life) (k : ℕ) → s.processes p ≡ Some (Alive x) → sent_of (Some life) ≤ x.sent + k → ((q : Pid) → t.processes q ≡ (with_process s p life).processes q) → ((h : ℕ) → t.made h ≡ s.made h)
+    → t.switchboard ≡ s.switchboard → t.manager ≡ s.manager → t.machines ≡ s.machines → Raises k s t
+set_raises s t p x life k is le processes made board manager machines =
+    let board_ = ap (λ (v : Switchboard). v.sent) board in
+    let names_ = ap (λ (v : Switchboard). length v.names) board in
+    let manager_ = ap (λ (v : Manager). v.sent) manager in
+    let children = ap (λ (v : Manager). length v.children) manager in
+    let mine : sent_of (s.processes p) ≡ x.sent = ap sent_of is in
+    let less : sent_of (Some life) ≤ sent_of (s.processes p) + k = omega (arith, mine, le) in
+    record {
+      within = record {
+        sent = λ q. let e = ap sent_of (processes q) in let f = set_sent s p q life k (pid_eq p q) refl less in omega (arith, e, f);
+        board = omega (arith, board_);
+        names = omega (arith, names_);
+        manager = omega (arith, manager_);
+        children = omega (arith, children);
+        made = λ h. let e = made h in omega (arith, e);
+      };
+      stays = record { machines = machines; made = made; lives = λ q. ap is_some (processes q) ∙ set_lives s p q life (pid_eq p q) refl (ap is_some is) };
+    }
+
+goes_raises : (s t : OneKernel) (p : Pid) (x y : PlainProcess) → step.goes_on s p y ≡ t → s.processes p ≡ Some (Alive x) → y.sent ≡ x.sent → Raises 0 s t
+goes_raises s t p x y e is sent = subst (Raises 0 s) e (set_raises s (step.goes_on s p y) p x (Alive y) 0 is (omega (arith, sent)) (λ q. refl) (λ h. refl) refl refl refl)
+
+-- the rows of processes
+stopped_is : (y : PlainProcess) (c : Bool) (x : PlainProcess) → (if c then None else Some y) ≡ Some x → y ≡ x
+stopped_is y true x e = cc
+stopped_is y false x e = cc
+
+ready_is : (y : PlainProcess) (st : PlainStatus) (x : PlainProcess) → step.if_ready y st ≡ Some x → y ≡ x
+ready_is y Ready x e = stopped_is y y.stopped x e
+ready_is y (Waiting mask base size) x e = cc
+ready_is y (Moving dir owner base own left pending) x e = cc
+
+runs_alive : (s : OneKernel) (p : Pid) (x : PlainProcess) → step.running s p ≡ Some x → s.processes p ≡ Some (Alive x)
+runs_alive s p x e =
+    let (y, is, ready) = bind-is (step.alive (s.processes p)) (λ v. step.if_ready v v.status) x e in
+    alive-is (s.processes p) x (is ∙ ap Some (ready_is y y.status x ready))
+
+pub ran_raises : (s t : OneKernel) (p : Pid) (k : ℕ) → step.step s (label.Ran p k) ≡ Some t → Raises 0 s t
+ran_raises s t p k is =
+    let (x, running, rest) = bind-is (step.running s p) (λ v. bind (step.plain_steps k (step.machine_of v)) (λ m. Some (step.goes_on s p (step.with_machine v m)))) t is in
+    let (m, plain, last) = bind-is (step.plain_steps k (step.machine_of x)) (λ m. Some (step.goes_on s p (step.with_machine x m))) t rest in
+    goes_raises s t p x (step.with_machine x m) (let e : step.goes_on s p (step.with_machine x m) ≡ t = cc in e) (runs_alive s p x running) refl
+
+replies_raise : (s t : OneKernel) (p : Pid) (n : ℕ) (c : Reply) (next : step.Next) → Nexts s p next → step.replies s p n c next ≡ Some t → Raises 0 s t
+replies_raise s t p n c (step.Calls number (calls.Replies reply y)) w is =
+    let (z, sent, pending, counted) = w.counts in
+    let k = when-is _ (step.goes_on s p y) t is in
+    goes_raises s t p w.x y k.1 w.is.alive (counted.0 ∙ sent)
+replies_raise s t p n c (step.Calls number (calls.Sends m y)) w is = cc
+replies_raise s t p n c (step.Calls number (calls.Waits y)) w is = cc
+replies_raise s t p n c (step.Calls number (calls.Outputs word y)) w is = cc
+replies_raise s t p n c (step.Calls number (calls.Ends because)) w is = cc
+replies_raise s t p n c (step.Faults fault) w is = cc
+
+sends_raise : (s t : OneKernel) (p : Pid) (id : MsgId) (next : step.Next) → Nexts s p next → step.sends s p id next ≡ Some t → Raises 1 s t
+sends_raise s t p id (step.Calls number (calls.Sends m y)) w is =
+    let (z, sent, pending, counted) = w.counts in
+    let k = when-is _ (with_sent (step.goes_on s p y) (Some m)) t is in
+    let count = counted.count in
+    subst (Raises 1 s) k.1 (set_raises s (with_sent (step.goes_on s p y) (Some m)) p w.x (Alive y) 1 w.is.alive (omega (arith, count, sent)) (λ q. refl) (λ h. refl) refl refl refl)
+sends_raise s t p id (step.Calls number (calls.Replies reply y)) w is = cc
+sends_raise s t p id (step.Calls number (calls.Waits y)) w is = cc
+sends_raise s t p id (step.Calls number (calls.Outputs word y)) w is = cc
+sends_raise s t p id (step.Calls number (calls.Ends because)) w is = cc
+sends_raise s t p id (step.Faults fault) w is = cc
+
+waits_raise : (s t : OneKernel) (p : Pid) (next : step.Next) → Nexts s p next → step.waits s p next ≡ Some t → Raises 0 s t
+waits_raise s t p (step.Calls number (calls.Waits y)) w is =
+    let (z, sent, pending, counted) = w.counts in
+    goes_raises s t p w.x y (let e : step.goes_on s p y ≡ t = cc in e) w.is.alive (counted.0 ∙ sent)
+waits_raise s t p (step.Calls number (calls.Replies reply y)) w is = cc
+waits_raise s t p (step.Calls number (calls.Sends m y)) w is = cc
+waits_raise s t p (step.Calls number (calls.Outputs word y)) w is = cc
+waits_raise s t p (step.Calls number (calls.Ends because)) w is = cc
+waits_raise s t p (step.Faults fault) w is = cc
+
+outputs_raise : (s t : OneKernel) (p : Pid) (word : ℕ) (next : step.Next) → Nexts s p next → step.outputs s p word next ≡ Some t → Raises 0 s t
+outputs_raise s t p word (step.Calls number (calls.Outputs put y)) w is =
+    let (z, sent, pending, counted) = w.counts in
+    let k = when-is _ (step.goes_on s p y) t is in
+    goes_raises s t p w.x y k.1 w.is.alive (counted.0 ∙ sent)
+outputs_raise s t p word (step.Calls number (calls.Replies reply y)) w is = cc
+outputs_raise s t p word (step.Calls number (calls.Sends m y)) w is = cc
+outputs_raise s t p word (step.Calls number (calls.Waits y)) w is = cc
+outputs_raise s t p word (step.Calls number (calls.Ends because)) w is = cc
+outputs_raise s t p word (step.Faults fault) w is = cc
+
+pub end_raises_of : (s t : OneKernel) (p : Pid) (x : PlainProcess) (y : Why) → with_process s p (Ended y) ≡ t → s.processes p ≡ Some (Alive x) → Raises 0 s t
+end_raises_of s t p x y e is = subst (Raises 0 s) e (set_raises s (with_process s p (Ended y)) p x (Ended y) 0 is (omega arith) (λ q. refl) (λ h. refl) refl refl refl)
+
+ends_raise : (s t : OneKernel) (p : Pid) (y : Why) (next : step.Next) → Nexts s p next → step.ends s p y next ≡ Some t → Raises 0 s t
+ends_raise s t p y (step.Calls number (calls.Ends because)) w is = let k = when-is _ (with_process s p (Ended y)) t is in end_raises_of s t p w.x y k.1 w.is.alive
+ends_raise s t p y (step.Faults fault) w is = let k = when-is _ (with_process s p (Ended y)) t is in end_raises_of s t p w.x y k.1 w.is.alive
+ends_raise s t p y (step.Calls number (calls.Replies reply z)) w is = cc
+ends_raise s t p y (step.Calls number (calls.Sends m z)) w is = cc
+ends_raise s t p y (step.Calls number (calls.Waits z)) w is = cc
+ends_raise s t p y (step.Calls number (calls.Outputs word z)) w is = cc
+
+pub call_raises : (s t : OneKernel) (p : Pid) (n : ℕ) (c : Reply) → step.step s (label.Call p n c) ≡ Some t → Raises 0 s t
+call_raises s t p n c is = let (x, next, rest) = bind-is (step.next s p) (step.replies s p n c) t is in replies_raise s t p n c x (nexts s p x next) rest
+
+pub send_raises : (s t : OneKernel) (p : Pid) (id : MsgId) → step.step s (label.Send p id) ≡ Some t → Raises 1 s t
+send_raises s t p id is = let (x, next, rest) = bind-is (step.next s p) (step.sends s p id) t is in sends_raise s t p id x (nexts s p x next) rest
+
+pub wait_raises : (s t : OneKernel) (p : Pid) → step.step s (label.Wait p) ≡ Some t → Raises 0 s t
+wait_raises s t p is = let (x, next, rest) = bind-is (step.next s p) (step.waits s p) t is in waits_raise s t p x (nexts s p x next) rest
+
+pub out_raises : (s t : OneKernel) (p : Pid) (w : ℕ) → step.step s (label.Out p w) ≡ Some t → Raises 0 s t
+out_raises s t p w is = let (x, next, rest) = bind-is (step.next s p) (step.outputs s p w) t is in outputs_raise s t p w x (nexts s p x next) rest
+
+pub end_raises : (s t : OneKernel) (p : Pid) (y : Why) → step.step s (label.End p y) ≡ Some t → Raises 0 s t
+end_raises s t p y is = let (x, next, rest) = bind-is (step.next s p) (step.ends s p y) t is in ends_raise s t p y x (nexts s p x next) rest
+
+-- a receive that ends
+receives_raise : (s t : OneKernel) (p : Pid) (id : MsgId) (c : receiving.Completed) → Completing s p id c → step.receives s p id c ≡ Some t → Raises 0 s t
+receives_raise s t p id (receiving.Receives y) w is =
+    let v = step.goes_on (without_message s id) p y in
+    let sent = w.is.0 in
+    let e : v ≡ t = cc in
+    subst (Raises 0 s) e (set_raises s v p w.x (Alive y) 0 w.alive (omega (arith, sent)) (λ q. refl) (λ h. refl) refl refl refl)
+receives_raise s t p id (receiving.Refuses reply y) w is = cc
+
+refuses_raise : (s t : OneKernel) (p : Pid) (id : MsgId) (reply : Reply) (c : receiving.Completed) → Completing s p id c → step.refuses s p reply c ≡ Some t → Raises 0 s t
+refuses_raise s t p id reply (receiving.Receives y) w is = cc
+refuses_raise s t p id reply (receiving.Refuses d y) w is = let k = when-is _ (step.goes_on s p y) t is in goes_raises s t p w.x y k.1 w.alive w.is.0
+
+pub receive_raises : (s t : OneKernel) (p : Pid) (id : MsgId) → step.step s (label.Receive p id) ≡ Some t → Raises 0 s t
+receive_raises s t p id is = let (x, c, rest) = bind-is (step.completing s p id) (step.receives s p id) t is in receives_raise s t p id x (completing s p id x c) rest
+
+pub refuse_raises : (s t : OneKernel) (p : Pid) (id : MsgId) (d : Reply) → step.step s (label.Refuse p id d) ≡ Some t → Raises 0 s t
+refuse_raises s t p id d is = let (x, c, rest) = bind-is (step.completing s p id) (step.refuses s p d) t is in refuses_raise s t p id d x (completing s p id x c) rest

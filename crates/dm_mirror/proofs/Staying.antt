@@ -1,0 +1,7 @@
+-- A turn leaves a kernel on its machine.
+use Rattle.std.proofs.Common.{subst}
+use Rattle.dm_node.proofs.Here.{StaysAt, turn_stays}
+use Rattle.dm_mirror.proofs.Local.{KernelStays}
+
+pub kernel_stays : KernelStays
+kernel_stays b k t e = subst (StaysAt k.here) e (turn_stays b k)

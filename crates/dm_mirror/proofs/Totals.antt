@@ -1,0 +1,244 @@
+-- How many messages were routed, pair by pair and in all: no line takes any away, and a route adds one.
+use Rattle.std.proofs.Common.{◌≡◌, inl, inr, ℕ, zero, suc, ◌+◌, ◌*◌, ◌<◌, ◌≤◌, ◌==◌, ◌&&◌, Bool, true, false, not, filter, List, [], ◌∷◌, ◌++◌, length, refl, ap, ◌∙◌, subst, arith}
+use Rattle.std.specs.Prelude.{if◌then◌else◌}
+use Rattle.std.specs.declared.option.Option.{Option}
+use Rattle.std.specs.declared.option.Option.TheVariants.{None, Some}
+use Rattle.std.proofs.lemmas.Bool.{cases_Bool}
+use Rattle.std.proofs.lemmas.Bool.Decides.{nat_tests}
+use Rattle.dm_link.specs.declared.Pid.{Pid}
+use Rattle.dm_message.specs.declared.MsgId.{MsgId}
+use Rattle.dm_message.specs.declared.kind.MessageKind.{MessageKind}
+use Rattle.dm_message.specs.declared.kind.MessageKind.TheVariants as kind
+use Rattle.dm_onekernel.specs.declared.label.Label.{Label}
+use Rattle.dm_onekernel.specs.declared.label.Label.TheVariants as label
+use Rattle.dm_schedule.specs.declared.Step.{Step}
+use Rattle.dm_schedule.specs.declared.Step.TheVariants as step
+use Rattle.dm_rule.specs.declared.line.Line.{Line}
+use Rattle.dm_rule.specs.declared.line.Line.TheVariants as line
+use Rattle.dm_rule.specs.declared.line.Stage.{Stage}
+use Rattle.dm_rule.specs.declared.line.Stage.TheVariants as stage
+use Rattle.dm_rule.specs.Sets.{at_pair}
+use Rattle.dm_rule.specs.View.{View, About, Pair, Told, view_after, handled}
+use Rattle.dm_rule.specs.View as view
+use Rattle.dm_rule.proofs.Turns.{served_keeps}
+
+-- how many messages were routed from a to c
+abbrev pub ids_of : View → ℕ → ℕ → ℕ
+ids_of v a c = length (v.pair a c).ids
+
+pub record Grows (v w : View) : Type 0 where
+  pub ids : (a c : ℕ) → ids_of v a c ≤ ids_of w a c
+
+pub grows_same : (v w : View) → w.pair ≡ v.pair → Grows v w
+grows_same v w e = record { ids = λ a c. let f : ids_of w a c ≡ ids_of v a c = ap (λ (p : ℕ → ℕ → Pair). length (p a c).ids) e in omega (arith, f) }
+
+pub grows_on : (u v w : View) → Grows u v → Grows v w → Grows u w
+grows_on u v w h k = record { ids = λ a c. omega (arith, h.ids a c, k.ids a c) }
+
+-- one pair is set
+eq_is : (m n : ℕ) → (m == n) ≡ true → m ≡ n
+eq_is m n e = grind (arith, nat_tests)
+
+parts : (c d : Bool) → (c && d) ≡ true → (c ≡ true) × (d ≡ true)
+parts true d e = (refl, e)
+parts false d e = cc
+
+pair_grows : (f : ℕ → ℕ → Pair) (a b : ℕ) (p : Pair) → length (f a b).ids ≤ length p.ids → (c d : ℕ) → length (f c d).ids ≤ length (at_pair f a b p c d).ids
+pair_grows f a b p le c d = elim (cases_Bool ((a == c) && (b == d))) [
+  | inl same ↦
+      let k = parts (a == c) (b == d) same in
+      let here : length (at_pair f a b p c d).ids ≡ length p.ids = ap (λ (t : Bool). length (if t then p else f c d).ids) same in
+      let was : length (f a b).ids ≡ length (f c d).ids = ap (λ x. length (f x b).ids) (eq_is a c k.0) ∙ ap (λ x. length (f c x).ids) (eq_is b d k.1) in
+      omega (arith, here, was, le)
+  | inr apart ↦
+      let off : length (at_pair f a b p c d).ids ≡ length (f c d).ids = ap (λ (t : Bool). length (if t then p else f c d).ids) apart in
+      omega (arith, off)
+]
+
+set_grows : (v w : View) (a b : ℕ) (p : Pair) → w.pair ≡ at_pair v.pair a b p → length (v.pair a b).ids ≤ length p.ids → Grows v w
+set_grows v w a b p e le = record {
+  ids = λ c d.
+      let f : ids_of w c d ≡ length (at_pair v.pair a b p c d).ids = ap (λ (q : ℕ → ℕ → Pair). length (q c d).ids) e in
+      let g = pair_grows v.pair a b p le c d in
+      omega (arith, f, g);
+}
+
+-- a row a line
+dropped_pair : (v : View) (i : MsgId) (o : Option Pid) → (view.dropped_for v i o).pair ≡ v.pair
+dropped_pair v i None = refl
+dropped_pair v i (Some p) = refl
+
+queued_pair : (v : View) (i : MsgId) (o : Option Pid) → (view.queued_for v i o).pair ≡ v.pair
+queued_pair v i None = refl
+queued_pair v i (Some p) = refl
+
+held_pair : (v : View) (i : MsgId) (o : Option Pid) → (view.held_for v i o).pair ≡ v.pair
+held_pair v i None = refl
+held_pair v i (Some p) = refl
+
+forwarded_pair : (v : View) (o : Option Pid) → (view.forwarded_for v o).pair ≡ v.pair
+forwarded_pair v None = refl
+forwarded_pair v (Some p) = refl
+
+taken_pair : (v : View) (b : ℕ) (o : Option MsgId) → (view.taken_id v b o).pair ≡ v.pair
+taken_pair v b None = refl
+taken_pair v b (Some i) = refl
+
+label_pair : (v : View) (l : Label) → (view.after_label v l).pair ≡ v.pair
+label_pair v (label.Ran p k) = refl
+label_pair v (label.Call p n c) = refl
+label_pair v (label.Send p i) = refl
+label_pair v (label.Wait p) = refl
+label_pair v (label.Out p w) = refl
+label_pair v (label.End p y) = refl
+label_pair v (label.Receive p i) = refl
+label_pair v (label.Refuse p i c) = refl
+label_pair v (label.Dropped i) = dropped_pair (handled v i) i (view.receiver_of (v.told i))
+label_pair v (label.Served i) = (served_keeps (handled v i) (v.told i)).2
+label_pair v (label.Gone i) = refl
+label_pair v (label.Took i) = refl
+label_pair v (label.Created i p) = refl
+label_pair v (label.NoSpace i s b) = refl
+
+head_grows : (v : View) (d : Step) → Grows v (view.after_head v d)
+head_grows v (step.Turn m) = grows_same v (view.after_head v (step.Turn m)) refl
+head_grows v (step.Tick m) = grows_same v (view.after_head v (step.Tick m)) refl
+head_grows v (step.Migrate p m) = grows_same v (view.after_head v (step.Migrate p m)) refl
+head_grows v (step.Deliver a c k) = set_grows v (view.after_head v (step.Deliver a c k)) a c (view.marked (v.pair a c) k) refl (omega arith)
+
+stage_pair : (v : View) (p : Pid) (s : Stage) → (view.after_stage v p s).pair ≡ v.pair
+stage_pair v p stage.Frozen = refl
+stage_pair v p stage.Asked = refl
+stage_pair v p stage.Accepted = refl
+stage_pair v p stage.StateTaken = refl
+stage_pair v p stage.MemoryTaken = refl
+stage_pair v p stage.Left = refl
+stage_pair v p stage.Restarted = refl
+
+append-longer : {A : Type 0} (xs : List A) (y : A) → length (xs ++ y ∷ []) ≡ length xs + 1
+append-longer [] y = refl
+append-longer (x ∷ xs) y = omega (arith, append-longer xs y)
+
+asks_pair : (v : View) (a : About) → (view.asks_on v a).pair ≡ v.pair
+asks_pair v view.NothingElse = refl
+asks_pair v (view.Target m) = refl
+asks_pair v (view.Of p) = refl
+asks_pair v (view.Place p at_ moves) = refl
+
+follows_pair : (v : View) (a : About) (k : MessageKind) → (view.follows_up v a k).pair ≡ v.pair
+follows_pair v a kind.State = asks_pair v a
+follows_pair v a kind.Memory = asks_pair v a
+follows_pair v a kind.PullState = refl
+follows_pair v a kind.PullBlock = refl
+follows_pair v a kind.User = refl
+follows_pair v a kind.Stop = refl
+follows_pair v a kind.Resume = refl
+follows_pair v a kind.Kill = refl
+follows_pair v a kind.Read = refl
+follows_pair v a kind.Write = refl
+follows_pair v a kind.Block = refl
+follows_pair v a kind.Written = refl
+follows_pair v a kind.Gone = refl
+follows_pair v a kind.Create = refl
+follows_pair v a kind.Created = refl
+follows_pair v a kind.NoRoom = refl
+follows_pair v a kind.Migrate = refl
+follows_pair v a kind.Update = refl
+follows_pair v a kind.Ask = refl
+follows_pair v a kind.Refuse = refl
+follows_pair v a kind.AllTaken = refl
+follows_pair v a kind.Restart = refl
+follows_pair v a kind.Move = refl
+follows_pair v a kind.Moved = refl
+follows_pair v a kind.CallOff = refl
+follows_pair v a kind.Bury = refl
+
+proto_pair : (v : View) (o : Option Told) → (view.after_proto v o).pair ≡ v.pair
+proto_pair v None = refl
+proto_pair v (Some t) = follows_pair v t.about t.kind
+
+pub line_grows : (v : View) (l : Line) → Grows v (view_after v l)
+line_grows v (line.Head d) = head_grows v d
+line_grows v (line.Idle m) = grows_same v v refl
+line_grows v (line.Label l) = grows_same v (view.after_label v l) (label_pair v l)
+line_grows v (line.Put a b i k q) = set_grows v (view.after_put v a b i k q) a b (view.routed_on a b (v.pair a b) i) refl (let e = append-longer (v.pair a b).ids i in omega (arith, e))
+line_grows v (line.Packet a b k l) = set_grows v (view.after_packet v a b l) a b (record (v.pair a b) { gone = view.gone_after l (v.pair a b).gone; wire = (v.pair a b).wire ++ record { load = l; delivered = false } ∷ [] }) refl (omega arith)
+line_grows v (line.Taken a b n) =
+    let p : Pair = record (v.pair a b) { taken = (v.pair a b).taken + 1; kept = filter (λ k. not (k == n)) (v.pair a b).kept } in
+    set_grows v (view.after_taken v a b n) a b p (taken_pair (view.with_pair v a b p) b (view.oldest (v.pair a b))) (omega arith)
+line_grows v (line.Old a b n) = grows_same v v refl
+line_grows v (line.Early a b n) = set_grows v (view.after_early v a b n) a b (record (v.pair a b) { kept = n ∷ filter (λ k. not (k == n)) (v.pair a b).kept }) refl (omega arith)
+line_grows v (line.Acked a b n) = set_grows v (view.after_acked v a b n) b a (record (v.pair b a) { acked = view.at_least (v.pair b a).acked n }) refl (omega arith)
+line_grows v line.Nothing = grows_same v v refl
+line_grows v (line.Resent m n) = grows_same v v refl
+line_grows v (line.Queued i) = grows_same v (view_after v (line.Queued i)) (queued_pair (handled v i) i (view.receiver_of (v.told i)))
+line_grows v (line.Held i) = grows_same v (view_after v (line.Held i)) (held_pair (handled v i) i (view.receiver_of (v.told i)))
+line_grows v (line.Forwarded i m) = grows_same v (view_after v (line.Forwarded i m)) (forwarded_pair (handled v i) (view.receiver_of (v.told i)))
+line_grows v (line.Updated i n) = grows_same v (handled v i) refl
+line_grows v (line.Migration s p) = grows_same v (view.after_stage v p s) (stage_pair v p s)
+line_grows v (line.SentOn p n) = grows_same v (view_after v (line.SentOn p n)) refl
+line_grows v (line.Lacks p s b) = grows_same v (view_after v (line.Lacks p s b)) refl
+line_grows v (line.Stays p) = grows_same v (view_after v (line.Stays p)) refl
+line_grows v (line.Here i) = grows_same v (handled v i) refl
+line_grows v (line.NoMove i) = grows_same v (handled v i) refl
+line_grows v (line.Proto i) = grows_same v (view_after v (line.Proto i)) (proto_pair (handled v i) (v.told i))
+line_grows v (line.NoChild p) = grows_same v v refl
+line_grows v (line.Pinned p) = grows_same v v refl
+line_grows v (line.End z) = grows_same v v refl
+
+-- a route adds one
+pub put_adds : (v : View) (a b : ℕ) (i : MsgId) (k : MessageKind) (q : Pid) → ids_of (view.after_put v a b i k q) a b ≡ ids_of v a b + 1
+put_adds v a b i k q =
+    let here : ((a == a) && (b == b)) ≡ true = grind (arith, nat_tests) in
+    ap (λ (t : Bool). length (if t then view.routed_on a b (v.pair a b) i else v.pair a b).ids) here ∙ append-longer (v.pair a b).ids i
+
+-- sums over the first so many
+abbrev pub sum_to : ℕ → (ℕ → ℕ) → ℕ
+sum_to zero f = 0
+sum_to (suc n) f = sum_to n f + f n
+
+sum_less : (n : ℕ) (f g : ℕ → ℕ) → ((i : ℕ) → f i ≤ g i) → sum_to n f ≤ sum_to n g
+sum_less zero f g le = omega arith
+sum_less (suc n) f g le = let h = sum_less n f g le in let k = le n in omega (arith, h, k)
+
+pub sum_more : (n : ℕ) (f g : ℕ → ℕ) (j : ℕ) → ((i : ℕ) → f i ≤ g i) → j < n → f j + 1 ≤ g j → sum_to n f + 1 ≤ sum_to n g
+sum_more zero f g j le within more = absurd (omega (arith, within))
+sum_more (suc n) f g j le within more = elim (cases_Bool (j == n)) [
+  | inl same ↦
+      let here : f n + 1 ≤ g n = subst (λ m. f m + 1 ≤ g m) (eq_is j n same) more in
+      let h = sum_less n f g le in
+      omega (arith, h, here)
+  | inr apart ↦
+      let h = sum_more n f g j le (grind (arith, nat_tests)) more in
+      let k = le n in
+      omega (arith, h, k)
+]
+
+sum_most : (n : ℕ) (f : ℕ → ℕ) → n ≤ 16 → ((i : ℕ) → f i ≤ 16777216) → sum_to n f ≤ n * 16777216
+sum_most zero f few le = omega arith
+sum_most (suc n) f few le = let h = sum_most n f (omega (arith, few)) le in let k = le n in omega (arith, h, k)
+
+sum_few : (n : ℕ) (f : ℕ → ℕ) → n ≤ 16 → ((i : ℕ) → f i ≤ 1048576) → sum_to n f ≤ n * 1048576
+sum_few zero f few le = omega arith
+sum_few (suc n) f few le = let h = sum_few n f (omega (arith, few)) le in let k = le n in omega (arith, h, k)
+
+-- all that was routed between the first n machines
+abbrev from_one : View → ℕ → ℕ → ℕ
+from_one v n a = sum_to n (ids_of v a)
+
+abbrev pub total : View → ℕ → ℕ
+total v n = sum_to n (from_one v n)
+
+pub total_grows : (v w : View) (n : ℕ) → Grows v w → total v n ≤ total w n
+total_grows v w n h = sum_less n (from_one v n) (from_one w n) (λ a. sum_less n (ids_of v a) (ids_of w a) (λ c. h.ids a c))
+
+pub total_adds : (v w : View) (n a c : ℕ) → Grows v w → a < n → c < n → ids_of v a c + 1 ≤ ids_of w a c → total v n + 1 ≤ total w n
+total_adds v w n a c h within_a within_c more =
+    sum_more n (from_one v n) (from_one w n) a (λ b. sum_less n (ids_of v b) (ids_of w b) (λ d. h.ids b d)) within_a
+    (sum_more n (ids_of v a) (ids_of w a) c (λ d. h.ids a d) within_c more)
+
+-- 16 machines, and at most 2^20 messages a pair
+pub total_most : (v : View) (n : ℕ) → n ≤ 16 → ((a c : ℕ) → ids_of v a c ≤ 1048576) → total v n ≤ 268435456
+total_most v n few le =
+    let h = sum_most n (from_one v n) few (λ a. let k = sum_few n (ids_of v a) few (le a) in omega (arith, k, few)) in
+    omega (arith, h, few)
