@@ -58,6 +58,8 @@ pub mod FollowQuiet
 pub mod FollowUpdates
 pub mod FollowAsks
 pub mod FollowTurns
+pub mod Heard
+pub mod TurnAll
 pub mod DeliverEnds
 pub mod DeliverKept
 pub mod DeliverEvents
