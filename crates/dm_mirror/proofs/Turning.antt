@@ -1,5 +1,5 @@
 -- What a turn says before the messages that it sends are routed.
-use Rattle.std.proofs.Common.{◌≡◌, ◌≢◌, ℕ, ◌+◌, ◌≤◌, Bool, true, false, not, ◌==◌, ◌&&◌, List, [], ◌∷◌, ◌++◌, map, is_some}
+use Rattle.std.proofs.Common.{◌≡◌, ◌≢◌, refl, arith, ℕ, ◌+◌, ◌≤◌, Bool, true, false, not, ◌==◌, ◌&&◌, List, [], ◌∷◌, ◌++◌, map, is_some}
 use Rattle.std.specs.Prelude.{⊤}
 use Rattle.std.specs.declared.option.Option.{Option}
 use Rattle.std.specs.declared.option.Option.TheVariants.{None, Some}
@@ -159,6 +159,11 @@ is_own (Own x) = 1
 abbrev pub owns : List Route → ℕ
 owns [] = 0
 owns (r ∷ rs) = is_own r + owns rs
+
+-- messages that go on are not
+pub none_owned : (xs : List Message) → owns (map On xs) ≡ 0
+none_owned [] = refl
+none_owned (x ∷ xs) = let e : owns (map On xs) ≡ 0 = none_owned xs in omega (arith, e)
 
 abbrev pub late_owns : Late → ℕ
 late_owns Nothing = 0

@@ -1,2 +1,3 @@
-//! What all machines have is what the printed lines say.
+//! The machines and their wires stand for what was printed, and every run of them is good.
 #![tactic(auto)]
+

@@ -1,0 +1,140 @@
+-- What the laws rest on.
+use Rattle.std.proofs.Common.{◌≡◌, ◌≢◌, ℕ, ◌<◌, ◌≤◌, Bool, true, List, length, map, refl, ap, ◌∙◌, sym, subst, inl, nat_le, arith}
+use Rattle.std.specs.Prelude.{option_map}
+use Rattle.std.specs.declared.option.Option.{Option}
+use Rattle.std.specs.declared.option.Option.TheVariants.{None, Some}
+use Rattle.std.proofs.lemmas.Bool.Decides.{nat_tests}
+use Rattle.std.proofs.lemmas.List.{length-map}
+use Rattle.dm_link.specs.declared.Pid.{Pid}
+use Rattle.dm_link.specs.declared.Link.{Link}
+use Rattle.dm_link.specs.Lawful.{IsMachine}
+use Rattle.dm_link.specs.Plain.{plain_link}
+use Rattle.dm_process.specs.declared.process.Process.{Process}
+use Rattle.dm_onekernel.specs.declared.boot.Boot.{Boot}
+use Rattle.dm_onekernel.specs.Boot.{IsValid, slots_of}
+use Rattle.dm_onekernel.specs.Kernel.{Life, Alive, Ended, OneKernel}
+use Rattle.dm_onekernel.specs.Plain.{plain_process}
+use Rattle.dm_onekernel.specs.PlainProcess.{PlainProcess}
+use Rattle.dm_onekernel.specs.Step as kernel
+use Rattle.dm_schedule.specs.declared.Step.{Step}
+use Rattle.dm_schedule.specs.declared.Step.TheVariants as step
+use Rattle.dm_kernel.specs.State.{KernelState}
+use Rattle.dm_rule.specs.Laws.{Leads}
+use Rattle.dm_rule.specs.Point.{Point, first_point}
+use Rattle.dm_rulelaws.proofs.RunsAlways.{run_always, run_group}
+use Rattle.dm_placed.specs.Placed.{Placed, Mirrors}
+use Rattle.dm_world.specs.May.{MayStep}
+use Rattle.dm_world.specs.Whole.{AreWhole}
+use Rattle.dm_world.specs.World.{WorldState}
+use Rattle.dm_mirror.specs.Able.{AllMayAct}
+use Rattle.dm_mirror.specs.Laws.{EndIsSaid, EndMay, RunGoesOn, StepsStand}
+use Rattle.dm_mirror.specs.Run.{Steps}
+use Rattle.dm_mirror.specs.Stands.{CountsStand, History, KernelStands, Stands, StandsWith}
+use Rattle.dm_mirror.specs.Tokens.{AllRecords}
+use Rattle.dm_mirror.proofs.ComeAll.{Around}
+use Rattle.dm_mirror.proofs.Deliver.{OthersLawful, deliver_goes, may_deliver}
+use Rattle.dm_mirror.proofs.DeliverReadable.{reads_as}
+use Rattle.dm_mirror.proofs.EndMay.{FewAlways, end_may_by}
+use Rattle.dm_mirror.proofs.Ending.{end_is_said_by}
+use Rattle.dm_mirror.proofs.FollowAsks.{asks_turn}
+use Rattle.dm_mirror.proofs.Going.{run_goes_on_by}
+use Rattle.dm_mirror.proofs.Machines.{machines_are}
+use Rattle.dm_mirror.proofs.Made.{made_always}
+use Rattle.dm_mirror.proofs.May.{all_lawful, may_step_migrate, may_step_turn, may_step_tick}
+use Rattle.dm_mirror.proofs.Ticks.{tick_goes}
+use Rattle.dm_mirror.proofs.TurnAll.{About, turns_all}
+use Rattle.dm_mirror.proofs.Whole.{move_goes, turn_goes}
+
+-- each living process has as many slots as the boot file's format gives
+abbrev pub TablesAlways : Type 0
+TablesAlways = (b : Boot) (es : List Step) (pt : Point) (p : Pid) (x : PlainProcess) → IsValid b → Leads b (first_point b) es pt → pt.kernel.processes p ≡ Some (Alive x) → length x.links ≡ slots_of b.format
+
+-- as many machines as the boot file has
+below : (b : Boot) (es : List Step) (pt : Point) (m : ℕ) → Leads b (first_point b) es pt → m < length b.machines → m < pt.kernel.machines
+below b es pt m leads lt = subst (λ (n : ℕ). m < n) (sym (machines_are b es pt leads)) lt
+
+alive_life : (o : Option Life) (x : PlainProcess) → kernel.alive o ≡ Some x → o ≡ Some (Alive x)
+alive_life None x e = cc
+alive_life (Some (Alive y)) x e = let f : y ≡ x = cc in ap (λ (z : PlainProcess). Some (Alive z)) f
+alive_life (Some (Ended because)) x e = cc
+
+-- what a turn has around it
+around_of : TablesAlways → (b : Boot) (es : List Step) (w : WorldState) (pt : Point) (l : Placed) (h : History) → IsValid b → Leads b (first_point b) es pt → StandsWith b w pt l h → Around b pt l
+around_of tables b es w pt l h valid leads st = record {
+  nodes = λ n lt. ((w.nodes n).kernel, (st.nodes n lt).kernel);
+  tables = λ p x there.
+      let alive : kernel.alive (pt.kernel.processes p) ≡ Some (plain_process x) = st.mirrors.plain.processes p ∙ ap (option_map plain_process) there in
+      sym (length-map x.table (option_map plain_link)) ∙ tables b es pt p (plain_process x) valid leads (alive_life (pt.kernel.processes p) (plain_process x) alive);
+}
+
+turn_stands : TablesAlways → (b : Boot) (es : List Step) (w : WorldState) (pt : Point) (m : ℕ) → IsValid b → Leads b (first_point b) es pt → Stands b w pt → m < length b.machines → MayStep b w (step.Turn m) → AreWhole w (step.Turn m) → Steps b w pt (step.Turn m)
+turn_stands tables b es w pt m valid leads ((l, h, st), sent) lt may whole =
+    let both = run_always b es pt valid leads in
+    let within = below b es pt m leads lt in
+    let node = st.nodes m within in
+    turn_goes run_group b w pt l h m valid both.run both.own may.1.kernel st sent within
+    (turns_all b m pt l (λ n. (w.nodes n).kernel.records) (w.nodes m).kernel (record {
+      valid = valid;
+      below = within;
+      run = both.run;
+      told = both.own;
+      made = made_always b es pt valid leads;
+      mirrors = st.mirrors;
+      stands = node.kernel;
+      lawful = node.lawful;
+      own = st.own;
+      tokens = st.tokens;
+      mine = refl;
+      counted = sent m within;
+      around = around_of tables b es w pt l h valid leads st;
+      whole = whole;
+    }))
+
+few : (b : Boot) (m : ℕ) → IsValid b → m < length b.machines → m ≤ 15
+few b m valid lt = let most : nat_le (length b.machines) 16 ≡ true = valid.few_machines in grind (arith, nat_tests)
+
+some : (m n : ℕ) → m < n → 0 < n
+some m n lt = omega (arith, lt)
+
+move_stands : (b : Boot) (es : List Step) (w : WorldState) (pt : Point) (p : Pid) (m : ℕ) → IsValid b → Leads b (first_point b) es pt → Stands b w pt → m < length b.machines → MayStep b w (step.Migrate p m) → Steps b w pt (step.Migrate p m)
+move_stands b es w pt p m valid leads ((l, h, st), sent) lt may =
+    let both = run_always b es pt valid leads in
+    let first = below b es pt 0 leads (some m (length b.machines) lt) in
+    let node = st.nodes 0 first in
+    let machine : IsMachine m = few b m valid lt in
+    move_goes run_group b w pt l h p m valid both.run both.own may.1.kernel.here machine st sent first (below b es pt m leads lt)
+    (asks_turn b pt l (λ n. (w.nodes n).kernel.records) (w.nodes 0).kernel p m (record {
+      run = both.run;
+      mirrors = st.mirrors;
+      stands = node.kernel;
+      own = st.own;
+      tokens = st.tokens;
+      mine = refl;
+      counted = sent 0 first;
+    }))
+
+pub steps_stand_by : FewAlways → TablesAlways → StepsStand
+steps_stand_by fews tables b es w pt (step.Turn m) valid leads stands able readable lt =
+    let both = run_always b es pt valid leads in
+    let counts = fews b es pt valid leads stands.0.2.counts in
+    let may = may_step_turn b es w pt m valid leads both.run both.own counts stands able lt in
+    (may, λ whole. turn_stands tables b es w pt m valid leads stands lt may whole)
+steps_stand_by fews tables b es w pt (step.Tick m) valid leads ((l, h, s), sent) able readable lt =
+    (may_step_tick b w m able lt, λ whole. inl (tick_goes b w pt l h m s sent (below b es pt m leads lt)))
+steps_stand_by fews tables b es w pt (step.Deliver a c k) valid leads ((l, h, s), sent) able readable (a_lt, c_lt, apart) =
+    let run = (run_always b es pt valid leads).run in
+    let machines = machines_are b es pt leads in
+    let a_in = below b es pt a leads a_lt in
+    let c_in = below b es pt c leads c_lt in
+    let reads = reads_as b w pt l h a c k valid s a_in c_in apart machines readable in
+    let others : OthersLawful w pt c = λ y small o. all_lawful b w c able c_lt y small in (
+      (a_lt, c_lt, apart, may_deliver b w pt l h a c k valid run s sent a_in c_in apart machines others reads),
+      (λ whole. inl (deliver_goes b w pt l h a c k valid run s sent a_in c_in apart machines reads)),
+    )
+steps_stand_by fews tables b es w pt (step.Migrate p m) valid leads stands able readable lt =
+    let counts = fews b es pt valid leads stands.0.2.counts in
+    let may = may_step_migrate b es w pt p m valid leads counts stands able lt in
+    (may, λ whole. move_stands b es w pt p m valid leads stands lt may)
+
+pub end_is_said : EndIsSaid
+end_is_said = end_is_said_by (λ b es pt valid leads. (run_always b es pt valid leads).run)

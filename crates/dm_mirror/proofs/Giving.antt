@@ -1,0 +1,155 @@
+-- A message is given to the stream of a pair, and goes out at once or waits.
+use Rattle.std.proofs.Common.{◌≡◌, ◌≢◌, ℕ, ◌+◌, ◌<◌, ◌≤◌, ◌==◌, ◌&&◌, Bool, true, false, [], ◌∷◌, ◌++◌, length, refl, ap, ◌∙◌, sym, subst, arith}
+use Rattle.std.specs.Prelude.{if◌then◌else◌}
+use Rattle.std.specs.declared.option.Option.TheVariants.{Some}
+use Rattle.std.proofs.lemmas.Bool.{eqb-true}
+use Rattle.std.proofs.lemmas.Bool.Decides.{nat_tests}
+use Rattle.std.proofs.lemmas.List.{length-append}
+use Rattle.dm_link.specs.declared.Pid.{Pid}
+use Rattle.dm_message.specs.declared.Message.{Message}
+use Rattle.dm_message.specs.declared.kind.MessageKind.{MessageKind}
+use Rattle.dm_message.specs.Lawful.{IsLawfulMessage}
+use Rattle.dm_stream.specs.Packets as stream
+use Rattle.dm_stream.specs.Sending.{Sending, due, given_count, with_given, with_sent}
+use Rattle.dm_stream.specs.Receiving.{Receiving}
+use Rattle.dm_stream.specs.Stream.{Stream, is_worn}
+use Rattle.dm_onekernel.specs.declared.boot.Boot.{Boot}
+use Rattle.dm_node.specs.State.{NodeState, with_sender}
+use Rattle.dm_rule.specs.declared.line.Load.TheVariants as load
+use Rattle.dm_rule.specs.Sets.{at_machine, at_pair}
+use Rattle.dm_rule.specs.View.{Pair, View, after_packet, after_put, routed_on}
+use Rattle.dm_rule.specs.Point.{Point}
+use Rattle.dm_placed.specs.Placed.{Placed}
+use Rattle.dm_world.specs.World.{WorldState}
+use Rattle.dm_mirror.specs.Stands.{History, NodeStands, PairStands, StandsWith, stream_of}
+use Rattle.dm_mirror.proofs.Streams.{Joined, given_length, is_given, joined, pair_stands, put_back, went_out}
+use Rattle.dm_mirror.proofs.Stays.{apart_is, at_here, at_again, at_other, both_false, node_same, nodes_are, pair_here, pair_other, pairs_are}
+use Rattle.dm_mirror.proofs.RouteCore.{CoreStands}
+use Rattle.dm_mirror.proofs.Puts.{Senders, ids_same, one_sender, point_put, stands_put, with_put, world_put}
+
+-- a machine with other streams
+pub node_streams : (b : Boot) (pt : Point) (l : Placed) (m : ℕ) (n : NodeState) (senders : ℕ → Sending Message) (receivers : ℕ → Receiving Message) → NodeStands b pt l m n → NodeStands b pt l m (record n { senders = senders; receivers = receivers })
+node_streams b pt l m n senders receivers h = record { kernel = h.kernel; lawful = h.lawful; machines = h.machines; numbers = h.numbers; home = h.home }
+
+-- so many messages count, by the machine and by the lines
+pub count_given : (b : Boot) (pt : Point) (l : Placed) (w : WorldState) (h : History) (a c : ℕ) → PairStands b pt l w h a c → given_count ((w.nodes a).senders c) ≡ length (pt.view.pair a c).ids
+count_given b pt l w h a c s = s.stream.counted.given ∙ sym (given_length b l.bag a c (stream_of w h a c) (w.wires a c) (pt.view.pair a c) (joined b pt l w h a c s))
+
+-- the history with one more message
+abbrev pub with_gift : History → ℕ → ℕ → Message → History
+with_gift h a c x = record h { given = at_pair h.given a c (h.given a c ++ x ∷ []) }
+
+-- the machine, the world and the point with one more message
+abbrev pub node_gave : WorldState → ℕ → ℕ → Message → NodeState
+node_gave w m c x = with_sender (w.nodes m) c (with_given ((w.nodes m).senders c) x)
+
+abbrev pub world_gave : WorldState → ℕ → ℕ → Message → WorldState
+world_gave w m c x = record w { nodes = at_machine w.nodes m (node_gave w m c x) }
+
+abbrev pub pair_gave : Pair → Message → Pair
+pair_gave p x = record p { ids = p.ids ++ x.id ∷ [] }
+
+abbrev pub stream_gave : Stream Message → Message → Stream Message
+stream_gave s x = record s { sender = with_given s.sender x; given = s.given ++ x ∷ [] }
+
+-- on a pair of different machines a route is one more message
+routed_apart : (m c : ℕ) (p : Pair) (x : Message) → (m == c) ≡ false → routed_on m c p x.id ≡ pair_gave p x
+routed_apart m c p x e = λ i. record p { ids = p.ids ++ x.id ∷ []; taken = if e i then p.taken + 1 else p.taken; gone = if e i then p.gone + 1 else p.gone; acked = if e i then p.acked + 1 else p.acked }
+
+pub more_if : (b : Boot) (f : ℕ → ℕ → Pair) (m c a d : ℕ) (p : Pair) (t : Bool) → ((m == a) && (c == d)) ≡ t → length p.ids ≤ b.numbers → length (f a d).ids ≤ b.numbers → length (if t then p else f a d).ids ≤ b.numbers
+more_if b f m c a d p true e more old = more
+more_if b f m c a d p false e more old = old
+
+-- the pair counts one more, and may
+pub one_more : (b : Boot) (p : Pair) (x : Message) → length p.ids ≤ b.numbers → length p.ids ≢ b.numbers → length (p.ids ++ x.id ∷ []) ≤ b.numbers
+one_more b p x few fresh = omega (arith, few, fresh, length-append p.ids (x.id ∷ []))
+
+module _ (b : Boot) (pt : Point) (l : Placed) (w : WorldState) (h : History) (m c : ℕ) (x : Message) (k : MessageKind) (q : Pid) where
+  abbrev gave : View
+  gave = after_put pt.view m c x.id k q
+
+  abbrev next : Point
+  next = record pt { view = gave }
+
+  pairs_gave : m ≢ c → Joined b l.bag m c (stream_gave (stream_of w h m c) x) (w.wires m c) (pair_gave (pt.view.pair m c) x) → PairStands b pt l w h c m
+      → (a d : ℕ) → PairStands b pt l w h a d → PairStands b next l (world_gave w m c x) (with_gift h m c x) a d
+  pairs_gave apart there back =
+      let off : ((m == c) && (c == m)) ≡ false = both_false (m == c) (c == m) (apart_is m c apart) in
+      let senders : Senders w m c (at_machine w.nodes m (node_gave w m c x)) (with_given ((w.nodes m).senders c) x) = one_sender w m c (node_gave w m c x) (with_given ((w.nodes m).senders c) x) refl refl in
+      pairs_are b pt next l w (world_gave w m c x) h (with_gift h m c x) m c
+      (pair_stands b next l (world_gave w m c x) (with_gift h m c x) m c (stream_gave (stream_of w h m c) x) (w.wires m c) (pair_gave (pt.view.pair m c) x) (record {
+        sender = senders.here;
+        receiver = senders.receivers m c;
+        given = pair_here h.given m c _;
+        out = refl;
+        back = refl;
+        wire = refl;
+        pair = pair_here pt.view.pair m c _ ∙ routed_apart m c (pt.view.pair m c) x (apart_is m c apart);
+      }) there)
+      (pair_stands b next l (world_gave w m c x) (with_gift h m c x) c m (stream_of w h c m) (w.wires c m) (pt.view.pair c m) (record {
+        sender = senders.others c m off;
+        receiver = senders.receivers c m;
+        given = pair_other h.given m c _ c m off;
+        out = refl;
+        back = refl;
+        wire = refl;
+        pair = pair_other pt.view.pair m c _ c m off;
+      }) (joined b pt l w h c m back))
+      (λ a d e f. record {
+        sender = senders.others a d e;
+        receiver = senders.receivers a d;
+        given = pair_other h.given m c _ a d e;
+        out = refl;
+        back = refl;
+        wire = refl;
+        pair = pair_other pt.view.pair m c _ a d e;
+      })
+
+  own_apart : m ≢ c → (d : ℕ) → ((m == d) && (c == d)) ≡ false
+  own_apart apart d = grind (arith, nat_tests)
+
+  -- the world stands for the point behind the put
+  pub stands_gave : m ≢ c → m < pt.kernel.machines → c < pt.kernel.machines → is_worn ((w.nodes m).senders c) ≡ false → l.bag x.id ≡ Some x → IsLawfulMessage x → CoreStands b w pt l h → CoreStands b (world_gave w m c x) next l (with_gift h m c x)
+  stands_gave apart small less fresh there lawful st =
+      let off : (m == c) ≡ false = apart_is m c apart in
+      let pair : PairStands b pt l w h m c = st.pairs m c small less apart in
+      let box : gave.inbox ≡ pt.view.inbox = ap (λ (t : Bool). if t then at_machine pt.view.inbox c (pt.view.inbox c ++ x.id ∷ []) else pt.view.inbox) off in
+      let own : (d : ℕ) → (gave.pair d d).ids ≡ (pt.view.pair d d).ids = λ d. ap (λ (p : Pair). p.ids) (pair_other pt.view.pair m c _ d d (own_apart apart d)) in
+      let full : length (pt.view.pair m c).ids ≢ b.numbers = let e : given_count ((w.nodes m).senders c) ≡ length (pt.view.pair m c).ids = count_given b pt l w h m c pair in let f : ((w.nodes m).senders c).numbers ≡ b.numbers = pair.numbers in grind (arith, nat_tests, e, f, fresh) in
+      record {
+        groups = st.groups;
+        nodes = λ d few.
+            nodes_are b pt l gave m w.nodes (at_machine w.nodes m (node_gave w m c x)) (λ z e. at_other w.nodes m _ z e) (λ z e. (λ i. box i z)) (λ z e. own z)
+            (subst (λ (n : NodeState). NodeStands b next l m n) (sym (at_here w.nodes m (node_gave w m c x))) (node_streams b next l m (w.nodes m) (node_gave w m c x).senders (w.nodes m).receivers (node_same b pt l gave m (w.nodes m) (λ i. box i m) (own m) (st.nodes m small))))
+            d (st.nodes d few);
+        pairs = λ a d few more differ. pairs_gave apart (is_given b l.bag m c (stream_of w h m c) (w.wires m c) (pt.view.pair m c) x fresh there lawful (joined b pt l w h m c pair)) (st.pairs c m less small (λ e. apart (sym e))) a d (st.pairs a d few more differ);
+        counts = λ a d. more_if b pt.view.pair m c a d (routed_on m c (pt.view.pair m c) x.id) ((m == a) && (c == d)) refl (one_more b (pt.view.pair m c) x (st.counts m c) full) (st.counts a d);
+      }
+
+-- the records of machines stay
+pub same_records : (w : WorldState) (m : ℕ) (n : NodeState) (d : ℕ) (t : Bool) → (m == d) ≡ t → n.kernel.records ≡ (w.nodes m).kernel.records → (if t then n else w.nodes d).kernel.records ≡ (w.nodes d).kernel.records
+same_records w m n d true e same = same ∙ ap (λ (z : ℕ). (w.nodes z).kernel.records) (eqb-true m d e)
+same_records w m n d false e same = refl
+
+-- and it goes out
+abbrev pub node_went : WorldState → ℕ → ℕ → Message → NodeState
+node_went w m c x = with_sender (node_gave w m c x) c (with_sent ((node_gave w m c x).senders c))
+
+pub stands_went : (b : Boot) (pt : Point) (l : Placed) (w : WorldState) (h : History) (m c n : ℕ) (x : Message) → m ≢ c → m < pt.kernel.machines → c < pt.kernel.machines → due (with_given ((w.nodes m).senders c) x) ≡ Some (n, x)
+    → StandsWith b (world_gave w m c x) pt l h → StandsWith b (world_put (world_gave w m c x) m c (at_machine w.nodes m (node_went w m c x)) (stream.Data n x)) (point_put pt m c (stream.Data n x)) l (with_put h m c (stream.Data n x))
+stands_went b pt l w h m c n x apart small less out st =
+    let u : WorldState = world_gave w m c x in
+    let g : NodeState = node_gave w m c x in
+    let is : u.nodes m ≡ g = at_here w.nodes m g in
+    let given : (u.nodes m).senders c ≡ with_given ((w.nodes m).senders c) x = (λ i. (is i).senders c) ∙ at_here (w.nodes m).senders c (with_given ((w.nodes m).senders c) x) in
+    let pair : PairStands b pt l u h m c = st.pairs m c small less apart in
+    let senders : Senders u m c (at_machine u.nodes m (node_went w m c x)) (with_sent ((u.nodes m).senders c)) =
+    one_sender u m c (node_went w m c x) (with_sent ((u.nodes m).senders c)) (λ i. at_machine (sym is i).senders c (with_sent ((sym is i).senders c))) (λ i. (sym is i).receivers) in
+    let goes : StandsWith b (world_put u m c (at_machine u.nodes m (node_went w m c x)) (stream.Data n x)) (point_put pt m c (stream.Data n x)) l (with_put h m c (stream.Data n x)) =
+    stands_put b pt l u h m c (at_machine u.nodes m (node_went w m c x)) (with_sent ((u.nodes m).senders c)) (stream.Data n x) apart senders (λ z e. at_other u.nodes m _ z e)
+    (λ d. same_records u m (node_went w m c x) d (m == d) refl (λ i. (sym is i).kernel.records))
+    (subst (λ (z : NodeState). NodeStands b (point_put pt m c (stream.Data n x)) l m z) (sym (at_here u.nodes m (node_went w m c x)))
+    (node_streams b (point_put pt m c (stream.Data n x)) l m g (node_went w m c x).senders (w.nodes m).receivers (node_same b pt l (after_packet pt.view m c (load.Data n)) m g refl (ids_same pt.view.pair m c _ refl m m) (subst (λ (z : NodeState). NodeStands b pt l m z) is (st.nodes m small)))))
+    (went_out b l.bag m c (stream_of u h m c) (u.wires m c) (pt.view.pair m c) n x (ap due given ∙ out) (joined b pt l u h m c pair))
+    (put_back b l.bag c m (stream_of u h c m) (u.wires c m) (pt.view.pair c m) n x (joined b pt l u h c m (st.pairs c m less small (λ e. apart (sym e))))) st in
+    subst (λ (f : ℕ → NodeState). StandsWith b (world_put u m c f (stream.Data n x)) (point_put pt m c (stream.Data n x)) l (with_put h m c (stream.Data n x))) (at_again w.nodes m g (node_went w m c x)) goes

@@ -1,0 +1,90 @@
+-- A message that is routed to its own machine comes into the inbox at once.
+use Rattle.std.proofs.Common.{◌≡◌, ◌≢◌, ℕ, ◌+◌, ◌<◌, ◌==◌, ◌&&◌, Bool, true, false, List, [], ◌∷◌, ◌++◌, length, refl, ap, ◌∙◌, sym, subst, arith}
+use Rattle.std.specs.Prelude.{if◌then◌else◌}
+use Rattle.std.specs.declared.option.Option.{Option}
+use Rattle.std.specs.declared.option.Option.TheVariants.{Some}
+use Rattle.std.proofs.lemmas.Bool.{eqb-true, eq-eqb}
+use Rattle.std.proofs.lemmas.Bool.Decides.{nat_tests}
+use Rattle.std.proofs.lemmas.List.{length-append, map-append}
+use Rattle.std.proofs.lemmas.List.Elements.{All-push}
+use Rattle.dm_link.specs.declared.Pid.{Pid}
+use Rattle.dm_message.specs.declared.Message.{Message}
+use Rattle.dm_message.specs.declared.MsgId.{MsgId}
+use Rattle.dm_message.specs.declared.kind.MessageKind.{MessageKind}
+use Rattle.dm_message.specs.Lawful.{IsLawfulMessage}
+use Rattle.dm_onekernel.specs.declared.boot.Boot.{Boot}
+use Rattle.dm_kernel.specs.Lawful.{IsLawfulState}
+use Rattle.dm_kernel.specs.State.{KernelState}
+use Rattle.dm_node.specs.State.{NodeState, with_message}
+use Rattle.dm_rule.specs.Sets.{at_machine}
+use Rattle.dm_rule.specs.View.{Pair, View, after_put, routed_on}
+use Rattle.dm_rule.specs.Point.{Point}
+use Rattle.dm_placed.specs.Placed.{Placed}
+use Rattle.dm_world.specs.World.{WorldState}
+use Rattle.dm_mirror.specs.Stands.{AreMessages, History, NodeStands}
+use Rattle.dm_mirror.proofs.RouteCore.{CoreStands}
+use Rattle.dm_mirror.proofs.Streams.{pair_stays}
+use Rattle.dm_mirror.proofs.Stays.{at_here, at_other, kernel_box, nodes_are, pair_here, pair_other}
+use Rattle.dm_mirror.proofs.Giving.{more_if, one_more}
+
+-- one message more
+messages_more : (bag : MsgId → Option Message) (ids : List MsgId) (xs : List Message) (x : Message) → bag x.id ≡ Some x → AreMessages bag ids xs → AreMessages bag (ids ++ x.id ∷ []) (xs ++ x ∷ [])
+messages_more bag ids xs x there e = map-append bag ids (x.id ∷ []) ∙ (λ i. e i ++ there i ∷ []) ∙ sym (map-append Some xs (x ∷ []))
+
+lawful_more : (k : KernelState) (x : Message) → IsLawfulMessage x → IsLawfulState k → IsLawfulState (record k { inbox = k.inbox ++ x ∷ [] })
+lawful_more k x lawful h = record { records = h.records; room = h.room; inbox = All-push IsLawfulMessage k.inbox x h.inbox lawful; servers = h.servers }
+
+-- what the new state of a machine leaves as it was
+part_if : {Y : Type 0} (g : NodeState → Y) (f : ℕ → NodeState) (m a : ℕ) (n : NodeState) (t : Bool) → (m == a) ≡ t → g n ≡ g (f m) → g (if t then n else f a) ≡ g (f a)
+part_if g f m a n true e is = is ∙ ap (λ (z : ℕ). g (f z)) (eqb-true m a e)
+part_if g f m a n false e is = refl
+
+apart_home : (m a d : ℕ) → a ≢ d → ((m == a) && (m == d)) ≡ false
+apart_home m a d e = grind (arith, nat_tests)
+
+abbrev pub node_home : NodeState → Message → NodeState
+node_home n x = record (with_message n x) { home = n.home + 1 }
+
+module _ (b : Boot) (pt : Point) (l : Placed) (w : WorldState) (h : History) (m : ℕ) (x : Message) (k : MessageKind) (q : Pid) where
+  abbrev gave : View
+  gave = after_put pt.view m m x.id k q
+
+  abbrev next : Point
+  next = record pt { view = gave }
+
+  abbrev after : WorldState
+  after = record w { nodes = at_machine w.nodes m (node_home (w.nodes m) x) }
+
+  box_is : gave.inbox ≡ at_machine pt.view.inbox m (pt.view.inbox m ++ x.id ∷ [])
+  box_is = ap (λ (t : Bool). if t then at_machine pt.view.inbox m (pt.view.inbox m ++ x.id ∷ []) else pt.view.inbox) (eq-eqb m m refl)
+
+  node_more : l.bag x.id ≡ Some x → IsLawfulMessage x → NodeStands b pt l m (w.nodes m) → NodeStands b next l m (node_home (w.nodes m) x)
+  node_more there lawful h = record {
+    kernel = kernel_box b pt l gave m (w.nodes m).kernel ((w.nodes m).kernel.inbox ++ x ∷ []) (subst (λ (is : List MsgId). AreMessages l.bag is ((w.nodes m).kernel.inbox ++ x ∷ [])) (sym ((λ i. box_is i m) ∙ at_here pt.view.inbox m (pt.view.inbox m ++ x.id ∷ []))) (messages_more l.bag (pt.view.inbox m) (w.nodes m).kernel.inbox x there h.kernel.inbox)) h.kernel;
+    lawful = lawful_more (w.nodes m).kernel x lawful h.lawful;
+    machines = h.machines;
+    numbers = h.numbers;
+    home = let e : (w.nodes m).home + 1 ≡ length ((pt.view.pair m m).ids ++ x.id ∷ []) = omega (arith, h.home, length-append (pt.view.pair m m).ids (x.id ∷ [])) in e ∙ ap (λ (p : Pair). length p.ids) (sym (pair_here pt.view.pair m m (routed_on m m (pt.view.pair m m) x.id)));
+  }
+
+  pub stands_home : m < pt.kernel.machines → (w.nodes m).home ≢ b.numbers → l.bag x.id ≡ Some x → IsLawfulMessage x → CoreStands b w pt l h → CoreStands b after next l h
+  stands_home small fresh there lawful st =
+      let full : length (pt.view.pair m m).ids ≢ b.numbers = let e : (w.nodes m).home ≡ length (pt.view.pair m m).ids = (st.nodes m small).home in omega (arith, e, fresh) in
+      record {
+        groups = st.groups;
+        nodes = λ d few.
+            nodes_are b pt l gave m w.nodes after.nodes (λ z e. at_other w.nodes m _ z e) (λ z e. (λ i. box_is i z) ∙ at_other pt.view.inbox m _ z e) (λ z e. ap (λ (p : Pair). p.ids) (pair_other pt.view.pair m m _ z z (ap (λ (t : Bool). t && (m == z)) e)))
+            (subst (λ (n : NodeState). NodeStands b next l m n) (sym (at_here w.nodes m (node_home (w.nodes m) x))) (node_more there lawful (st.nodes m small)))
+            d (st.nodes d few);
+        pairs = λ a d few less differ.
+            pair_stays b pt next l w after h h a d (record {
+              sender = part_if (λ (n : NodeState). n.senders d) w.nodes m a (node_home (w.nodes m) x) (m == a) refl refl;
+              receiver = part_if (λ (n : NodeState). n.receivers a) w.nodes m d (node_home (w.nodes m) x) (m == d) refl refl;
+              given = refl;
+              out = refl;
+              back = refl;
+              wire = refl;
+              pair = pair_other pt.view.pair m m _ a d (apart_home m a d differ);
+            }) (st.pairs a d few less differ);
+        counts = λ a d. more_if b pt.view.pair m m a d (routed_on m m (pt.view.pair m m) x.id) ((m == a) && (m == d)) refl (one_more b (pt.view.pair m m) x (st.counts m m) full) (st.counts a d);
+      }

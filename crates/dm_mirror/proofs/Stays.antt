@@ -1,0 +1,168 @@
+-- What a line of a pair leaves of the machines, of the other pairs and of the kernel with places.
+use Rattle.std.proofs.Common.{◌≡◌, ◌≢◌, ℕ, zero, suc, ◌+◌, ◌≤◌, ◌==◌, ◌&&◌, Bool, true, false, List, length, refl, ap, ◌∙◌, sym, subst, arith}
+use Rattle.std.specs.Prelude.{if◌then◌else◌, slice_get}
+use Rattle.std.specs.declared.option.Option.{Option}
+use Rattle.std.specs.declared.option.Option.TheVariants.{None, Some}
+use Rattle.std.proofs.lemmas.Bool.{eqb-true, eq-eqb}
+use Rattle.std.proofs.lemmas.Bool.Decides.{nat_tests}
+use Rattle.dm_link.specs.declared.Pid.{Pid}
+use Rattle.dm_link.specs.Names.{pid_of}
+use Rattle.dm_message.specs.declared.Message.{Message}
+use Rattle.dm_message.specs.declared.MsgId.{MsgId}
+use Rattle.dm_forward.specs.declared.record.Record.TheVariants as record_
+use Rattle.dm_onekernel.specs.declared.boot.Boot.{Boot}
+use Rattle.dm_onekernel.specs.Boot.{first_number}
+use Rattle.dm_kernel.specs.State as machine
+use Rattle.dm_kernel.specs.State.{KernelState}
+use Rattle.dm_kernel.specs.Begun.{room_of}
+use Rattle.dm_node.specs.State.{NodeState}
+use Rattle.dm_rule.specs.Sets.{at_machine, at_pair}
+use Rattle.dm_rule.specs.Spots.{Spot, standing}
+use Rattle.dm_rule.specs.View.{View, Known, Unknown, Here, Frozen, Incoming, Forward, Ended}
+use Rattle.dm_rule.specs.Point.{Point}
+use Rattle.dm_rule.specs.Rule.{and, taken_at, taken_by, taken_of_home}
+use Rattle.dm_placed.specs.Placed.{Placed, Mirrors}
+use Rattle.dm_world.specs.World.{WorldState}
+use Rattle.dm_forward.specs.Records.{incoming_of}
+use Rattle.dm_mirror.specs.Stands.{AreMessages, History, KernelStands, KnownStands, NodeStands, PairStands, RoomStands}
+use Rattle.dm_mirror.specs.Tokens.{AllRecords, Carries, TokensStand, destination_of}
+use Rattle.dm_rule.proofs.PairsStand.{two_of}
+use Rattle.dm_mirror.proofs.Streams.{Stays, pair_stays}
+
+-- a value that is set
+module _ {X : Type 0} where
+  pub at_here : (f : ℕ → X) (m : ℕ) (x : X) → at_machine f m x m ≡ x
+  at_here f m x = ap (λ (t : Bool). if t then x else f m) (eq-eqb m m refl)
+
+  pub at_other : (f : ℕ → X) (m : ℕ) (x : X) (d : ℕ) → (m == d) ≡ false → at_machine f m x d ≡ f d
+  at_other f m x d e = ap (λ (t : Bool). if t then x else f d) e
+
+  again_if : (t : Bool) (x y z : X) → (if t then y else if t then x else z) ≡ (if t then y else z)
+  again_if true x y z = refl
+  again_if false x y z = refl
+
+  pub at_again : (f : ℕ → X) (m : ℕ) (x y : X) → at_machine (at_machine f m x) m y ≡ at_machine f m y
+  at_again f m x y = λ i. λ d. again_if (m == d) x y (f d) i
+
+  same_if : (f : ℕ → X) (m d : ℕ) (t : Bool) → (m == d) ≡ t → (if t then f m else f d) ≡ f d
+  same_if f m d true e = ap f (eqb-true m d e)
+  same_if f m d false e = refl
+
+  -- set to what it was
+  pub at_same : (f : ℕ → X) (m : ℕ) → at_machine f m (f m) ≡ f
+  at_same f m = λ i. λ d. same_if f m d (m == d) refl i
+
+  pub pair_here : (f : ℕ → ℕ → X) (a c : ℕ) (x : X) → at_pair f a c x a c ≡ x
+  pair_here f a c x = ap (λ (t : Bool). if t && (c == c) then x else f a c) (eq-eqb a a refl) ∙ ap (λ (t : Bool). if t then x else f a c) (eq-eqb c c refl)
+
+  pub pair_other : (f : ℕ → ℕ → X) (a c : ℕ) (x : X) (d e : ℕ) → ((a == d) && (c == e)) ≡ false → at_pair f a c x d e ≡ f d e
+  pair_other f a c x d e is = ap (λ (t : Bool). if t then x else f d e) is
+
+pub apart_is : (m c : ℕ) → m ≢ c → (m == c) ≡ false
+apart_is m c e = grind (arith, nat_tests)
+
+pub both_false : (s t : Bool) → s ≡ false → (s && t) ≡ false
+both_false s t e = ap (λ (z : Bool). z && t) e
+
+pub swapped : (s t : Bool) → (s && t) ≡ false → (t && s) ≡ false
+swapped true true e = e
+swapped true false e = refl
+swapped false true e = refl
+swapped false false e = refl
+
+-- the point with this view, but for what machines know of processes, rings, queues and held messages
+abbrev pub with_view : Point → View → Point
+with_view pt v = record pt { view = record v { known = pt.view.known; ring = pt.view.ring; queue = pt.view.queue; held = pt.view.held; moves = pt.view.moves } }
+
+module _ (b : Boot) (pt : Point) (l : Placed) (v : View) where
+  home_same : (m home k : ℕ) → taken_of_home (with_view pt v) m home k ≡ taken_of_home pt m home k
+  home_same m home zero = refl
+  home_same m home (suc k) = ap (λ r. and r (taken_by pt m (pid_of home (first_number + k)))) (home_same m home k)
+
+  taken_same : (m n : ℕ) → taken_at (with_view pt v) m n ≡ taken_at pt m n
+  taken_same m zero = refl
+  taken_same m (suc n) = λ i. and (taken_same m n i) (home_same m n (pt.kernel.made n) i)
+
+  known_same : (p : Pid) (queue held : List MsgId) (k : Known) (r : Option machine.Known) → KnownStands pt l p queue held k r → KnownStands (with_view pt v) l p queue held k r
+  known_same p queue held Unknown None h = h
+  known_same p queue held Here (Some (record_.Here x)) h = h
+  known_same p queue held (Frozen to) (Some (record_.Frozen d)) h = h
+  known_same p queue held (Incoming from) (Some (record_.Incoming x)) h = h
+  known_same p queue held (Forward to moves) (Some (record_.Forward at n)) h = h
+  known_same p queue held Ended (Some (record_.Ended y)) h = h
+  known_same p queue held k r h = h
+
+  room_same : (m : ℕ) (k : KernelState) → RoomStands k.room (room_of (slice_get b.machines m)) (taken_at pt m pt.kernel.machines)
+      → RoomStands k.room (room_of (slice_get b.machines m)) (taken_at (with_view pt v) m pt.kernel.machines)
+  room_same m k h = subst (λ r. RoomStands k.room (room_of (slice_get b.machines m)) r) (sym (taken_same m pt.kernel.machines)) h
+
+  -- the kernel with this inbox
+  pub kernel_box : (m : ℕ) (k : KernelState) (box : List Message) → AreMessages l.bag (v.inbox m) box → KernelStands b pt l m k → KernelStands b (with_view pt v) l m (record k { inbox = box })
+  kernel_box m k box e h = record {
+    here = h.here;
+    known = λ p no_server. known_same p (pt.view.queue m p) (pt.view.held m p) (pt.view.known m p) (k.records p) (h.known p no_server);
+    no_server = h.no_server;
+    ring = h.ring;
+    inbox = e;
+    made = h.made;
+    room = room_same m k h.room;
+    servers = h.servers;
+  }
+
+  pub kernel_same : (m : ℕ) (k : KernelState) → v.inbox m ≡ pt.view.inbox m → KernelStands b pt l m k → KernelStands b (with_view pt v) l m k
+  kernel_same m k e h = kernel_box m k k.inbox (subst (λ (is : List MsgId). AreMessages l.bag is k.inbox) (sym e) h.inbox) h
+
+  pub node_same : (m : ℕ) (n : NodeState) → v.inbox m ≡ pt.view.inbox m → (v.pair m m).ids ≡ (pt.view.pair m m).ids → NodeStands b pt l m n → NodeStands b (with_view pt v) l m n
+  node_same m n e own h = record {
+    kernel = kernel_same m n.kernel e h.kernel;
+    lawful = h.lawful;
+    machines = h.machines;
+    numbers = h.numbers;
+    home = h.home ∙ ap length (sym own);
+  }
+
+  pub mirrors_same : Mirrors pt.kernel pt.view pt.addresses l → Mirrors pt.kernel (with_view pt v).view pt.addresses l
+  mirrors_same h = record {
+    plain = h.plain;
+    places = record {
+      process = λ p x there. (let k = h.places.process p x there in record { pid = k.pid; moves = k.moves; slots = k.slots; owner = k.owner });
+      message = h.places.message;
+      name = h.places.name;
+      child = h.places.child;
+      answer = h.places.answer;
+    };
+  }
+
+  -- machine m has this state, and the others have theirs
+  pub nodes_are : (m : ℕ) (f g : ℕ → NodeState) → ((d : ℕ) → (m == d) ≡ false → g d ≡ f d) → ((d : ℕ) → (m == d) ≡ false → v.inbox d ≡ pt.view.inbox d) → ((d : ℕ) → (m == d) ≡ false → (v.pair d d).ids ≡ (pt.view.pair d d).ids)
+      → NodeStands b (with_view pt v) l m (g m) → (d : ℕ) → NodeStands b pt l d (f d) → NodeStands b (with_view pt v) l d (g d)
+  nodes_are m f g others boxes own here d h = is d (m == d) refl h
+    where
+      is : (d : ℕ) (t : Bool) → (m == d) ≡ t → NodeStands b pt l d (f d) → NodeStands b (with_view pt v) l d (g d)
+      is d true e h = subst (λ (z : ℕ). NodeStands b (with_view pt v) l z (g z)) (eqb-true m d e) here
+      is d false e h = subst (λ (z : NodeState). NodeStands b (with_view pt v) l d z) (sym (others d e)) (node_same d (f d) (boxes d e) (own d e) h)
+
+-- the pairs of m and c stand, and the others are as they were
+pub pairs_are : (b : Boot) (pt next : Point) (l : Placed) (w after : WorldState) (h later : History) (m c : ℕ) → PairStands b next l after later m c → PairStands b next l after later c m
+    → ((a d : ℕ) → ((m == a) && (c == d)) ≡ false → ((c == a) && (m == d)) ≡ false → Stays pt w h next after later a d) → (a d : ℕ) → PairStands b pt l w h a d → PairStands b next l after later a d
+pairs_are b pt next l w after h later m c there back others a d s = is ((m == a) && (c == d)) ((c == a) && (m == d)) refl refl
+  where
+    is : (t u : Bool) → ((m == a) && (c == d)) ≡ t → ((c == a) && (m == d)) ≡ u → PairStands b next l after later a d
+    is true u e f = let k = two_of m c a d e in subst (λ (z : ℕ). PairStands b next l after later z d) k.0 (subst (λ (z : ℕ). PairStands b next l after later m z) k.1 there)
+    is false true e f = let k = two_of c m a d f in subst (λ (z : ℕ). PairStands b next l after later z d) k.0 (subst (λ (z : ℕ). PairStands b next l after later c z) k.1 back)
+    is false false e f = pair_stays b pt next l w after h later a d (others a d e f) s
+
+-- the messages of migrations under way carry the same, where nothing that they are read by changes
+pub tokens_same : (v u : View) (l : Placed) (r s : AllRecords) → ((i : MsgId) → u.told i ≡ v.told i) → ((p : Pid) → u.asked p ≡ v.asked p) → ((i : MsgId) (z : Spot) → standing u i z ≡ standing v i z) → ((d : ℕ) → s d ≡ r d)
+    → TokensStand v l r → TokensStand u l s
+tokens_same v u l r s told asked spots records h p i t z is between about st =
+    let k = h p i t z (sym (told i) ∙ is) between about (subst (λ (n : ℕ). 1 ≤ n) (spots i z) st) in
+    let d : ℕ = destination_of i t in
+    record {
+      process = k.process;
+      there = k.there;
+      message = k.message;
+      is = k.is;
+      sender = k.sender;
+      carries = subst (λ (n : ℕ). Carries p k.process n (incoming_of (s d p)) k.message.what) (sym (asked p)) (subst (λ (f : Pid → Option machine.Known). Carries p k.process (v.asked p) (incoming_of (f p)) k.message.what) (sym (records d)) k.carries);
+    }

@@ -1,0 +1,242 @@
+-- A turn, or a directive to move a process: the machine says and routes what the rule spells, or stops worn.
+use Rattle.std.proofs.Common.{◌≡◌, ℕ, ◌+◌, ◌<◌, ◌≤◌, ◌==◌, List, [], ◌∷◌, ◌++◌, length, map, refl, ap, ◌∙◌, sym, subst, inl, inr}
+use Rattle.std.specs.List.{All}
+use Rattle.std.specs.declared.option.Option.{Option}
+use Rattle.std.specs.declared.option.Option.TheVariants.{Some}
+use Rattle.std.proofs.lemmas.Bool.{cases_Bool, eqb-true}
+use Rattle.std.proofs.lemmas.List.{append_assoc}
+use Rattle.std.proofs.lemmas.List.Elements.{All-head, All-tail}
+use Rattle.dm_onekernel.specs.declared.boot.Boot.{Boot}
+use Rattle.dm_onekernel.specs.Kernel.{OneKernel}
+use Rattle.dm_onekernel.specs.Options.{bind}
+use Rattle.dm_laws.proofs.Steps.{bind-is}
+use Rattle.dm_schedule.specs.declared.Step.{Step}
+use Rattle.dm_rule.specs.declared.line.Line.{Line}
+use Rattle.dm_rule.specs.declared.line.Line.TheVariants as line
+use Rattle.dm_rule.specs.declared.line.Stage.TheVariants as stage
+use Rattle.dm_rule.specs.Parts as rule
+use Rattle.dm_rule.specs.Parts.{Spelled, spelled}
+use Rattle.dm_rule.specs.Point.{Point, after_line, moved}
+use Rattle.dm_rule.specs.Rule.{group_of, headed, outcome}
+use Rattle.dm_rule.specs.Sets.{at_machine}
+use Rattle.dm_rule.specs.Spots.{standing}
+use Rattle.dm_rule.specs.View.{About, Pair, begins}
+use Rattle.dm_rule.specs.Worn.{worn_in}
+use Rattle.dm_rule.proofs.Groups.{fits}
+use Rattle.dm_rule.proofs.States.{PairsFit}
+use Rattle.dm_rule.proofs.Telling.{AllSayable, Sane, outcome_sayable, sane_line}
+use Rattle.dm_rulelaws.specs.Found.{machine_of}
+use Rattle.dm_rulelaws.proofs.Runs.{Run}
+use Rattle.dm_placed.specs.Placed.{Placed, Mirrors}
+use Rattle.dm_placed.proofs.Lines.{lines_keep}
+use Rattle.dm_kernel.specs.declared.part.Part.{Part}
+use Rattle.dm_kernel.specs.declared.part.Part.TheVariants as part
+use Rattle.dm_kernel.specs.Lawful.{IsLawfulPart, IsLawfulTurned}
+use Rattle.dm_kernel.specs.State as machine
+use Rattle.dm_kernel.specs.State.{KernelState}
+use Rattle.dm_node.specs.State.{NodeState}
+use Rattle.dm_node.specs.declared.out.Out.TheVariants as out
+use Rattle.dm_node.specs.Out.{Acts, Goes, Worn, behind}
+use Rattle.dm_node.specs.Acts.{acts}
+use Rattle.dm_node.specs.Acts as node
+use Rattle.dm_node.specs.Wired.{Spoken, spoken}
+use Rattle.dm_world.specs.World.{WorldState, acted, turned, world_step}
+use Rattle.dm_mirror.specs.Run.{GoesOn, StopsWorn, Steps}
+use Rattle.dm_mirror.specs.Stands.{CountsStand, History, StandsWith}
+use Rattle.dm_mirror.proofs.Turning.{Route, Late, Nothing, Leaves, Turns, late_parts, late_point, late_rule_parts, part_of, rule_part_of}
+use Rattle.dm_mirror.proofs.Stays.{at_again, at_here, at_other}
+use Rattle.dm_mirror.proofs.Puts.{stands_begins}
+use Rattle.dm_mirror.proofs.RouteLate.{late_pair}
+use Rattle.dm_mirror.proofs.RouteList.{AreLawful, IsLawfulLate, Going, RoutesOn, RoutesWorn, late_acting, late_count, late_kernel, routes_go}
+use Rattle.dm_mirror.proofs.Saying.{acts_say, says_rest, says_sane, spoken_says, worn_behind}
+use Rattle.dm_mirror.proofs.Others.{MadeHere}
+use Rattle.dm_mirror.proofs.Join.{turned_here, turned_records, turned_stands, with_kernel, with_turned}
+use Rattle.dm_mirror.proofs.Within.{made_here, stands_within}
+
+-- what is routed is lawful
+said_lawful : (ls : List Line) (ps : List Part) → All IsLawfulPart (map part.Says ls ++ ps) → All IsLawfulPart ps
+said_lawful [] ps h = h
+said_lawful (l ∷ ls) ps h = said_lawful ls ps (All-tail IsLawfulPart (part.Says l) (map part.Says ls ++ ps) h)
+
+routes_lawful : (rs : List Route) (ps : List Part) → All IsLawfulPart (map part_of rs ++ ps) → AreLawful rs × All IsLawfulPart ps
+routes_lawful [] ps h = (tt, h)
+routes_lawful (r ∷ rs) ps h =
+    let k = routes_lawful rs ps (All-tail IsLawfulPart (part_of r) (map part_of rs ++ ps) h) in
+    ((All-head IsLawfulPart (part_of r) (map part_of rs ++ ps) h, k.0), k.1)
+
+late_lawful : (late : Late) → All IsLawfulPart (late_parts late) → IsLawfulLate late
+late_lawful Nothing h = tt
+late_lawful (Leaves p x) h = All-head IsLawfulPart (part.Routes x) [] (All-tail IsLawfulPart (part.Says (line.Migration stage.Left p)) (part.Routes x ∷ []) h)
+
+-- the line of a process that leaves changes nothing of these
+late_sane : (q : Point) (late : Late) → Sane q → Sane (late_point q late)
+late_sane q Nothing h = h
+late_sane q (Leaves p x) h = sane_line q (moved q (line.Migration stage.Left p) q.kernel) (line.Migration stage.Left p) refl refl h
+
+late_mirrors : (q : Point) (late : Late) (l : Placed) → Mirrors q.kernel q.view q.addresses l → Mirrors (late_point q late).kernel (late_point q late).view (late_point q late).addresses l
+late_mirrors q Nothing l h = h
+late_mirrors q (Leaves p x) l h = lines_keep q (moved q (line.Migration stage.Left p) q.kernel) l (line.Migration stage.Left p) tt h refl
+
+late_made : (m n : ℕ) (start q : Point) (late : Late) → MadeHere m n start q → MadeHere m n start (late_point q late)
+late_made m n start q Nothing h = h
+late_made m n start q (Leaves p x) h = record { more = h.more; fresh = h.fresh }
+
+headed_whole : (head : Line) (ls : List Line) (v y group : Spelled) → rule.behind ls v ≡ y → headed head y ≡ group → headed head (rule.behind ls v) ≡ group
+headed_whole head ls v y group e f = ap (headed head) e ∙ f
+
+-- a directive that machine m acts on, with what its kernel does
+pub record Acting (b : Boot) (w : WorldState) (pt : Point) (m : ℕ) (d : Step) (o : Option machine.Turned) (a : About) : Type 0 where
+  pub head : after_line pt (line.Head d) ≡ Some (record pt { view = begins pt.view m a })
+  pub happens : world_step b w d ≡ turned w d m (node.turns (w.nodes m) o)
+
+module _ (b : Boot) (w : WorldState) (pt : Point) (l : Placed) (h : History) (m : ℕ) (d : Step) (o : Option machine.Turned) (a : About) (e : Acting b w pt m d o a) (run : Run b pt) (stands : StandsWith b w pt l h) (sent : CountsStand w pt) (below : m < pt.kernel.machines)
+    (t : Turns b m d o pt (record pt { view = begins pt.view m a }) l (λ n. (w.nodes n).kernel.records) (w.nodes m).kernel)
+    (lawful : IsLawfulTurned (record { state = t.state; parts = map part.Says t.says ++ map part_of t.routes ++ late_parts t.late }))
+    (group : Spelled) (due : group_of b pt d ≡ Some group) (ends : Run b group.point) where
+  abbrev start : Point
+  start = record pt { view = begins pt.view m a }
+
+  abbrev rest : List rule.Part
+  rest = map rule_part_of t.routes ++ late_rule_parts t.late
+
+  abbrev head : Line
+  head = line.Head d
+
+  outcome_is : outcome b pt d ≡ Some (map rule.Says t.says ++ rest)
+  outcome_is = t.outcome ∙ ap (λ (ps : List rule.Part). Some ps) (append_assoc (map rule.Says t.says) (map rule_part_of t.routes) (late_rule_parts t.late))
+
+  abbrev sends : List Part
+  sends = map part_of t.routes ++ late_parts t.late
+
+  parts_are : (map part.Says t.says ++ map part_of t.routes) ++ late_parts t.late ≡ map part.Says t.says ++ sends
+  parts_are = append_assoc (map part.Says t.says) (map part_of t.routes) (late_parts t.late)
+
+  spells : (v : Spelled) × (spelled t.next rest ≡ Some v) × (headed head (rule.behind t.says v) ≡ group)
+  spells =
+      let f : bind (spelled start (map rule.Says t.says ++ rest)) (λ (y : Spelled). Some (headed head y)) ≡ Some group =
+      sym (ap (λ (p : Option (List rule.Part)). bind p (λ (ps : List rule.Part). bind (after_line pt head) (λ (n : Point). bind (spelled n ps) (λ (y : Spelled). Some (headed head y))))) outcome_is
+      ∙ ap (λ (p : Option Point). bind p (λ (n : Point). bind (spelled n (map rule.Says t.says ++ rest)) (λ (y : Spelled). Some (headed head y)))) e.head) ∙ due in
+      let (y, is, last) = bind-is (spelled start (map rule.Says t.says ++ rest)) (λ (y : Spelled). Some (headed head y)) group f in
+      let g : headed head y ≡ group = cc in
+      let (v, on, whole) = says_rest t.says start t.next rest y is t.after in
+      (v, on, headed_whole head t.says v y group whole g)
+
+  abbrev v : Spelled
+  v = spells.0
+
+  end_point : v.point ≡ group.point
+  end_point = ap (λ (y : Spelled). y.point) spells.2
+
+  sayable : AllSayable (map rule.Says t.says ++ rest)
+  sayable = outcome_sayable b pt d (map rule.Says t.says ++ rest) outcome_is
+
+  abbrev begun : WorldState
+  begun = record w { groups = w.groups + 1 }
+
+  abbrev world : WorldState
+  world = with_turned begun m t.state
+
+  stood : StandsWith b world (late_point t.next t.late) t.placed h
+  stood =
+      turned_stands b begun start (late_point t.next t.late) l t.placed h m t.state (stands_begins b w pt l h m a stands) below
+      (λ i apart. late_made m i start t.next t.late (made_here b pt start t.next t.says m i run refl refl t.after)) t.elsewhere (late_mirrors t.next t.late t.placed t.mirrors) t.kernel lawful.state t.own t.tokens
+
+  parts_lawful : AreLawful t.routes × IsLawfulLate t.late
+  parts_lawful =
+      let k = routes_lawful t.routes (late_parts t.late) (said_lawful t.says sends (subst (λ (ps : List Part). All IsLawfulPart ps) parts_are lawful.parts.each)) in
+      (k.0, late_lawful t.late k.1)
+
+  pair_is : (c n : ℕ) → t.next.view.pair c n ≡ pt.view.pair c n
+  pair_is c n = ap (λ (f : ℕ → ℕ → Pair). f c n) (sym (late_pair t.next t.late)) ∙ t.elsewhere.pair c n
+
+  pairs_fit : PairsFit t.next.view
+  pairs_fit =
+      let k = fits pt.view run.based.phased.pairs in
+      record {
+        within = λ c n. subst (λ (p : Pair). p.taken ≤ length p.ids) (sym (pair_is c n)) (k.within c n);
+        home = λ c. subst (λ (p : Pair). p.taken ≡ length p.ids) (sym (pair_is c c)) (k.home c);
+      }
+
+  going : Going b world t.next t.placed h m (at_machine (λ (n : ℕ). (w.nodes n).kernel.records) m t.state.records) t.routes t.late v
+  going = record {
+    stands = stood;
+    here = subst (λ (n : ℕ). m < n) (sym (ap (λ (s : OneKernel). s.machines) (sym (late_kernel t.next t.late)) ∙ t.elsewhere.machines)) below;
+    acting = sym (late_acting t.next t.late) ∙ t.elsewhere.acting;
+    lawful = parts_lawful.0;
+    late_lawful = parts_lawful.1;
+    sane = late_sane t.next t.late (says_sane t.says start t.next rest sayable t.after (sane_line pt start head refl e.head run.based.phased.sane));
+    fits = pairs_fit;
+    may = t.may;
+    late_may = t.late_may;
+    same = λ n. turned_records begun m t.state n;
+    single = t.single;
+    topic = t.topic;
+    due = spells.1;
+    within = λ i z st. subst (λ (p : Point). machine_of z < p.kernel.machines) (sym end_point) (stands_within b group.point ends i z (subst (λ (p : Point). 1 ≤ standing p.view i z) end_point st));
+    sent = ap (λ (n : NodeState). n.kernel.sent) (turned_here begun m t.state) ∙ t.sent (sent m below);
+  }
+
+  -- what the machine does
+  does : (c : Acts) → acts (world.nodes m) (map part_of t.routes ++ late_parts t.late) ≡ c → world_step b w d ≡ turned w d m (Some (behind (map out.Says t.says) c))
+  does c is =
+      e.happens
+      ∙ ap (λ (p : Option machine.Turned). turned w d m (node.turns (w.nodes m) p)) (t.turn ∙ ap (λ (ps : List Part). Some (record { state = t.state; parts = ps })) parts_are)
+      ∙ ap (λ (x : Acts). turned w d m (Some x)) (acts_say (with_kernel (w.nodes m) t.state) t.says (map part_of t.routes ++ late_parts t.late))
+      ∙ ap (λ (x : Acts). turned w d m (Some (behind (map out.Says t.says) x))) (ap (λ (n : NodeState). acts n (map part_of t.routes ++ late_parts t.late)) (sym (turned_here begun m t.state)) ∙ is)
+
+  goes : RoutesOn b world t.next m t.routes t.late v → GoesOn b w pt d
+  goes k =
+      let gave : spoken w.wires (map out.Says t.says ++ k.acted.outs) ≡ record { lines = t.says ++ (spoken w.wires k.acted.outs).lines; wires = (spoken w.wires k.acted.outs).wires } = spoken_says w.wires t.says k.acted.outs in
+      record {
+        said = acted w d m (record { state = k.acted.state; outs = map out.Says t.says ++ k.acted.outs });
+        happens = does (Goes k.acted) k.goes;
+        group = group;
+        due = due;
+        lines = ap (λ (s : Spoken). head ∷ s.lines) gave ∙ ap (λ (ls : List Line). head ∷ t.says ++ ls) k.spoken ∙ ap (λ (y : Spelled). y.lines) spells.2;
+        stands = (
+          (
+            k.placed,
+            k.history,
+            subst (λ (p : Point). StandsWith b (record { nodes = at_machine w.nodes m k.acted.state; wires = (spoken w.wires (map out.Says t.says ++ k.acted.outs)).wires; groups = w.groups + 1 }) p k.placed k.history) end_point
+                (subst (λ (u : WorldState). StandsWith b u v.point k.placed k.history)
+                (λ i. record { nodes = at_again w.nodes m (with_kernel (w.nodes m) t.state) k.acted.state i; wires = (sym gave i).wires; groups = w.groups + 1 }) k.stands),
+          ),
+          λ n few. elim (cases_Bool (m == n)) [
+            | inl same ↦
+                subst (λ (j : ℕ). (at_machine w.nodes m k.acted.state j).kernel.sent ≡ group.point.view.count j) (eqb-true m n same)
+                (ap (λ (z : NodeState). z.kernel.sent) (at_here w.nodes m k.acted.state) ∙ k.sent ∙ ap (λ (p : Point). p.view.count m) end_point)
+            | inr off ↦
+                ap (λ (z : NodeState). z.kernel.sent) (at_other w.nodes m k.acted.state n off) ∙ sent n (machines_are n few)
+                ∙ sym (t.elsewhere.count n) ∙ ap (λ (f : ℕ → ℕ). f n) (late_count t.next t.late)
+                ∙ sym (k.counts n off) ∙ ap (λ (p : Point). p.view.count n) end_point
+          ],
+        );
+      }
+    where
+      machines_are : (n : ℕ) → n < group.point.kernel.machines → n < pt.kernel.machines
+      machines_are n few = subst (λ (j : ℕ). n < j) (ends.based.machines ∙ sym run.based.machines) few
+
+  head_is : moved pt head pt.kernel ≡ start
+  head_is = let f : Some (moved pt head pt.kernel) ≡ Some start = e.head in cc
+
+  wears : RoutesWorn b world t.next m t.routes t.late v → StopsWorn b w pt d
+  wears k = record {
+    from = k.from;
+    to = k.to;
+    happens = does (Worn k.from k.to) k.worn;
+    worn = record {
+      group = group;
+      due = due;
+      first =
+          ap (worn_in b.numbers pt.view) (ap (λ (y : Spelled). y.lines) (sym spells.2))
+          ∙ ap (λ (p : Point). worn_in b.numbers p.view (t.says ++ v.lines)) head_is
+          ∙ worn_behind b.numbers t.says start t.next v.lines rest sayable t.after
+          ∙ k.first;
+    };
+  }
+
+  pub turn_steps : Steps b w pt d
+  turn_steps = elim (routes_go b world t.next t.placed h m (at_machine (λ (n : ℕ). (w.nodes n).kernel.records) m t.state.records) t.routes t.late v going) as (λ z. Steps b w pt d) [
+    | inl k ↦ inl (goes k)
+    | inr k ↦ inr (wears k)
+  ]
