@@ -21,7 +21,7 @@ use Rattle.dm_schedule.specs.declared.Step.TheVariants as step
 use Rattle.dm_kernel.specs.State.{KernelState}
 use Rattle.dm_rule.specs.Laws.{Leads}
 use Rattle.dm_rule.specs.Point.{Point, first_point}
-use Rattle.dm_rulelaws.proofs.RunsAlways.{run_always, run_group}
+use Rattle.dm_rulelaws.proofs.RunsAlways.{run_always, run_group, run_start}
 use Rattle.dm_placed.specs.Placed.{Placed, Mirrors}
 use Rattle.dm_world.specs.May.{MayStep}
 use Rattle.dm_world.specs.Whole.{AreWhole}
@@ -32,6 +32,7 @@ use Rattle.dm_mirror.specs.Run.{Steps}
 use Rattle.dm_mirror.specs.Stands.{CountsStand, History, KernelStands, Stands, StandsWith}
 use Rattle.dm_mirror.specs.Tokens.{AllRecords}
 use Rattle.dm_mirror.proofs.ComeAll.{Around}
+use Rattle.dm_mirror.proofs.Counts.{counts_few}
 use Rattle.dm_mirror.proofs.Deliver.{OthersLawful, deliver_goes, may_deliver}
 use Rattle.dm_mirror.proofs.DeliverReadable.{reads_as}
 use Rattle.dm_mirror.proofs.EndMay.{FewAlways, end_may_by}
@@ -113,7 +114,7 @@ move_stands b es w pt p m valid leads ((l, h, st), sent) lt may =
       counted = sent 0 first;
     }))
 
-pub steps_stand_by : FewAlways → TablesAlways → StepsStand
+steps_stand_by : FewAlways → TablesAlways → StepsStand
 steps_stand_by fews tables b es w pt (step.Turn m) valid leads stands able readable lt =
     let both = run_always b es pt valid leads in
     let counts = fews b es pt valid leads stands.0.2.counts in
@@ -135,6 +136,12 @@ steps_stand_by fews tables b es w pt (step.Migrate p m) valid leads stands able 
     let counts = fews b es pt valid leads stands.0.2.counts in
     let may = may_step_migrate b es w pt p m valid leads counts stands able lt in
     (may, λ whole. move_stands b es w pt p m valid leads stands lt may)
+
+few_always : FewAlways
+few_always b es pt valid leads counts = counts_few run_start run_group b es pt valid leads (run_always b es pt valid leads).run counts
+
+pub end_may : EndMay
+end_may = end_may_by few_always
 
 pub end_is_said : EndIsSaid
 end_is_said = end_is_said_by (λ b es pt valid leads. (run_always b es pt valid leads).run)

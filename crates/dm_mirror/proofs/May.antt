@@ -48,6 +48,8 @@ use Rattle.dm_world.specs.May.{MayDeliver, MayRead, MayStep}
 use Rattle.dm_mirror.specs.Able.{AllMayAct}
 use Rattle.dm_mirror.specs.Made.{MadeStands}
 use Rattle.dm_mirror.specs.Stands.{CountsStand, History, Stands, StandsWith, servers_at}
+use Rattle.dm_rulelaws.proofs.GoesRuns.{RunGoes, RunStarts}
+use Rattle.dm_mirror.proofs.Counts.{counts_few}
 use Rattle.dm_mirror.proofs.CountsFew.{CountsFew}
 use Rattle.dm_mirror.proofs.Machines.{few_machines, machines_are, some_machine}
 use Rattle.dm_mirror.proofs.Made.{made_always}
@@ -67,6 +69,10 @@ stand_of b w pt l h m run told made counts st sent within = record {
   within = within;
   sent = sent m within;
 }
+
+-- no count is too great where the world stands
+pub counts_of : RunStarts → RunGoes → (b : Boot) (es : List Step) (w : WorldState) (pt : Point) → IsValid b → Leads b (first_point b) es pt → Run b pt → Stands b w pt → CountsFew pt
+counts_of starts goes b es w pt valid leads run ((l, h, st), sent) = counts_few starts goes b es pt valid leads run st.counts
 
 -- a turn
 pub may_turn : (b : Boot) (es : List Step) (w : WorldState) (pt : Point) (m : ℕ) → IsValid b → Leads b (first_point b) es pt → Run b pt → OwnTold pt → CountsFew pt → Stands b w pt → AllMayAct b w → m < length b.machines → MayTurn b (w.nodes m) × IsLawfulState (w.nodes m).kernel

@@ -1,9 +1,8 @@
 -- A kernel's own message at the front of another kernel's inbox is one that this kernel can handle: a process is leaving or
 -- coming, and the message carries what is asked for.
-use Rattle.std.proofs.Common.{◌≡◌, ◌≢◌, ◌⊎◌, inl, inr, ℕ, ◌+◌, ◌*◌, ◌/◌, ◌<◌, ◌≤◌, ◌==◌, ◌&&◌, ◌||◌, not, Bool, true, false, List, [], ◌∷◌, length, map, refl, ap, ◌∙◌, sym, subst, arith}
-use Rattle.std.specs.Prelude.{if◌then◌else◌, IsSome}
+use Rattle.std.proofs.Common.{◌≡◌, ◌⊎◌, inl, inr, ℕ, ◌*◌, ◌/◌, ◌≤◌, ◌==◌, ◌&&◌, not, Bool, true, false, List, length, refl, ap, ◌∙◌, sym, subst, arith}
+use Rattle.std.specs.Prelude.{if◌then◌else◌}
 use Rattle.std.proofs.lemmas.List.{length-map}
-use Rattle.std.specs.List.{All}
 use Rattle.std.specs.declared.option.Option.{Option}
 use Rattle.std.specs.declared.option.Option.TheVariants.{None, Some}
 use Rattle.std.proofs.lemmas.Bool.{false≢true}
@@ -13,7 +12,6 @@ use Rattle.dm_link.specs.declared.Pid.{Pid}
 use Rattle.dm_message.specs.declared.Message.{Message}
 use Rattle.dm_message.specs.declared.MsgId.{MsgId}
 use Rattle.dm_message.specs.declared.What.{What}
-use Rattle.dm_message.specs.declared.What.TheVariants as what
 use Rattle.dm_message.specs.declared.kind.MessageKind.{MessageKind}
 use Rattle.dm_message.specs.declared.kind.MessageKind.TheVariants as kind
 use Rattle.dm_message.specs.Kinds.{kind_of}
@@ -22,35 +20,27 @@ use Rattle.dm_process.specs.declared.process.Process.{Process}
 use Rattle.dm_process.specs.Lawful.{IsLawfulProcess}
 use Rattle.dm_forward.specs.declared.record.Record.TheVariants as record_
 use Rattle.dm_forward.specs.Records.{frozen_of, incoming_of}
-use Rattle.dm_migrate.specs.declared.arriving.Wanted.TheVariants.{Chunk, Block, Nothing}
 use Rattle.dm_migrate.specs.declared.arriving.Wanted.{Wanted}
 use Rattle.dm_migrate.specs.Answer.{IsAskOfProcess}
-use Rattle.dm_migrate.specs.Arrival.{Arrival, IsNextPiece}
+use Rattle.dm_migrate.specs.Arrival.{Arrival}
 use Rattle.dm_migrate.specs.Departure.{CanMove, Departure, ask_of}
 use Rattle.dm_migrate.specs.Pieces.{HasBlock, HasChunk, state_of}
-use Rattle.dm_migrate.specs.Way.{coming, moved}
-use Rattle.dm_migrate.proofs.Way.{by_pieces}
+use Rattle.dm_migrate.specs.Way.{moved}
 use Rattle.dm_onekernel.specs.declared.boot.Boot.{Boot}
 use Rattle.dm_rule.specs.Phases.{Phase, Moves, comes, is_apart, is_away, is_between, is_early, is_of_source, is_restart, knows, leaves, receiver_in, sender_in, told_between}
 use Rattle.dm_rule.specs.Point.{Point}
-use Rattle.dm_rule.specs.Rule.{takes_room}
-use Rattle.dm_rule.specs.Spots.{Spot, Inbox, Untaken, standing}
+use Rattle.dm_rule.specs.Spots.{Inbox, Untaken, standing}
 use Rattle.dm_rule.specs.View.{View, Known, Unknown, Here, Frozen, Incoming, Forward, Ended, Of, Told}
 use Rattle.dm_rule.proofs.PhasesStand.{token_at, token_is}
 use Rattle.dm_rulelaws.specs.Fits.{is_server}
-use Rattle.dm_rulelaws.specs.KnownStands as lines
-use Rattle.dm_rulelaws.proofs.OwnTold.{own_sort}
 use Rattle.dm_rulelaws.proofs.Runs.{Run}
-use Rattle.dm_placed.specs.Placed.{Placed, Mirrors}
-use Rattle.dm_kernel.specs.May.{FitsKernel, IsSuch, MayLeave, MayRestart}
+use Rattle.dm_placed.specs.Placed.{Placed}
+use Rattle.dm_kernel.specs.May.{IsSuch}
 use Rattle.dm_kernel.specs.State as machine
 use Rattle.dm_kernel.specs.State.{KernelState}
-use Rattle.dm_mirror.specs.Made.{MadeStands}
-use Rattle.dm_mirror.specs.Own.{about_of, told_of}
+use Rattle.dm_mirror.specs.Own.{about_of}
 use Rattle.dm_mirror.specs.Stands.{AreMessages, ComesStand, KernelStands, KnownStands, LeavesStand}
-use Rattle.dm_mirror.specs.Tokens.{AllRecords, Carries, TokensStand, Wants, destination_of}
-use Rattle.dm_mirror.proofs.CountsFew.{CountsFew}
-use Rattle.dm_mirror.proofs.MayHave.{has_taken, life_is}
+use Rattle.dm_mirror.specs.Tokens.{Carries, TokensStand, Wants, destination_of}
 use Rattle.dm_mirror.proofs.MayOwn.{OwnFront}
 use Rattle.dm_mirror.proofs.Turning.{is_moving}
 
@@ -89,7 +79,7 @@ kind_in (Some t) = t.kind
 about_same : (p q : Pid) → Of p ≡ Of q → p ≡ q
 about_same p q e = cc
 
-is_moved : (b : Boot) (pt : Point) (m : ℕ) (i : MsgId) (t : Told) (p : Pid) → Run b pt → pt.view.told i ≡ Some t → is_between t.kind ≡ true → t.about ≡ Of p → 1 ≤ standing pt.view i (Inbox m) → IsMoved pt m p t.kind
+pub is_moved : (b : Boot) (pt : Point) (m : ℕ) (i : MsgId) (t : Told) (p : Pid) → Run b pt → pt.view.told i ≡ Some t → is_between t.kind ≡ true → t.about ≡ Of p → 1 ≤ standing pt.view i (Inbox m) → IsMoved pt m p t.kind
 is_moved b pt m i t p run told between about first =
     let v = pt.view in
     let h = run.based.phased.phases in

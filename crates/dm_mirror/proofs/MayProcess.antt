@@ -1,7 +1,6 @@
 -- A message for a process, where the process is here or has ended here: a piece lies in its memory, an answer is the one that it
 -- waits for.
-use Rattle.std.proofs.Common.{◌≡◌, ℕ, ◌+◌, ◌<◌, ◌≤◌, ◌==◌, ◌||◌, Bool, true, false, List, length, refl, ap, ◌∙◌, sym, subst, is_some, arith}
-use Rattle.std.specs.Prelude.{if◌then◌else◌}
+use Rattle.std.proofs.Common.{◌≡◌, ℕ, ◌+◌, ◌<◌, ◌≤◌, ◌==◌, ◌||◌, Bool, true, false, List, length, refl, ap, ◌∙◌, sym, subst, arith}
 use Rattle.std.specs.declared.option.Option.{Option}
 use Rattle.std.specs.declared.option.Option.TheVariants.{None, Some}
 use Rattle.std.proofs.lemmas.Bool.{false≢true}
@@ -21,9 +20,8 @@ use Rattle.dm_forward.specs.declared.record.Record.TheVariants as record_
 use Rattle.dm_datamove.specs.Landing.{IsAnswerOf, IsAwaited}
 use Rattle.dm_datamove.specs.Serving.{IsWithin}
 use Rattle.dm_onekernel.specs.declared.boot.Boot.{Boot}
-use Rattle.dm_onekernel.specs.declared.label.Why.{Why}
 use Rattle.dm_onekernel.specs.Boot.{manager}
-use Rattle.dm_onekernel.specs.Kernel.{Life, Alive, Ended}
+use Rattle.dm_onekernel.specs.Kernel.{Life, Alive}
 use Rattle.dm_onekernel.specs.Pieces.{piece_of}
 use Rattle.dm_onekernel.specs.Plain.{plain_process, plain_status}
 use Rattle.dm_laws.proofs.Equal.{pid_eq-same}
@@ -32,8 +30,6 @@ use Rattle.dm_rule.specs.View.{Known}
 use Rattle.dm_rule.specs.View as view
 use Rattle.dm_rulelaws.specs.Fits.{WhatFits, awaits, has_bytes, is_server, piece_fits, status_awaits}
 use Rattle.dm_rulelaws.proofs.FitsRises.{both}
-use Rattle.dm_rulelaws.specs.Found.{is_fixed}
-use Rattle.dm_rulelaws.proofs.Runs.{Run}
 use Rattle.dm_placed.specs.Placed.{Placed, Mirrors}
 use Rattle.dm_placed.proofs.Whats.{block_what, gone_what, kill_what, read_what, resume_what, stop_what, user_what, write_what, written_what}
 use Rattle.dm_kernel.specs.May.{FitsEnded, FitsHere, FitsKnown}

@@ -223,7 +223,7 @@ sum_few zero f few le = omega arith
 sum_few (suc n) f few le = let h = sum_few n f (omega (arith, few)) le in let k = le n in omega (arith, h, k)
 
 -- all that was routed between the first n machines
-abbrev from_one : View → ℕ → ℕ → ℕ
+abbrev pub from_one : View → ℕ → ℕ → ℕ
 from_one v n a = sum_to n (ids_of v a)
 
 abbrev pub total : View → ℕ → ℕ

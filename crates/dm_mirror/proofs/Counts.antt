@@ -1,0 +1,193 @@
+-- No count is too great: each is at most what the boot file has, and one for each message that was routed.
+use Rattle.std.proofs.Common.{◌≡◌, inl, inr, ℕ, ◌+◌, ◌<◌, ◌≤◌, true, List, [], ◌∷◌, length, nat_le, refl, ap, ◌∙◌, sym, subst, arith}
+use Rattle.std.specs.declared.option.Option.TheVariants.{Some}
+use Rattle.std.proofs.lemmas.Bool.Decides.{nat_tests}
+use Rattle.dm_link.specs.declared.Pid.{Pid}
+use Rattle.dm_onekernel.specs.declared.boot.Boot.{Boot}
+use Rattle.dm_onekernel.specs.Boot.{IsValid}
+use Rattle.dm_onekernel.specs.Kernel.{OneKernel, Pending}
+use Rattle.dm_schedule.specs.declared.Step.{Step}
+use Rattle.dm_schedule.specs.declared.Step.TheVariants as step
+use Rattle.dm_rule.specs.declared.line.Line.TheVariants as line
+use Rattle.dm_rule.specs.declared.line.Stage.TheVariants as stage
+use Rattle.dm_rule.specs.Homes.{ascends}
+use Rattle.dm_rule.specs.Laws.{IsStep, Leads}
+use Rattle.dm_rule.specs.Parts.{Part, Says, Spelled, spelled}
+use Rattle.dm_rule.specs.Point.{Point, first_point, moved}
+use Rattle.dm_rule.specs.Rule.{group_of}
+use Rattle.dm_rule.specs.Sets.{at_pid, at_record}
+use Rattle.dm_rule.specs.View.{View, actor, view_after}
+use Rattle.dm_rule.specs.View as view
+use Rattle.dm_rule.proofs.Groups.{GroupIs, group_is}
+use Rattle.dm_rule.proofs.States.{said, says_next}
+use Rattle.dm_rulelaws.proofs.FitsRises.{both}
+use Rattle.dm_rulelaws.proofs.GoesRuns.{Both, RunGoes, RunStarts, both_group, both_start}
+use Rattle.dm_rulelaws.proofs.Runs.{Run}
+use Rattle.dm_mirror.proofs.CountsEnds.{BearEnds, Ends, PutsOne, Under, bear_ends, ends, ends_before, own_puts, under_more}
+use Rattle.dm_mirror.proofs.CountsFew.{CountsFew}
+use Rattle.dm_mirror.proofs.CountsMoves.{MovesFew, moves_put, moves_restart, moves_still, puts_total}
+use Rattle.dm_mirror.proofs.CountsOwn.{OwnFew, PairsWithin, own_group}
+use Rattle.dm_mirror.proofs.CountsPairs.{within_group}
+use Rattle.dm_mirror.proofs.CountsSorts.{Bears, FrontRestarts, Pays, Restarts, Sort, SortIf, outcome_sort}
+use Rattle.dm_mirror.proofs.CountsStart.{first_count, moves_start, own_start, pairs_start, under_start}
+use Rattle.dm_mirror.proofs.CountsStill.{line_still}
+use Rattle.dm_mirror.proofs.CountsWaiting.{Routed, routed_group, routed_start, waiting_few}
+use Rattle.dm_mirror.proofs.Machines.{few_machines, machines_group, some_machine}
+use Rattle.dm_mirror.proofs.Raises.{sent_of}
+use Rattle.dm_mirror.proofs.Totals.{Grows, grows_on, line_grows, total, total_grows, total_most}
+
+-- what the counts of a run are below
+pub record Few (n : ℕ) (pt : Point) : Type 0 where
+  pub within : PairsWithin n pt.view
+  pub own : OwnFew n pt.view
+  pub under : Under (first_count + total pt.view n) pt.kernel
+  pub moves : MovesFew n pt.view
+  pub routed : Routed pt.view
+
+-- of which a group's parts say these
+record Rises (n : ℕ) (pt : Point) : Type 0 where
+  under : Under (first_count + total pt.view n) pt.kernel
+  moves : MovesFew n pt.view
+
+paid_rises : (n : ℕ) (pt end : Point) → PairsWithin n end.view → Ends (first_count + total pt.view n) pt end → MovesFew n pt.view → Rises n end
+paid_rises n pt end within h moves =
+    let more = total_grows pt.view end.view n h.grows in
+    record {
+      under = elim h.under [
+        | inl u ↦ under_more (first_count + total pt.view n) (first_count + total end.view n) end.kernel (omega (arith, more)) u
+        | inr u ↦
+            let adds = puts_total n pt.view end.view h.grows u.1 within in
+            under_more (first_count + total pt.view n + 1) (first_count + total end.view n) end.kernel (omega (arith, adds)) u.0
+      ];
+      moves = moves_still n pt.view end.view h.grows h.still moves;
+    }
+
+own_rises : (n : ℕ) (pt start end : Point) → start.kernel ≡ pt.kernel → Grows pt.view start.view → start.view.moves ≡ pt.view.moves → BearEnds start end → PutsOne start.view end.view → PairsWithin n end.view → Under (first_count + total pt.view n) pt.kernel → MovesFew n pt.view → Rises n end
+own_rises n pt start end kernel grows same h puts within under moves =
+    let first = total_grows pt.view start.view n grows in
+    let adds = puts_total n start.view end.view h.grows puts within in
+    record {
+      under = under_more (first_count + total pt.view n) (first_count + total end.view n) end.kernel (omega (arith, first, adds)) (subst (Under (first_count + total pt.view n)) (sym (h.kernel ∙ kernel)) under);
+      moves = moves_put n pt.view end.view (omega (arith, first, adds)) (h.moves ∙ same) moves;
+    }
+
+restart_rises : (b : Boot) (n m : ℕ) (pt end : Point) (p : Pid) → Run b pt → Run b end → FrontRestarts pt m p → end.kernel ≡ pt.kernel → Grows pt.view end.view → end.view.moves ≡ at_pid pt.view.moves p (pt.view.moves p + 1) → end.view.known ≡ at_record pt.view.known m p view.Here
+    → Under (first_count + total pt.view n) pt.kernel → MovesFew n pt.view → Rises n end
+restart_rises b n m pt end p run after f kernel grows moves known under few =
+    let more = total_grows pt.view end.view n grows in
+    record {
+      under = under_more (first_count + total pt.view n) (first_count + total end.view n) end.kernel (omega (arith, more)) (subst (Under (first_count + total pt.view n)) (sym kernel) under);
+      moves = moves_restart b pt m n p end.view run f more moves known after.based.phased.phases few;
+    }
+
+-- behind the head
+abbrev begun : Point → Step → Point
+begun pt d = moved pt (line.Head d) pt.kernel
+
+head_moves : (pt : Point) (d : Step) → (begun pt d).view.moves ≡ pt.view.moves
+head_moves pt d = (line_still pt.view (line.Head d) refl).moves
+
+head_known : (v : View) (d : Step) → (view_after v (line.Head d)).known ≡ v.known
+head_known v (step.Turn m) = refl
+head_known v (step.Tick m) = refl
+head_known v (step.Deliver a c k) = refl
+head_known v (step.Migrate p m) = refl
+
+head_acting : (v : View) (d : Step) → (view_after v (line.Head d)).acting ≡ actor d
+head_acting v (step.Turn m) = refl
+head_acting v (step.Tick m) = refl
+head_acting v (step.Deliver a c k) = refl
+head_acting v (step.Migrate p m) = refl
+
+-- what a machine says of a process that restarts
+record Restarted (u : View) (p : Pid) (end : Point) (kernel : OneKernel) : Type 0 where
+  same : end.kernel ≡ kernel
+  view_is : end.view ≡ view_after u (line.Migration stage.Restarted p)
+
+restarted : (start : Point) (p : Pid) (ps : List Part) (w : Spelled) → ps ≡ Says (line.Migration stage.Restarted p) ∷ [] → spelled start ps ≡ Some w → Restarted start.view p w.point start.kernel
+restarted start p ps w is e =
+    let l = line.Migration stage.Restarted p in
+    let k = says_next start l [] w (ap (spelled start) (sym is) ∙ e) in
+    let same : k.s ≡ start.kernel = (let i : Some start.kernel ≡ Some k.s = k.is in cc) in
+    let end : moved start l k.s ≡ w.point = said (moved start l k.s) k.rest k.more ∙ k.point in
+    record { same = ap (λ (q : Point). q.kernel) (sym end) ∙ same; view_is = ap (λ (q : Point). q.view) (sym end) }
+
+rises : (b : Boot) (pt : Point) (d : Step) (w : Spelled) (n : ℕ) (g : GroupIs b pt d w) → Sort pt (actor d) g.parts → Run b pt → Run b w.point → PairsWithin n w.point.view → Under (first_count + total pt.view n) pt.kernel → MovesFew n pt.view → Rises n w.point
+rises b pt d w n g (Pays paid) run after within under moves =
+    let start = begun pt d in
+    let e = ends g.parts (first_count + total pt.view n) start g.rest g.said paid under in
+    paid_rises n pt w.point within (subst (Ends (first_count + total pt.view n) pt) g.point (ends_before (first_count + total pt.view n) pt start g.rest.point (line_grows pt.view (line.Head d)) (line_still pt.view (line.Head d) refl) e)) moves
+rises b pt d w n g (Bears all own) run after within under moves =
+    let start = begun pt d in
+    own_rises n pt start w.point refl (line_grows pt.view (line.Head d)) (head_moves pt d) (subst (BearEnds start) g.point (bear_ends g.parts start g.rest g.said all)) (subst (λ (q : Point). PutsOne start.view q.view) g.point (own_puts g.parts start g.rest g.said all own)) within under moves
+rises b pt d w n g (Restarts p front is) run after within under moves =
+    let start = begun pt d in
+    let l = line.Migration stage.Restarted p in
+    let r = restarted start p g.parts g.rest is g.said in
+    let end : w.point.view ≡ view_after start.view l = ap (λ (q : Point). q.view) (sym g.point) ∙ r.view_is in
+    let grows : Grows pt.view w.point.view = subst (Grows pt.view) (sym end) (grows_on pt.view start.view (view_after start.view l) (line_grows pt.view (line.Head d)) (line_grows start.view l)) in
+    restart_rises b n (actor d) pt w.point p run after front (ap (λ (q : Point). q.kernel) (sym g.point) ∙ r.same) grows
+    (ap (λ (v : View). v.moves) end ∙ ap (λ (f : Pid → ℕ). at_pid f p (f p + 1)) (head_moves pt d))
+    (ap (λ (v : View). v.known) end ∙ ap (λ (m : ℕ). at_record start.view.known m p view.Here) (head_acting pt.view d) ∙ ap (λ f. at_record f (actor d) p view.Here) (head_known pt.view d)) under moves
+
+-- each group
+few_group : (b : Boot) (pt : Point) (d : Step) (w : Spelled) (n : ℕ) → 0 < n → pt.kernel.machines ≡ n → IsStep n d → group_of b pt d ≡ Some w → Run b pt → Run b w.point → Few n pt → Few n w.point
+few_group b pt d w n some machines fit is run after h =
+    let g = group_is b pt d w is in
+    let within = within_group b pt d w n some machines (machines_group b pt d w is ∙ machines) fit is run.based.phased.pairs after h.within in
+    let r = rises b pt d w n g (subst (SortIf pt (actor d)) g.is (outcome_sort b pt d)) run after within h.under h.moves in
+    record { within = within; own = own_group n b pt d w is h.own; under = r.under; moves = r.moves; routed = routed_group b pt d w is h.routed }
+
+few_start : (b : Boot) (n : ℕ) → IsValid b → Few n (first_point b)
+few_start b n valid = record { within = pairs_start b n; own = own_start b n; under = under_start b n valid; moves = moves_start b n; routed = routed_start b }
+
+few_on : RunGoes → (b : Boot) (es : List Step) (pt end : Point) (n : ℕ) → IsValid b → 0 < n → pt.kernel.machines ≡ n → Leads b pt es end → Both b pt → Few n pt → Few n end
+few_on goes b [] pt end n valid some machines leads both h = subst (Few n) leads h
+few_on goes b (d ∷ ds) pt end n valid some machines (w, fit, is, more) both h =
+    let next = both_group goes b pt d w valid fit is both in
+    few_on goes b ds w.point end n valid some (machines_group b pt d w is ∙ machines) more next (few_group b pt d w n some machines (subst (λ (k : ℕ). IsStep k d) machines fit) is both.run next.run h)
+
+pub few_always : RunStarts → RunGoes → (b : Boot) (es : List Step) (pt : Point) → IsValid b → Leads b (first_point b) es pt → Few (length b.machines) pt
+few_always starts goes b es pt valid leads =
+    let some = some_machine b valid in
+    few_on goes b es (first_point b) pt (length b.machines) valid (omega (arith, some)) refl leads (both_start starts b valid) (few_start b (length b.machines) valid)
+
+-- the manager's pending requests are among what it has sent
+pending_few : (from : ℕ) (rs : List Pending) (to : ℕ) → ascends from rs to ≡ true → from + length rs ≤ to
+pending_few from [] to e = grind (arith, nat_tests)
+pending_few from (r ∷ rs) to e =
+    let k = both (nat_le from r.n) (ascends (r.n + 1) rs to) e in
+    let le : from ≤ r.n = (let t = k.0 in grind (arith, nat_tests)) in
+    let rest = pending_few (r.n + 1) rs to k.1 in
+    omega (arith, le, rest)
+
+-- where no pair counts more messages than it may, no count is too great
+pub counts_by : (b : Boot) (pt : Point) → IsValid b → Run b pt → Few (length b.machines) pt → ((a c : ℕ) → length (pt.view.pair a c).ids ≤ b.numbers) → CountsFew pt
+counts_by b pt valid run h counts =
+    let n = length b.machines in
+    let under = h.under in
+    let few = few_machines b valid in
+    let numbers = valid.most_numbers in
+    let most : b.numbers ≤ 1048576 = grind (arith, nat_tests) in
+    let all = total_most pt.view n few (λ a c. let k = counts a c in omega (arith, k, most)) in
+    let board = under.board in
+    let manager = under.manager in
+    let children = under.children in
+    let names = under.names in
+    let pending = pending_few 0 pt.kernel.manager.pending pt.kernel.manager.sent run.based.pending in
+    record {
+      sent = λ p x is. let e : sent_of (pt.kernel.processes p) ≡ x.sent = ap sent_of is in let k = under.sent p in omega (arith, e, k, all);
+      board = omega (arith, board, all);
+      manager = omega (arith, manager, all);
+      children = omega (arith, children, all);
+      made = λ home. let k = under.made home in omega (arith, k, all);
+      names = omega (arith, names, all);
+      managed = omega (arith, children, pending, manager, all);
+      own = λ m. let k = h.own h.within m in omega (arith, k, all);
+      moves = λ p. let k = h.moves.moves p in omega (arith, k, all);
+      waiting = λ m p. let k = waiting_few b pt n run h.within h.routed m p in omega (arith, k, all);
+    }
+
+-- wherever the rule leads
+pub counts_few : RunStarts → RunGoes → (b : Boot) (es : List Step) (pt : Point) → IsValid b → Leads b (first_point b) es pt → Run b pt → ((a c : ℕ) → length (pt.view.pair a c).ids ≤ b.numbers) → CountsFew pt
+counts_few starts goes b es pt valid leads run counts = counts_by b pt valid run (few_always starts goes b es pt valid leads) counts
