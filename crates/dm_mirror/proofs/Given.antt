@@ -22,6 +22,7 @@ use Rattle.dm_kernel.specs.State.{KernelState}
 use Rattle.dm_rule.specs.Laws.{Leads}
 use Rattle.dm_rule.specs.Point.{Point, first_point}
 use Rattle.dm_rulelaws.proofs.RunsAlways.{run_always, run_group, run_start}
+use Rattle.dm_rulelaws.proofs.TablesAlways.{format_always, tables_always}
 use Rattle.dm_placed.specs.Placed.{Placed, Mirrors}
 use Rattle.dm_world.specs.May.{MayStep}
 use Rattle.dm_world.specs.Whole.{AreWhole}
@@ -139,6 +140,15 @@ steps_stand_by fews tables b es w pt (step.Migrate p m) valid leads stands able 
 
 few_always : FewAlways
 few_always b es pt valid leads counts = counts_few run_start run_group b es pt valid leads (run_always b es pt valid leads).run counts
+
+tables_all : TablesAlways
+tables_all b es pt p x valid leads there = (tables_always b es pt valid leads).slots p x there ∙ ap slots_of (format_always b es pt valid leads)
+
+pub steps_stand : StepsStand
+steps_stand = steps_stand_by few_always tables_all
+
+pub run_goes_on : RunGoesOn
+run_goes_on = run_goes_on_by steps_stand
 
 pub end_may : EndMay
 end_may = end_may_by few_always

@@ -7,6 +7,10 @@ pub mod FitsServes
 pub mod FitsCreates
 pub mod FitsServers
 pub mod FitsStart
+pub mod Tables
+pub mod TablesCalls
+pub mod TablesSteps
+pub mod TablesServers
 pub mod FoundSteps
 pub mod FoundMade
 pub mod FoundSpares
@@ -63,3 +67,4 @@ pub mod GoesRuns
 pub mod OrderFinds
 pub mod OrderAlways
 pub mod RunsAlways
+pub mod TablesAlways

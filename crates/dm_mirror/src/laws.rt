@@ -1,0 +1,60 @@
+//! What holds of every run of the machines and their wires, whoever runs them.
+ghost use Rattle.dm_mirror.specs.Local.{ActsLocally, ReadsLocally, NothingComes};
+ghost use Rattle.dm_mirror.specs.Laws.{StartStands, StepsStand, NextIsSaid, EndIsSaid, EndMay, RunBegins, RunGoesOn};
+
+/// The machines as the boot file has them, with empty wires, stand for the point where printed lines begin.
+pub fn start_stands()
+    ensures { StartStands }
+{}
+
+/// Where the machines stand for what was printed, each directive counts on no more than there is, migrations included; the
+/// machines print the group that the rule has for it, and stand for what is printed then. Or they stop before they route a
+/// message between two machines that have counted all that they may, and the rule's group would route it.
+pub fn steps_stand()
+    ensures { StepsStand }
+{}
+
+/// The directive that comes next, by the marks on the wires, is the one that the printed lines say comes next.
+pub fn next_is_said()
+    ensures { NextIsSaid }
+{}
+
+/// Where everything stands at the end, by what the machines have and what is on the way between them, is what the printed
+/// lines say: each process with its registers, memory and links, the servers, and every message.
+pub fn end_is_said()
+    ensures { EndIsSaid }
+{}
+
+/// And that can be said: no number is too great for it.
+pub fn end_may()
+    ensures { EndMay }
+{}
+
+/// Before the first directive nothing was printed, and the machines stand for that.
+pub fn run_begins()
+    ensures { RunBegins }
+{}
+
+/// A good run goes on with each directive: the machines may do it, and with the group that they print the run is still good:
+/// the groups are those of the rule, they replay as steps of the kernel without machines, and no message is received twice.
+/// Or the machines stop, since two of them have counted all messages that they may.
+pub fn run_goes_on()
+    ensures { RunGoesOn }
+{}
+
+/// A directive changes one machine, and only that machine puts packets on its wires; none is taken off, and a delivery marks its
+/// packet.
+pub fn acts_locally()
+    ensures { ActsLocally }
+{}
+
+/// What a machine does depends on that machine alone, and on the packet that is delivered to it: in another world where both are
+/// the same, it comes to the same and sends the same.
+pub fn reads_locally()
+    ensures { ReadsLocally }
+{}
+
+/// Where there is no such packet to deliver, nothing changes.
+pub fn nothing_comes()
+    ensures { NothingComes }
+{}
