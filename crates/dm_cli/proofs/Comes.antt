@@ -1,5 +1,5 @@
 -- A run goes on, group by group, and comes to its end.
-use Rattle.std.proofs.Common.{◌≡◌, ◌≢◌, ◌≤◌, ◌<◌, ◌⊎◌, inl, inr, ℕ, ◌+◌, true, nat_le, List, [], ◌∷◌, ◌++◌, length, take, drop, refl, ap, ◌∙◌, sym, subst, append_assoc, arith}
+use Rattle.std.proofs.Common.{◌≡◌, ◌<◌, inl, inr, ℕ, ◌+◌, true, nat_le, List, [], ◌∷◌, ◌++◌, length, take, drop, refl, ap, ◌∙◌, sym, subst, append_assoc, arith}
 use Rattle.std.proofs.lemmas.Bool.Decides.{nat_tests}
 use Rattle.std.proofs.lemmas.List.{append-nil, take-append-drop}
 use Rattle.std.specs.List.{All}
@@ -11,7 +11,6 @@ use Rattle.std.specs.declared.result.Result.{Result}
 use Rattle.std.specs.declared.result.Result.TheVariants.{Ok, Err}
 use Rattle.dm_onekernel.specs.declared.boot.Boot.{Boot}
 use Rattle.dm_onekernel.specs.Boot.{IsValid}
-use Rattle.dm_schedule.specs.declared.Step.{Step}
 use Rattle.dm_schedule.specs.declared.Directive.{Directive}
 use Rattle.dm_rule.specs.declared.line.Line.{Line}
 use Rattle.dm_rule.specs.Ends as rule_ends
@@ -26,17 +25,17 @@ use Rattle.dm_world.specs.Meets.{state_of}
 use Rattle.dm_world.specs.Next.{next_step}
 use Rattle.dm_world.specs.Ends as world_ends
 use Rattle.dm_world.specs.Ends.{MayEnd}
+use Rattle.dm_world.specs.Whole.{AreWhole}
 use Rattle.dm_world.specs.Readable.{AreReadBack, gave}
 use Rattle.dm_world.specs.World.{WorldState, Said, Says, WornOut, first_world, world_step}
-use Rattle.dm_mirror.specs.Run.{GoesOn, StopsWorn, RunStands, joined}
-use Rattle.dm_mirror.specs.Stands.{Stands}
+use Rattle.dm_mirror.specs.Run.{GoesOn, RunStands, joined}
 use Rattle.dm_mirror.specs.Todo.{IsDirective}
 use Rattle.dm_mirror.specs.Laws.{RunGoes}
 use Rattle.dm_outside.specs.Outside.{appended}
 use Rattle.dm_cli.specs.declared.run.Stop.{Stop}
 use Rattle.dm_cli.specs.declared.run.Stop.TheVariants.{NoMemory, WriteFault, Worn}
-use Rattle.dm_cli.specs.Output.{IsCutShort, IsWhole, IsOfFirst, IsBegun, IsWorn, IsOver, WearsAfter}
-use Rattle.dm_cli.specs.Progress.{HasCome, Offered, Stopped, Came, Ended}
+use Rattle.dm_cli.specs.Output.{IsOfFirst, IsWorn, IsOver}
+use Rattle.dm_cli.specs.Progress.{HasCome, Offered, Came, Ended}
 use Rattle.dm_cli.proofs.Writing.{appended_twice, some_left}
 use Rattle.dm_cli.proofs.Laws.{end_may, run_begins, run_goes_on, next_is_said, end_is_said, machines_stay}
 use Rattle.dm_cli.proofs.Printed.{group_hides}
@@ -103,24 +102,24 @@ grown_by b ds t before after w n said valid h g on e =
     subst (λ (x : Said). Grown b ds n.left h.groups x.lines x.state) e (record {
       end = g.group.point;
       stands = on;
-      hides = subst (All HidesNothing) (sym g.lines) (group_hides b h.stands.steps h.end n.step g.group valid h.stands.leads g.due);
+      hides = subst (All HidesNothing) (sym g.lines) (group_hides b h.end n.step g.group g.due);
     })
 
 grown : (b : Boot) (ds : List Directive) (t : Todo) (before after : Option (List ℕ)) (w : WorldState) (n : Next) (said : Said) → IsValid b → (h : HasCome b ds t before after w) → next_step (length b.machines) w t ≡ Some n → world_step b w n.step ≡ Some (Says said)
-    → AreReadBack (gave b w n.step) → Grown b ds n.left h.groups said.lines said.state
-grown b ds t before after w n said valid h is happens again =
+    → AreReadBack (gave b w n.step) → AreWhole w n.step → Grown b ds n.left h.groups said.lines said.state
+grown b ds t before after w n said valid h is happens again whole =
     let k = goes b ds t before after w n valid h is in
-    elim k.steps [
+    elim (k.steps whole) [
       | inl g ↦ grown_by b ds t before after w n said valid h g (k.on g again) (let e = g.happens in cc)
       | inr s ↦ absurd (let e = s.happens in let bad : Says said ≡ WornOut s.from s.to = cc in cc)
     ]
 
 -- it stopped as worn
 pub worn_there : (b : Boot) (ds : List Directive) (t : Todo) (before now : Option (List ℕ)) (w : WorldState) (n : Next) (from to : ℕ) → IsValid b → HasCome b ds t before now w → next_step (length b.machines) w t ≡ Some n → world_step b w n.step ≡ Some (WornOut from to)
-    → IsWorn b ds before now from to
-worn_there b ds t before now w n from to valid h is happens =
+    → AreWhole w n.step → IsWorn b ds before now from to
+worn_there b ds t before now w n from to valid h is happens whole =
     let k = goes b ds t before now w n valid h is in
-    elim k.steps [
+    elim (k.steps whole) [
       | inl g ↦ absurd (let e = g.happens in let bad : Says g.said ≡ WornOut from to = cc in cc)
       | inr s ↦
           let e : WornOut s.from s.to ≡ WornOut from to = let f = s.happens in cc in
@@ -162,9 +161,9 @@ fits_last gs g h k = subst (All LineFits) (sym (joined_last gs g)) (All-append L
 
 -- the lines of a group were offered
 pub came_on : (A : Type 0) (b : Boot) (ds : List Directive) (t : Todo) (n : Next) (before now after : Option (List ℕ)) (w : WorldState) (u : World) (ls : List Line) (r : Result A Stop) → IsValid b → HasCome b ds t before now w → next_step (length b.machines) w t ≡ Some n
-    → world_step b w n.step ≡ Some (Says (record { state = state_of u; lines = ls })) → AreReadBack (gave b w n.step) → (All HidesNothing ls → All LineFits ls) → Offered now (text_of_lines ls) after r → Came b ds n.left before after u r
-came_on A b ds t n before now after w u ls (Ok x) valid h is happens again fit o =
-    let g = grown b ds t before now w n (record { state = state_of u; lines = ls }) valid h is happens again in
+    → world_step b w n.step ≡ Some (Says (record { state = state_of u; lines = ls })) → AreReadBack (gave b w n.step) → AreWhole w n.step → (All HidesNothing ls → All LineFits ls) → Offered now (text_of_lines ls) after r → Came b ds n.left before after u r
+came_on A b ds t n before now after w u ls (Ok x) valid h is happens again whole fit o =
+    let g = grown b ds t before now w n (record { state = state_of u; lines = ls }) valid h is happens again whole in
     record {
       groups = h.groups ++ ls ∷ [];
       end = g.end;
@@ -174,9 +173,9 @@ came_on A b ds t n before now after w u ls (Ok x) valid h is happens again fit o
       fits = fits_last h.groups ls h.fits (fit g.hides);
       written = more_written before now after (text_of_lines (joined h.groups)) (text_of_lines ls) h.written o ∙ ap (λ t. appended before t) (sym (text_last h.groups ls));
     }
-came_on A b ds t n before now after w u ls (Err (NoMemory lack)) valid h is happens again fit o = lacks_there b ds t before now after w h o
-came_on A b ds t n before now after w u ls (Err WriteFault) valid h is happens again fit o =
-    let g = grown b ds t before now w n (record { state = state_of u; lines = ls }) valid h is happens again in
+came_on A b ds t n before now after w u ls (Err (NoMemory lack)) valid h is happens again whole fit o = lacks_there b ds t before now after w h o
+came_on A b ds t n before now after w u ls (Err WriteFault) valid h is happens again whole fit o =
+    let g = grown b ds t before now w n (record { state = state_of u; lines = ls }) valid h is happens again whole in
     record {
       groups = h.groups ++ ls ∷ [];
       end = g.end;
@@ -192,7 +191,7 @@ came_on A b ds t n before now after w u ls (Err WriteFault) valid h is happens a
       written = more_written before now after (text_of_lines (joined h.groups)) (take o.count (text_of_lines ls)) h.written o.taken;
       stands = g.stands.stands;
     }
-came_on A b ds t n before now after w u ls (Err (Worn from to)) valid h is happens again fit o = absurd o
+came_on A b ds t n before now after w u ls (Err (Worn from to)) valid h is happens again whole fit o = absurd o
 
 some_machines : (b : Boot) → IsValid b → 0 < length b.machines
 some_machines b valid = least (length b.machines) valid.some_machines
@@ -206,7 +205,7 @@ is_over b ds before now w valid h = sym (next_is_said b h.stands.steps w h.end h
 
 ends_hide : (b : Boot) (ds : List Directive) (before now : Option (List ℕ)) (w : WorldState) → IsValid b → HasCome b ds (all_of []) before now w → All HidesNothing (world_ends.end_lines (length b.machines) w)
 ends_hide b ds before now w valid h =
-    let k = h.stands.stands.2 in
+    let k = h.stands.stands.0.2 in
     let machines : h.end.kernel.machines ≡ length b.machines = machines_stay b h.stands.steps h.end valid h.stands.leads in
     end_hides (length b.machines) w (some_machines b valid) (λ m l. (k.nodes m (omega (arith, l, machines))).lawful)
 

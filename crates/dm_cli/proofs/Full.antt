@@ -22,7 +22,7 @@ use Rattle.dm_rule.specs.declared.line.Line.TheVariants as line
 use Rattle.dm_rule.specs.declared.line.Stage.TheVariants as stage
 use Rattle.dm_rule.specs.Sets.{at_pair}
 use Rattle.dm_rule.specs.View as view
-use Rattle.dm_rule.specs.View.{View, Pair, Told, view_after, after_label, receiver_of}
+use Rattle.dm_rule.specs.View.{View, Pair, Told, About, view_after, after_label, receiver_of}
 use Rattle.dm_rule.specs.Point.{Point, label_of, kernel_after, after_line, after, moved}
 use Rattle.dm_rule.specs.Parts.{Part, Spelled, lines_of, behind, spelled}
 use Rattle.dm_rule.specs.Rule.{group_of, outcome, headed}
@@ -168,6 +168,44 @@ pair_of_stage v p stage.MemoryTaken = refl
 pair_of_stage v p stage.Left = refl
 pair_of_stage v p stage.Restarted = refl
 
+pair_of_asking : (v : View) (a : About) → (view.asks_on v a).pair ≡ v.pair
+pair_of_asking v view.NothingElse = refl
+pair_of_asking v (view.Target m) = refl
+pair_of_asking v (view.Of p) = refl
+pair_of_asking v (view.Place p at moves) = refl
+
+pair_of_follows : (v : View) (a : About) (k : MessageKind) → (view.follows_up v a k).pair ≡ v.pair
+pair_of_follows v a kind.User = refl
+pair_of_follows v a kind.Stop = refl
+pair_of_follows v a kind.Resume = refl
+pair_of_follows v a kind.Kill = refl
+pair_of_follows v a kind.Read = refl
+pair_of_follows v a kind.Write = refl
+pair_of_follows v a kind.Block = refl
+pair_of_follows v a kind.Written = refl
+pair_of_follows v a kind.Gone = refl
+pair_of_follows v a kind.Create = refl
+pair_of_follows v a kind.Created = refl
+pair_of_follows v a kind.NoRoom = refl
+pair_of_follows v a kind.Migrate = refl
+pair_of_follows v a kind.Update = refl
+pair_of_follows v a kind.Ask = refl
+pair_of_follows v a kind.Refuse = refl
+pair_of_follows v a kind.PullState = refl
+pair_of_follows v a kind.State = pair_of_asking v a
+pair_of_follows v a kind.PullBlock = refl
+pair_of_follows v a kind.Memory = pair_of_asking v a
+pair_of_follows v a kind.AllTaken = refl
+pair_of_follows v a kind.Restart = refl
+pair_of_follows v a kind.Move = refl
+pair_of_follows v a kind.Moved = refl
+pair_of_follows v a kind.CallOff = refl
+pair_of_follows v a kind.Bury = refl
+
+pair_of_proto : (v : View) (o : Option Told) → (view.after_proto v o).pair ≡ v.pair
+pair_of_proto v None = refl
+pair_of_proto v (Some t) = pair_of_follows v t.about t.kind
+
 one_more : (ids : List MsgId) (i : MsgId) → length ids < length (ids ++ i ∷ [])
 one_more ids i = omega (arith, length-append ids (i ∷ []))
 
@@ -205,7 +243,7 @@ line_rises v (line.Lacks p s b) = same_rises v.pair _ refl
 line_rises v (line.Stays p) = same_rises v.pair _ refl
 line_rises v (line.Here id) = same_rises v.pair _ refl
 line_rises v (line.NoMove id) = same_rises v.pair _ refl
-line_rises v (line.Proto id) = same_rises v.pair _ refl
+line_rises v (line.Proto id) = same_rises v.pair _ (pair_of_proto (view.handled v id) (v.told id))
 line_rises v (line.NoChild p) = same_rises v.pair _ refl
 line_rises v (line.Pinned p) = same_rises v.pair _ refl
 line_rises v (line.End e) = same_rises v.pair _ refl

@@ -6,26 +6,24 @@ use Rattle.dm_schedule.specs.declared.Step.{Step}
 use Rattle.dm_rule.specs.Laws.{Leads}
 use Rattle.dm_rule.specs.Point.{Point, first_point}
 use Rattle.dm_mirror.specs.Laws.{EndMay, NextIsSaid, EndIsSaid, RunBegins, RunGoesOn}
-use Rattle.dm_mirror.proofs.EndMay as ends
-use Rattle.dm_mirror.proofs.Ending as ending
 use Rattle.dm_mirror.proofs.Given as given
 use Rattle.dm_mirror.proofs.Going as going
 use Rattle.dm_mirror.proofs.Next as next
 
 pub run_begins : RunBegins
-run_begins = going.run_begins given.start_stands
+run_begins = going.run_begins
 
 pub next_is_said : NextIsSaid
-next_is_said = next.next_is_said given.machines_stay
+next_is_said = next.next_is_said
 
 pub run_goes_on : RunGoesOn
-run_goes_on = going.run_goes_on given.machines_stay next_is_said given.steps_stand
+run_goes_on = given.run_goes_on
 
 pub end_is_said : EndIsSaid
-end_is_said = ending.end_is_said given.machines_stay given.made_always
+end_is_said = given.end_is_said
 
 pub end_may : EndMay
-end_may = ends.end_may
+end_may = given.end_may
 
 pub machines_stay : (b : Boot) (es : List Step) (pt : Point) → IsValid b → Leads b (first_point b) es pt → pt.kernel.machines ≡ length b.machines
-machines_stay = given.machines_stay
+machines_stay = next.machines_stay

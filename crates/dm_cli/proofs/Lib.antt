@@ -5,6 +5,10 @@ pub mod Writing
 pub mod Laws
 pub mod Full
 pub mod Decisions
+mod HidesParts
+mod HidesComing
+mod HidesMigrating
+mod HidesTurns
 pub mod Printed
 pub mod Finals
 pub mod Comes

@@ -34,4 +34,6 @@ mod tests;
 #[cfg(test)]
 mod worked;
 #[cfg(test)]
+mod worked_migration;
+#[cfg(test)]
 mod worked_servers;

@@ -314,10 +314,10 @@ const REFUSALS: [Case; 4] = [
     (
         &WORDS,
         HI,
-        b"# moves\nturn 0\nmigrate 0.3 0",
+        b"# moves\nturn 0\nmigrate 0.3 1",
         NONE,
         0,
-        "schedule refused: line 2, why 0\n",
+        "schedule refused: line 3, why 4\n",
         7,
         b"",
         4,

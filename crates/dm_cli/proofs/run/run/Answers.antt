@@ -1,4 +1,4 @@
-use Rattle.std.proofs.Common.{◌≡◌, List, refl, sym, subst, length}
+use Rattle.std.proofs.Common.{List, refl, sym, subst, length}
 use Rattle.std.specs.declared.option.Option.TheVariants.{Some}
 use Rattle.dm_onekernel.specs.declared.boot.Boot.{Boot}
 use Rattle.dm_schedule.specs.declared.Directive.{Directive}
@@ -9,7 +9,7 @@ use Rattle.dm_cli.specs.Progress.{Ended}
 use Rattle.dm_cli.specs.Program.{RunSays}
 use Rattle.dm_cli.proofs.Comes.{comes_first, lacks_there}
 use Rattle.dm_cli.proofs.Endings.{run_says}
-use Rattle.dm_cli.proofs.Schedules.{are_still}
+use Rattle.dm_cli.proofs.Schedules.{are_directives}
 use Rattle.dm_cli.proofs.run.run.Goals as goal
 
 pub returns-in-Ok-clause-says : goal.returns-in-Ok-clause-says
@@ -24,4 +24,4 @@ returns-in-Ok-clause-says g c =
 pub returns-clause-says : goal.returns-clause-says
 returns-clause-says g c =
     lacks_there c.args.inputs.boot c.args.inputs.directives.items (all_of c.args.inputs.directives.items) (g.K.Sink.told c.args.out.now) (g.K.Sink.told c.args.out.now) (g.K.Sink.told c.args.out.now) (first_world c.args.inputs.boot)
-    (comes_first c.args.inputs.boot c.args.inputs.directives.items (g.K.Sink.told c.args.out.now) (first_world c.args.inputs.boot) c.requires.valid (are_still (length c.args.inputs.boot.machines) 1 c.args.inputs.directives.items c.requires.each c.requires.still) refl) refl
+    (comes_first c.args.inputs.boot c.args.inputs.directives.items (g.K.Sink.told c.args.out.now) (first_world c.args.inputs.boot) c.requires.valid (are_directives (length c.args.inputs.boot.machines) c.args.inputs.directives.items c.requires.each) refl) refl

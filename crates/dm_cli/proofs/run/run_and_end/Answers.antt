@@ -1,12 +1,12 @@
-use Rattle.std.proofs.Common.{◌≡◌, [], ◌+◌, ap, drop, length, refl, sym, subst, ◌∙◌, arith}
+use Rattle.std.proofs.Common.{[], ap, length, refl, sym, subst, ◌∙◌, arith}
 use Rattle.dm_onekernel.specs.declared.boot.Boot.{Boot}
 use Rattle.dm_rule.specs.Good.{all_of}
 use Rattle.dm_world.specs.Meets.{state_of}
 use Rattle.dm_world.specs.World.{WorldState}
 use Rattle.dm_cli.specs.Progress.{Ended, HasCome}
 use Rattle.dm_cli.proofs.Comes.{comes_first, may_end}
-use Rattle.dm_cli.proofs.Schedules.{are_still}
-use Rattle.dm_cli.proofs.Stepping.{all_done, carries_on, due_as, ended_err, halts_on}
+use Rattle.dm_cli.proofs.Schedules.{are_directives}
+use Rattle.dm_cli.proofs.Stepping.{all_done, carries_on, ended_err, halts_on}
 use Rattle.dm_cli.proofs.run.run_and_end.Goals as goal
 
 pub directives-init : goal.directives-init
@@ -16,7 +16,7 @@ directives-init g c =
       world = c.requires.world;
       running = c.requires.running;
       boot = refl;
-      come = comes_first c.args.world.now.boot c.args.directives.now (g.K.Sink.told c.args.out.now) (state_of c.args.world.now) c.requires.world.valid (are_still (length c.args.world.now.boot.machines) 1 c.args.directives.now c.requires.each c.requires.still) c.requires.begun;
+      come = comes_first c.args.world.now.boot c.args.directives.now (g.K.Sink.told c.args.out.now) (state_of c.args.world.now) c.requires.world.valid (are_directives (length c.args.world.now.boot.machines) c.args.directives.now c.requires.each) c.requires.begun;
       groups = omega (arith, none);
       writes = omega arith;
     }
