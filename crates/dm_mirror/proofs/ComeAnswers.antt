@@ -216,11 +216,11 @@ taken_then b m pt l records k y p c a box from asked none =
     let now = at_record v.known m p (Incoming from) in
     let next = come_point pt (come_view v m p box now asked) in
     let changed = taken_changed pt next m p refl (λ h. refl) (c.made.home p a.is_made) (c.made.first p a.is_made) (c.made.below p a.is_made)
-        (λ q apart. ap (λ (n : Known). takes_as n (rule.blocks_of (kernel.alive (pt.kernel.processes q)))) (record_off v.known m m p q (Incoming from) (pid_off p q apart))) in
+    (λ q apart. ap (λ (n : Known). takes_as n (rule.blocks_of (kernel.alive (pt.kernel.processes q)))) (record_off v.known m m p q (Incoming from) (pid_off p q apart))) in
     let before : taken_by pt m p ≡ record { slots = 0; blocks = 0 } = ap (λ (n : ℕ). record { slots = n; blocks = if n == 0 then 0 else rule.blocks_of (kernel.alive (pt.kernel.processes p)) }) none.room in
     let after_ : taken_by next m p ≡ record { slots = 1; blocks = length a.process.memory / 256 } =
-        ap (λ (n : Known). takes_as n (rule.blocks_of (kernel.alive (pt.kernel.processes p)))) (record_self v.known m p (Incoming from))
-        ∙ ap (λ (o : Option PlainProcess). takes_as (Incoming from) (rule.blocks_of o)) a.alive in
+    ap (λ (n : Known). takes_as n (rule.blocks_of (kernel.alive (pt.kernel.processes p)))) (record_self v.known m p (Incoming from))
+    ∙ ap (λ (o : Option PlainProcess). takes_as (Incoming from) (rule.blocks_of o)) a.alive in
     let h = c.stands.room in
     let s0 = ap (λ (r : Room). r.slots) before in
     let s1 = ap (λ (r : Room). r.slots) after_ in

@@ -222,7 +222,7 @@ may_answer b m pt l records k y p c a h =
     let gives = h.gives v x.id y.sender.pid in
     let comes : destination_of x.id (told_of x) ≡ m = ap (λ (d : Bool). if d then y.sender.pid.home else k.here) h.is_reply ∙ here in
     let known : at_machine records m h.state.records (destination_of x.id (told_of x)) p ≡ h.state.records p =
-        ap (λ (n : ℕ). at_machine records m h.state.records n p) comes ∙ (λ i. machine_self records m h.state.records i p) in
+    ap (λ (n : ℕ). at_machine records m h.state.records n p) comes ∙ (λ i. machine_self records m h.state.records i p) in
     record {
       id = id;
       plain = ap (with_what x) h.plain;
