@@ -1,11 +1,9 @@
 -- The rule decides whether a run comes to its end, and between which machines it is worn.
-use Rattle.std.proofs.Common.{◌≡◌, ◌≤◌, ℕ, zero, suc, ◌⊎◌, inl, inr, List, [], ◌∷◌, ◌++◌, length, refl, ap, ◌∙◌, sym, subst, arith}
-use Rattle.std.specs.declared.option.Option.{Option}
+use Rattle.std.proofs.Common.{◌≡◌, ◌≤◌, ℕ, zero, suc, ◌⊎◌, inl, inr, List, [], ◌∷◌, length, ap, ◌∙◌, sym, arith}
 use Rattle.std.specs.declared.option.Option.TheVariants.{None, Some}
 use Rattle.dm_onekernel.specs.declared.boot.Boot.{Boot}
-use Rattle.dm_schedule.specs.declared.Step.{Step}
 use Rattle.dm_rule.specs.declared.line.Line.{Line}
-use Rattle.dm_rule.specs.Good.{Two, Todo, Next, next_step, IsRun, IsKept}
+use Rattle.dm_rule.specs.Good.{Two, Todo, Next, next_step, IsRun}
 use Rattle.dm_rule.specs.Point.{Point}
 use Rattle.dm_rule.specs.Parts.{Spelled}
 use Rattle.dm_rule.specs.Rule.{group_of}

@@ -1,5 +1,5 @@
 -- One more elementary directive of a directive.
-use Rattle.std.proofs.Common.{◌≡◌, ◌≢◌, ◌≤◌, ◌<◌, ℕ, ◌+◌, ◌*◌, ◌^◌, nat_le, true, List, [], ◌∷◌, length, drop, get_or, add-one, refl, ap, ◌∙◌, sym, subst, arith}
+use Rattle.std.proofs.Common.{◌≡◌, ◌≢◌, ◌≤◌, ◌<◌, ℕ, ◌+◌, nat_le, true, List, [], ◌∷◌, length, drop, get_or, add-one, refl, ap, ◌∙◌, sym, subst, arith}
 use Rattle.std.proofs.lemmas.Bool.Decides.{nat_tests}
 use Rattle.std.proofs.lemmas.List.{drop_all}
 use Rattle.std.proofs.Math.Seq.{drop-cons}

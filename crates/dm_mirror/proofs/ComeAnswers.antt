@@ -1,11 +1,10 @@
 -- A machine is asked to take a process: there is room for it, or what is free is said.
-use Rattle.std.proofs.Common.{◌≡◌, ◌≢◌, ℕ, ◌+◌, ◌*◌, ◌/◌, ◌<◌, ◌≤◌, ◌==◌, ◌&&◌, Bool, true, false, not, nat_lt, nat_le, List, [], ◌∷◌, length, map, refl, ap, ◌∙◌, sym, subst, inl, inr, arith}
+use Rattle.std.proofs.Common.{◌≡◌, ◌≢◌, ℕ, ◌+◌, ◌/◌, ◌<◌, ◌==◌, ◌&&◌, Bool, true, false, nat_lt, nat_le, List, [], length, map, refl, ap, ◌∙◌, sym, subst, inl, inr, arith}
 use Rattle.std.specs.Prelude.{if◌then◌else◌, slice_get}
 use Rattle.std.specs.declared.option.Option.{Option}
 use Rattle.std.specs.declared.option.Option.TheVariants.{None, Some}
 use Rattle.std.proofs.lemmas.Bool.{cases_Bool, false≢true}
 use Rattle.std.proofs.lemmas.List.Elements.{All-nil}
-use Rattle.std.proofs.lemmas.Bool.Decides.{nat_tests}
 use Rattle.dm_link.specs.declared.Pid.{Pid}
 use Rattle.dm_link.specs.Names.{pid_eq}
 use Rattle.dm_message.specs.declared.Message.{Message}
@@ -17,14 +16,13 @@ use Rattle.dm_message.specs.declared.kind.MessageKind.TheVariants as kind
 use Rattle.dm_message.specs.Kinds.{kind_of}
 use Rattle.dm_message.specs.Lawful.{IsLawfulMessage}
 use Rattle.dm_process.specs.declared.process.Process.{Process}
-use Rattle.dm_process.specs.Lawful.{IsLawfulProcess}
 use Rattle.dm_room.specs.Room.{Taken, free_blocks, free_slots, with_reserved}
 use Rattle.dm_room.specs.Room as room_
 use Rattle.dm_forward.specs.declared.record.Record.TheVariants as record_
-use Rattle.dm_forward.specs.Records.{incoming_of, with_record}
-use Rattle.dm_migrate.specs.declared.arriving.Wanted.TheVariants.{Chunk, Block, Nothing}
-use Rattle.dm_migrate.specs.Arrival.{Arrival, expected}
-use Rattle.dm_migrate.specs.Departure.{CanMove, ask_of}
+use Rattle.dm_forward.specs.Records.{incoming_of}
+use Rattle.dm_migrate.specs.declared.arriving.Wanted.TheVariants.{Chunk}
+use Rattle.dm_migrate.specs.Arrival.{expected}
+use Rattle.dm_migrate.specs.Departure.{CanMove}
 use Rattle.dm_migrate.specs.Pieces.{HasChunk, state_of}
 use Rattle.dm_migrate.specs.Way.{coming}
 use Rattle.dm_onekernel.specs.declared.boot.Boot.{Boot}
@@ -34,7 +32,6 @@ use Rattle.dm_onekernel.specs.Plain.{plain_process}
 use Rattle.dm_onekernel.specs.PlainProcess.{PlainProcess}
 use Rattle.dm_onekernel.specs.Step as kernel
 use Rattle.dm_laws.proofs.Equal.{pid_eq-is, pid_eq-same}
-use Rattle.dm_rule.specs.declared.line.Line.{Line}
 use Rattle.dm_rule.specs.declared.line.Line.TheVariants as line
 use Rattle.dm_rule.specs.declared.line.Stage.TheVariants as stage
 use Rattle.dm_rule.specs.Migrating as rule_moves
@@ -48,14 +45,13 @@ use Rattle.dm_rule.specs.View.{Known, Unknown, Here, Frozen, Incoming, Forward, 
 use Rattle.dm_rulelaws.specs.Fits.{is_server}
 use Rattle.dm_rulelaws.specs.Found.{has_nothing_held}
 use Rattle.dm_placed.specs.Placed.{Placed}
-use Rattle.dm_kernel.specs.declared.part.Part.TheVariants as part
 use Rattle.dm_kernel.specs.Begun.{room_of}
 use Rattle.dm_kernel.specs.Coming.{accepts, with_expected}
 use Rattle.dm_kernel.specs.Handle.{kernel_handles}
 use Rattle.dm_kernel.specs.State as machine
 use Rattle.dm_kernel.specs.State.{KernelState, Turned}
-use Rattle.dm_mirror.specs.Stands.{AreMessages, ComesStand, KnownStands, KernelStands, LeavesStand, RoomStands}
-use Rattle.dm_mirror.specs.Tokens.{AllRecords, Carries, IsAsked}
+use Rattle.dm_mirror.specs.Stands.{KnownStands, KernelStands, RoomStands}
+use Rattle.dm_mirror.specs.Tokens.{AllRecords, Carries}
 use Rattle.dm_mirror.proofs.ComeFrames.{Arrives, Comes, arrives}
 use Rattle.dm_mirror.proofs.ComeHandled.{after_accepted, after_lacks, comes_known, first_gone, outcome_kernel, turn_kernel}
 use Rattle.dm_mirror.proofs.ComePieces.{room_kept}

@@ -1,5 +1,5 @@
 -- A chunk of the state of a process that comes, and a block of its memory.
-use Rattle.std.proofs.Common.{◌≡◌, ℕ, ◌+◌, ◌/◌, ◌==◌, Bool, true, false, not, nat_lt, List, [], ◌∷◌, length, refl, ap, ◌∙◌, sym, subst, arith}
+use Rattle.std.proofs.Common.{◌≡◌, ℕ, ◌+◌, ◌/◌, ◌==◌, Bool, true, false, not, nat_lt, [], length, refl, ap, ◌∙◌, sym, subst, arith}
 use Rattle.std.specs.Prelude.{if◌then◌else◌}
 use Rattle.std.specs.declared.option.Option.{Option}
 use Rattle.std.specs.declared.option.Option.TheVariants.{None, Some}
@@ -9,7 +9,6 @@ use Rattle.dm_link.specs.Names.{pid_eq}
 use Rattle.dm_message.specs.declared.Message.{Message}
 use Rattle.dm_message.specs.declared.What.{What}
 use Rattle.dm_message.specs.declared.What.TheVariants as what
-use Rattle.dm_message.specs.declared.kind.MessageKind.{MessageKind}
 use Rattle.dm_message.specs.declared.kind.MessageKind.TheVariants as kind
 use Rattle.dm_message.specs.Kinds.{kind_of}
 use Rattle.dm_process.specs.declared.process.Process.{Process}
@@ -17,10 +16,10 @@ use Rattle.dm_forward.specs.declared.record.Record.TheVariants as record_
 use Rattle.dm_forward.specs.Records.{incoming_of}
 use Rattle.dm_migrate.specs.declared.arriving.Wanted.{Wanted}
 use Rattle.dm_migrate.specs.declared.arriving.Wanted.TheVariants.{Chunk, Block, Nothing}
-use Rattle.dm_migrate.specs.Arrival.{Arrival, after_block, after_chunk, with_piece}
+use Rattle.dm_migrate.specs.Arrival.{Arrival, after_chunk, with_piece}
 use Rattle.dm_migrate.specs.Departure.{CanMove}
 use Rattle.dm_migrate.specs.Pieces.{block_of, chunk_of, is_last, state_of}
-use Rattle.dm_migrate.specs.Way.{ComesByPieces, HasPiece, coming}
+use Rattle.dm_migrate.specs.Way.{ComesByPieces, coming}
 use Rattle.dm_migrate.proofs.Way.{by_pieces}
 use Rattle.dm_onekernel.specs.declared.boot.Boot.{Boot}
 use Rattle.dm_onekernel.specs.Options.{bind}
@@ -43,7 +42,7 @@ use Rattle.dm_mirror.specs.Stands.{ComesStand}
 use Rattle.dm_mirror.specs.Tokens.{AllRecords, Carries, IsAsked, Wants}
 use Rattle.dm_mirror.proofs.ComeCounts.{asked_after_block, asked_after_chunk, block_last, chunk_last, whole_memory}
 use Rattle.dm_mirror.proofs.ComeFrames.{Arrives, Comes, arrives}
-use Rattle.dm_mirror.proofs.ComeHandled.{Expects, after_memory_taken, after_block as after_block_line, after_piece, after_state_taken, expects, first_gone, front_gone, told_about}
+use Rattle.dm_mirror.proofs.ComeHandled.{after_memory_taken, after_block as after_block_line, after_piece, after_state_taken, expects, first_gone, front_gone, told_about}
 use Rattle.dm_mirror.proofs.ComePieces.{turns_piece}
 use Rattle.dm_mirror.proofs.Turning.{TurnsAt}
 

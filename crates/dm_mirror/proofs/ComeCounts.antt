@@ -1,5 +1,5 @@
 -- How many pieces a process that moves has, by its bytes and by the rule, and which of them is asked for next.
-use Rattle.std.proofs.Common.{◌≡◌, ℕ, ◌+◌, ◌*◌, ◌/◌, ◌<◌, ◌≤◌, ◌==◌, Bool, true, false, not, List, [], ◌∷◌, ◌++◌, length, map, refl, ap, ◌∙◌, sym, subst, nat_lt, nat_le, arith}
+use Rattle.std.proofs.Common.{◌≡◌, ℕ, ◌+◌, ◌*◌, ◌/◌, ◌<◌, ◌≤◌, ◌==◌, Bool, true, false, not, List, [], ◌∷◌, ◌++◌, length, map, refl, ap, ◌∙◌, sym, nat_lt, nat_le, arith}
 use Rattle.std.specs.Prelude.{if◌then◌else◌, option_map}
 use Rattle.std.specs.List.{flat_map}
 use Rattle.std.specs.declared.option.Option.{Option}
@@ -19,10 +19,9 @@ use Rattle.dm_carry.specs.Shell.{front, front_of, registers, shell_of, spelling}
 use Rattle.dm_carry.specs.Statuses.{spell_status}
 use Rattle.dm_carry.specs.Table.{mask_of, spell_slot}
 use Rattle.dm_carry.proofs.Sizes.{numbers_size}
-use Rattle.dm_migrate.specs.declared.arriving.Wanted.{Wanted}
 use Rattle.dm_migrate.specs.declared.arriving.Wanted.TheVariants.{Chunk, Block, Nothing}
 use Rattle.dm_migrate.specs.Arrival.{after_block, after_chunk}
-use Rattle.dm_migrate.specs.Pieces.{HasBlock, HasChunk, is_last, state_of}
+use Rattle.dm_migrate.specs.Pieces.{is_last, state_of}
 use Rattle.dm_migrate.specs.Way.{HasPiece}
 use Rattle.dm_onekernel.specs.Plain.{plain_process, plain_status}
 use Rattle.dm_rule.specs.Migrating.{chunks_of, link_size, links_size, pieces_of, state_size, status_size}

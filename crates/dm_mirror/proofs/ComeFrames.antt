@@ -1,9 +1,9 @@
 -- A message about a process that comes to a machine, at the front of its inbox: what is known then.
-use Rattle.std.proofs.Common.{◌≡◌, ◌≢◌, ℕ, ◌+◌, ◌≤◌, ◌<◌, ◌==◌, ◌&&◌, ◌||◌, not, ◌⊎◌, Bool, true, false, List, [], ◌∷◌, map, refl, ap, ◌∙◌, sym, subst, inl, inr, nat_le, is_some, arith}
+use Rattle.std.proofs.Common.{◌≡◌, ℕ, ◌+◌, ◌≤◌, ◌||◌, ◌⊎◌, Bool, true, false, List, ◌∷◌, refl, ap, ◌∙◌, sym, subst, inl, inr, is_some, arith}
 use Rattle.std.specs.Prelude.{if◌then◌else◌, option_map}
 use Rattle.std.specs.declared.option.Option.{Option}
 use Rattle.std.specs.declared.option.Option.TheVariants.{None, Some}
-use Rattle.std.proofs.lemmas.Bool.{cases_Bool, false≢true}
+use Rattle.std.proofs.lemmas.Bool.{false≢true}
 use Rattle.std.proofs.lemmas.Bool.Decides.{nat_tests}
 use Rattle.dm_link.specs.declared.Pid.{Pid}
 use Rattle.dm_link.specs.Names.{pid_eq, pid_of}
@@ -11,12 +11,11 @@ use Rattle.dm_linkupdate.specs.Notice.{kernel_at}
 use Rattle.dm_message.specs.declared.Message.{Message}
 use Rattle.dm_message.specs.declared.MsgId.{MsgId}
 use Rattle.dm_message.specs.declared.kind.MessageKind.{MessageKind}
-use Rattle.dm_message.specs.Ids.{id_eq, id_of}
+use Rattle.dm_message.specs.Ids.{id_of}
 use Rattle.dm_message.specs.Kinds.{kind_of}
 use Rattle.dm_message.specs.Plain.{PlainMessage, plain_message}
 use Rattle.dm_process.specs.declared.process.Process.{Process}
 use Rattle.dm_forward.specs.Records.{incoming_of}
-use Rattle.dm_migrate.specs.Arrival.{Arrival}
 use Rattle.dm_onekernel.specs.declared.boot.Boot.{Boot}
 use Rattle.dm_onekernel.specs.Boot.{manager, switchboard}
 use Rattle.dm_onekernel.specs.Kernel.{Life, Alive, Ended, OneKernel}
@@ -25,16 +24,14 @@ use Rattle.dm_onekernel.specs.Plain.{plain_process}
 use Rattle.dm_onekernel.specs.PlainProcess.{PlainProcess}
 use Rattle.dm_onekernel.specs.Step as kernel
 use Rattle.dm_laws.proofs.Entered.{Made}
-use Rattle.dm_laws.proofs.Equal.{id_eq-same, pid_eq-is, pid_eq-same}
-use Rattle.dm_rule.specs.Phases.{is_between, is_of_source, Moves, IsIn, IsToken, receiver_in, sender_in, told_between}
+use Rattle.dm_laws.proofs.Equal.{id_eq-same}
+use Rattle.dm_rule.specs.Phases.{is_between, is_of_source, Moves, IsIn, receiver_in, sender_in, told_between}
 use Rattle.dm_rule.specs.Point.{Point}
-use Rattle.dm_rule.specs.Spots.{Spot, Queue, Held, Inbox, Untaken, StandsOnce, StandsOutside, standing, times}
-use Rattle.dm_rule.specs.View.{About, Of, Told, is_kernels}
+use Rattle.dm_rule.specs.Spots.{Spot, Inbox, Untaken, StandsOnce, StandsOutside, standing, times}
+use Rattle.dm_rule.specs.View.{Of, Told, is_kernels}
 use Rattle.dm_rule.proofs.Groups.{stands_right}
 use Rattle.dm_rule.proofs.Letters.{not_kernels}
-use Rattle.dm_rule.proofs.PhasesStand.{InPhases, token_is, token_at}
-use Rattle.dm_rule.proofs.Standing.{once_at}
-use Rattle.dm_rule.proofs.States.{State}
+use Rattle.dm_rule.proofs.PhasesStand.{token_is, token_at}
 use Rattle.dm_rulelaws.specs.Fits.{is_server}
 use Rattle.dm_rulelaws.proofs.Runs.{Run}
 use Rattle.dm_placed.specs.Placed.{Placed, Mirrors}
@@ -42,7 +39,7 @@ use Rattle.dm_kernel.specs.State.{KernelState}
 use Rattle.dm_mirror.specs.Made.{MadeStands}
 use Rattle.dm_mirror.specs.Own.{AllOwnStand, OwnStands, about_of, told_of}
 use Rattle.dm_mirror.specs.Stands.{AreMessages, KernelStands}
-use Rattle.dm_mirror.specs.Tokens.{AllRecords, Carries, TokenStands, TokensStand, destination_of}
+use Rattle.dm_mirror.specs.Tokens.{AllRecords, Carries, TokensStand, destination_of}
 
 -- machine m, with kernel k, has at its inbox's front message y, which the machine that process p leaves sends
 pub record Comes (b : Boot) (m : ℕ) (pt : Point) (l : Placed) (records : AllRecords) (k : KernelState) (y : Message) (p : Pid) : Type 0 where

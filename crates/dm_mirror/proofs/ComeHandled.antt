@@ -6,15 +6,11 @@ use Rattle.std.specs.declared.option.Option.TheVariants.{None, Some}
 use Rattle.std.proofs.lemmas.Bool.{false≢true}
 use Rattle.std.proofs.lemmas.Bool.Decides.{nat_tests}
 use Rattle.dm_link.specs.declared.Pid.{Pid}
-use Rattle.dm_link.specs.Names.{pid_eq}
 use Rattle.dm_message.specs.declared.Message.{Message}
 use Rattle.dm_message.specs.declared.MsgId.{MsgId}
 use Rattle.dm_message.specs.declared.kind.MessageKind.{MessageKind}
 use Rattle.dm_message.specs.declared.kind.MessageKind.TheVariants as kind
-use Rattle.dm_message.specs.Ids.{id_eq}
 use Rattle.dm_message.specs.Kinds.{kind_of}
-use Rattle.dm_message.specs.Plain.{PlainMessage}
-use Rattle.dm_process.specs.declared.process.Process.{Process}
 use Rattle.dm_forward.specs.declared.record.Record.TheVariants as record_
 use Rattle.dm_migrate.specs.Arrival.{Arrival}
 use Rattle.dm_onekernel.specs.declared.boot.Boot.{Boot}
@@ -27,18 +23,18 @@ use Rattle.dm_rule.specs.declared.line.Line.TheVariants as line
 use Rattle.dm_rule.specs.declared.line.Stage.TheVariants as stage
 use Rattle.dm_rule.specs.Migrating.{kernel_told}
 use Rattle.dm_rule.specs.Parts.{Part}
-use Rattle.dm_rule.specs.Phases.{Moves, comes, is_away, is_between, is_early, knows, leaves}
+use Rattle.dm_rule.specs.Phases.{comes, is_away, is_between, is_early, leaves}
 use Rattle.dm_rule.specs.Point.{Point, after}
 use Rattle.dm_rule.specs.Rule as rule
 use Rattle.dm_rule.specs.Rule.{fits, free_room, kernel_hears, outcome}
 use Rattle.dm_rule.specs.Sets.{at_pid, at_record, without_front}
-use Rattle.dm_rule.specs.View.{About, Known, Unknown, Here, Frozen, Incoming, Forward, Ended, Of, Told, View, after_proto, front_of, handled, without_first}
+use Rattle.dm_rule.specs.View.{About, Known, Unknown, Here, Frozen, Incoming, Forward, Ended, Of, Told, after_proto, front_of, handled, without_first}
 use Rattle.dm_placed.specs.Placed.{Placed}
-use Rattle.dm_kernel.specs.Handle.{handles, kernel_handles}
+use Rattle.dm_kernel.specs.Handle.{kernel_handles}
 use Rattle.dm_kernel.specs.State as machine
 use Rattle.dm_kernel.specs.State.{KernelState, Turned}
 use Rattle.dm_kernel.specs.Turn.{turn, turns}
-use Rattle.dm_mirror.specs.Own.{about_of, told_of}
+use Rattle.dm_mirror.specs.Own.{about_of}
 use Rattle.dm_mirror.specs.Stands.{ComesStand, KnownStands}
 use Rattle.dm_mirror.specs.Tokens.{AllRecords}
 use Rattle.dm_mirror.proofs.ComeFrames.{Arrives, Comes}

@@ -1,17 +1,12 @@
 -- A piece comes of a process that comes, and the next is asked for, or all is said to have come.
-use Rattle.std.proofs.Common.{◌≡◌, ℕ, zero, suc, ◌+◌, ◌/◌, ◌==◌, ◌&&◌, Bool, true, false, not, nat_lt, nat_le, List, [], ◌∷◌, length, refl, ap, ◌∙◌, sym, subst, arith}
+use Rattle.std.proofs.Common.{◌≡◌, ℕ, ◌/◌, Bool, true, false, List, [], ◌∷◌, length, refl, ap, ◌∙◌, sym, subst}
 use Rattle.std.specs.Prelude.{if◌then◌else◌, slice_get}
 use Rattle.std.specs.declared.option.Option.{Option}
 use Rattle.std.specs.declared.option.Option.TheVariants.{None, Some}
-use Rattle.std.proofs.lemmas.Bool.Decides.{nat_tests}
 use Rattle.dm_link.specs.declared.Pid.{Pid}
 use Rattle.dm_link.specs.Names.{pid_eq}
 use Rattle.dm_message.specs.declared.Message.{Message}
 use Rattle.dm_message.specs.declared.MsgId.{MsgId}
-use Rattle.dm_message.specs.declared.What.{What}
-use Rattle.dm_message.specs.declared.What.TheVariants as what
-use Rattle.dm_message.specs.declared.kind.MessageKind.{MessageKind}
-use Rattle.dm_message.specs.declared.kind.MessageKind.TheVariants as kind
 use Rattle.dm_message.specs.Kinds.{kind_of}
 use Rattle.dm_message.specs.Plain.{plain_what}
 use Rattle.dm_process.specs.declared.process.Process.{Process}
@@ -19,29 +14,23 @@ use Rattle.dm_forward.specs.declared.record.Record.TheVariants as record_
 use Rattle.dm_forward.specs.Records.{incoming_of, with_record}
 use Rattle.dm_migrate.specs.declared.arriving.Wanted.{Wanted}
 use Rattle.dm_migrate.specs.declared.arriving.Wanted.TheVariants.{Chunk, Block, Nothing}
-use Rattle.dm_migrate.specs.Arrival.{Arrival, after_block, after_chunk, pull, with_piece}
+use Rattle.dm_migrate.specs.Arrival.{Arrival, pull, with_piece}
 use Rattle.dm_migrate.specs.Departure.{CanMove}
-use Rattle.dm_migrate.specs.Pieces.{block_of, chunk_of, is_last, state_of}
-use Rattle.dm_migrate.specs.Way.{ComesByPieces, coming}
-use Rattle.dm_migrate.proofs.Way.{by_pieces}
+use Rattle.dm_migrate.specs.Way.{coming}
 use Rattle.dm_onekernel.specs.declared.boot.Boot.{Boot}
 use Rattle.dm_onekernel.specs.Kernel.{OneKernel}
 use Rattle.dm_onekernel.specs.Options.{bind}
 use Rattle.dm_onekernel.specs.Plain.{plain_process}
 use Rattle.dm_laws.proofs.Equal.{pid_eq-same}
-use Rattle.dm_schedule.specs.declared.Step.TheVariants as step
 use Rattle.dm_rule.specs.declared.line.Line.{Line}
-use Rattle.dm_rule.specs.declared.line.Line.TheVariants as line
-use Rattle.dm_rule.specs.declared.line.Stage.TheVariants as stage
 use Rattle.dm_rule.specs.Addresses.{Addresses, goes_between, own_gives}
-use Rattle.dm_rule.specs.Migrating.{kernel_told, takes_block, takes_chunk, to_kernel}
+use Rattle.dm_rule.specs.Migrating.{kernel_told, to_kernel}
 use Rattle.dm_rule.specs.Parts as rule
 use Rattle.dm_rule.specs.Parts.{Part}
 use Rattle.dm_rule.specs.Phases.{is_between, is_early, is_of_source}
 use Rattle.dm_rule.specs.Point.{Point, after}
 use Rattle.dm_rule.specs.Rule.{fits, free_room, taken_at}
-use Rattle.dm_rule.specs.Sets.{at_pid, without_front}
-use Rattle.dm_rule.specs.View.{Incoming, Known, Of, View, without_first}
+use Rattle.dm_rule.specs.View.{Incoming, Known, Of, View}
 use Rattle.dm_placed.specs.Placed.{Placed, enclosed}
 use Rattle.dm_kernel.specs.declared.part.Part.TheVariants as part
 use Rattle.dm_kernel.specs.Begun.{room_of}
@@ -51,11 +40,10 @@ use Rattle.dm_kernel.specs.State as machine
 use Rattle.dm_kernel.specs.State.{KernelState, Turned}
 use Rattle.dm_mirror.specs.Own.{about_of}
 use Rattle.dm_mirror.specs.Stands.{ComesStand, KnownStands, RoomStands}
-use Rattle.dm_mirror.specs.Tokens.{AllRecords, Carries, IsAsked, Wants}
-use Rattle.dm_mirror.proofs.ComeCounts.{asked_after_block, asked_after_chunk, block_last, chunk_last, whole_memory}
+use Rattle.dm_mirror.specs.Tokens.{AllRecords, Carries, IsAsked}
 use Rattle.dm_mirror.proofs.ComeFrames.{Arrives, Comes}
-use Rattle.dm_mirror.proofs.ComeHandled.{Expects, after_memory_taken, after_piece, after_state_taken, expects, first_gone, front_gone, known_incoming, outcome_kernel, told_about, turn_kernel}
-use Rattle.dm_mirror.proofs.ComeTurns.{Answer, come_point, come_view, turns_answer}
+use Rattle.dm_mirror.proofs.ComeHandled.{known_incoming, outcome_kernel, turn_kernel}
+use Rattle.dm_mirror.proofs.ComeTurns.{come_point, come_view, turns_answer}
 use Rattle.dm_mirror.proofs.Rooms.{taken_same}
 use Rattle.dm_mirror.proofs.Turning.{TurnsAt, begun}
 

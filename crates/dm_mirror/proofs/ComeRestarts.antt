@@ -1,5 +1,5 @@
 -- A process that has come goes on: it is here, at the ring's back, and what was held for it comes before the inbox.
-use Rattle.std.proofs.Common.{◌≡◌, ◌≢◌, ◌⊎◌, ℕ, zero, suc, ◌+◌, ◌/◌, ◌≤◌, ◌==◌, ◌&&◌, Bool, true, false, not, List, [], ◌∷◌, ◌++◌, length, map, refl, ap, ◌∙◌, sym, subst, inl, inr, arith}
+use Rattle.std.proofs.Common.{◌≡◌, ◌≢◌, ◌⊎◌, ℕ, zero, suc, ◌+◌, ◌/◌, ◌≤◌, ◌==◌, ◌&&◌, Bool, true, false, List, [], ◌∷◌, ◌++◌, length, map, refl, ap, ◌∙◌, sym, subst, inl, inr, arith}
 use Rattle.std.specs.Prelude.{if◌then◌else◌, slice_get}
 use Rattle.std.specs.declared.option.Option.{Option}
 use Rattle.std.specs.declared.option.Option.TheVariants.{None, Some}
@@ -16,8 +16,8 @@ use Rattle.dm_message.specs.Kinds.{kind_of}
 use Rattle.dm_process.specs.declared.process.Process.{Process}
 use Rattle.dm_forward.specs.declared.record.Record.TheVariants as record_
 use Rattle.dm_forward.specs.Records.{incoming_of, with_record}
-use Rattle.dm_migrate.specs.declared.arriving.Wanted.TheVariants.{Chunk, Block, Nothing}
-use Rattle.dm_migrate.specs.Arrival.{Arrival, restarted}
+use Rattle.dm_migrate.specs.declared.arriving.Wanted.TheVariants.{Nothing}
+use Rattle.dm_migrate.specs.Arrival.{restarted}
 use Rattle.dm_migrate.specs.Way as way
 use Rattle.dm_migrate.specs.Way.{ComesByPieces, coming}
 use Rattle.dm_migrate.proofs.Way.{by_pieces}
@@ -36,11 +36,11 @@ use Rattle.dm_rule.specs.Rule as group
 use Rattle.dm_rule.specs.Rule.{Room, fits, free_room, taken_at, taken_by}
 use Rattle.dm_rule.specs.Sets.{at_machine, at_record}
 use Rattle.dm_rule.specs.Spots.{Spot, Queue, Held, Inbox, Untaken, standing, times}
-use Rattle.dm_rule.specs.View.{Known, Unknown, Here, Frozen, Incoming, Forward, Ended, Of, Told, View, without_first}
+use Rattle.dm_rule.specs.View.{Known, Unknown, Here, Frozen, Incoming, Forward, Ended, Of, View, without_first}
 use Rattle.dm_rule.proofs.Standing.{once_at, times-append}
 use Rattle.dm_rulelaws.specs.Fits.{is_server}
 use Rattle.dm_rulelaws.specs.Found.{has_no_queue}
-use Rattle.dm_placed.specs.Placed.{Placed, Mirrors}
+use Rattle.dm_placed.specs.Placed.{Placed}
 use Rattle.dm_placed.specs.PlacedStep.{with_process}
 use Rattle.dm_placed.proofs.Followed.{restarted_mirrors}
 use Rattle.dm_placed.proofs.Lines.{mirrors_view}
@@ -51,13 +51,13 @@ use Rattle.dm_kernel.specs.Handle.{kernel_handles}
 use Rattle.dm_kernel.specs.State as machine
 use Rattle.dm_kernel.specs.State.{KernelState, Turned}
 use Rattle.dm_mirror.specs.Stands.{AreMessages, KnownStands, KernelStands, RoomStands}
-use Rattle.dm_mirror.specs.Tokens.{AllRecords, Carries, TokenStands, TokensStand, destination_of}
-use Rattle.dm_mirror.proofs.ComeBytes.{Before, before}
+use Rattle.dm_mirror.specs.Tokens.{AllRecords, Carries, TokensStand, destination_of}
+use Rattle.dm_mirror.proofs.ComeBytes.{before}
 use Rattle.dm_mirror.proofs.ComeFrames.{Arrives, Comes, arrives, own_once}
 use Rattle.dm_mirror.proofs.ComeHandled.{first_gone, known_incoming, outcome_kernel, turn_kernel}
 use Rattle.dm_mirror.proofs.ComeTurns.{come_view, eq_off, eq_self, fewer, gone, machine_off, machine_self, others_known}
 use Rattle.dm_mirror.proofs.Rooms.{taken_same}
-use Rattle.dm_mirror.proofs.Turning.{Elsewhere, Nothing as NoLate, TurnsAt, begun, has_process}
+use Rattle.dm_mirror.proofs.Turning.{Nothing as NoLate, TurnsAt, begun, has_process}
 
 abbrev pub back_point : Point → ℕ → Pid → Point
 back_point pt m p = moved (begun pt m) (line.Migration stage.Restarted p) pt.kernel

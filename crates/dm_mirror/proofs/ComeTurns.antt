@@ -1,5 +1,5 @@
 -- A turn that handles such a message says a line and answers, or says a line alone; what it leaves as it was.
-use Rattle.std.proofs.Common.{◌≡◌, ◌≢◌, ℕ, ◌+◌, ◌≤◌, ◌==◌, ◌&&◌, Bool, true, false, List, [], ◌∷◌, ◌++◌, map, refl, ap, ◌∙◌, sym, subst, inl, inr, arith}
+use Rattle.std.proofs.Common.{◌≡◌, ◌≢◌, ℕ, ◌+◌, ◌≤◌, ◌==◌, Bool, true, false, List, [], ◌∷◌, map, refl, ap, ◌∙◌, sym, subst, inl, inr, arith}
 use Rattle.std.specs.Prelude.{if◌then◌else◌, slice_get}
 use Rattle.std.specs.declared.option.Option.{Option}
 use Rattle.std.specs.declared.option.Option.TheVariants.{None, Some}
@@ -7,46 +7,43 @@ use Rattle.std.proofs.lemmas.Bool.{cases_Bool, false≢true}
 use Rattle.std.proofs.lemmas.Bool.Decides.{nat_tests}
 use Rattle.dm_link.specs.declared.Addr.{Addr}
 use Rattle.dm_link.specs.declared.Pid.{Pid}
-use Rattle.dm_link.specs.Names.{Place, pid_eq, pid_of, place_of}
+use Rattle.dm_link.specs.Names.{pid_eq, pid_of, place_of}
 use Rattle.dm_linkupdate.specs.Notice.{kernel_at}
 use Rattle.dm_message.specs.declared.Message.{Message}
 use Rattle.dm_message.specs.declared.MsgId.{MsgId}
 use Rattle.dm_message.specs.declared.What.{What}
-use Rattle.dm_message.specs.declared.kind.MessageKind.{MessageKind}
-use Rattle.dm_message.specs.Ids.{id_eq, id_of}
+use Rattle.dm_message.specs.Ids.{id_of}
 use Rattle.dm_message.specs.Kinds.{kind_of}
-use Rattle.dm_message.specs.Plain.{plain_message, plain_what, with_what}
-use Rattle.dm_process.specs.declared.process.Process.{Process}
+use Rattle.dm_message.specs.Plain.{plain_what, with_what}
 use Rattle.dm_forward.specs.declared.record.Record.TheVariants as record_
 use Rattle.dm_forward.specs.Records.{incoming_of}
 use Rattle.dm_onekernel.specs.declared.boot.Boot.{Boot}
-use Rattle.dm_onekernel.specs.Step as kernel
 use Rattle.dm_laws.proofs.Equal.{id_eq-same, pid_eq-is}
 use Rattle.dm_schedule.specs.declared.Step.TheVariants as step
 use Rattle.dm_rule.specs.declared.line.Line.{Line}
 use Rattle.dm_rule.specs.Addresses.{Addresses, Gets, Receiver, Sender, given, goes_between, own_gives, unmoved}
 use Rattle.dm_rule.specs.Migrating.{to_kernel}
 use Rattle.dm_rule.specs.Parts as rule
-use Rattle.dm_rule.specs.Phases.{is_between, is_of_source, Moves}
+use Rattle.dm_rule.specs.Phases.{is_between, is_of_source}
 use Rattle.dm_rule.specs.Point.{Point, after}
 use Rattle.dm_rule.specs.Rule.{outcome, taken_at}
 use Rattle.dm_rule.specs.Sets.{at_machine}
 use Rattle.dm_rule.specs.Spots.{Spot, Queue, Held, Inbox, Untaken, standing, times}
-use Rattle.dm_rule.specs.View.{Known, Unknown, Here, Frozen, Incoming, Forward, Ended, Of, Told, View, is_kernels}
+use Rattle.dm_rule.specs.View.{Known, Unknown, Here, Frozen, Incoming, Forward, Ended, Of, View}
 use Rattle.dm_rule.proofs.Standing.{once_at}
 use Rattle.dm_rulelaws.specs.Fits.{is_server}
-use Rattle.dm_placed.specs.Placed.{Placed, Mirrors, enclosed}
+use Rattle.dm_placed.specs.Placed.{Placed, enclosed}
 use Rattle.dm_placed.proofs.Lines.{mirrors_view}
 use Rattle.dm_kernel.specs.declared.part.Part.TheVariants as part
 use Rattle.dm_kernel.specs.Begun.{room_of}
 use Rattle.dm_kernel.specs.State as machine
 use Rattle.dm_kernel.specs.State.{KernelState, own}
 use Rattle.dm_kernel.specs.Turn.{turn}
-use Rattle.dm_mirror.specs.Own.{AllOwnStand, about_of, told_of}
-use Rattle.dm_mirror.specs.Stands.{AreMessages, ComesStand, KnownStands, KernelStands, LeavesStand, RoomStands}
-use Rattle.dm_mirror.specs.Tokens.{AllRecords, Carries, TokenStands, TokensStand, destination_of}
-use Rattle.dm_mirror.proofs.ComeFrames.{Arrives, Comes, arrives, fresh_own, next_untold, own_once, times_self}
-use Rattle.dm_mirror.proofs.Turning.{Elsewhere, First, IsCarried, MayOwn, Nothing, On, Own, Turns, TurnsAt, begun}
+use Rattle.dm_mirror.specs.Own.{about_of, told_of}
+use Rattle.dm_mirror.specs.Stands.{KnownStands, RoomStands}
+use Rattle.dm_mirror.specs.Tokens.{AllRecords, Carries, TokensStand, destination_of}
+use Rattle.dm_mirror.proofs.ComeFrames.{Arrives, Comes, fresh_own, next_untold, own_once, times_self}
+use Rattle.dm_mirror.proofs.Turning.{IsCarried, MayOwn, Nothing, Own, TurnsAt, begun}
 
 -- the view behind the line: the message is handled, and what is known of p here and asked for of it may be new
 abbrev pub come_view : View → ℕ → Pid → List MsgId → (ℕ → Pid → Known) → (Pid → ℕ) → View

@@ -1,37 +1,32 @@
 -- What the laws rest on.
-use Rattle.std.proofs.Common.{◌≡◌, ◌≢◌, ℕ, ◌<◌, ◌≤◌, Bool, true, List, length, map, refl, ap, ◌∙◌, sym, subst, inl, nat_le, arith}
+use Rattle.std.proofs.Common.{◌≡◌, ℕ, ◌<◌, ◌≤◌, true, List, length, refl, ap, ◌∙◌, sym, subst, inl, nat_le, arith}
 use Rattle.std.specs.Prelude.{option_map}
 use Rattle.std.specs.declared.option.Option.{Option}
 use Rattle.std.specs.declared.option.Option.TheVariants.{None, Some}
 use Rattle.std.proofs.lemmas.Bool.Decides.{nat_tests}
 use Rattle.std.proofs.lemmas.List.{length-map}
 use Rattle.dm_link.specs.declared.Pid.{Pid}
-use Rattle.dm_link.specs.declared.Link.{Link}
 use Rattle.dm_link.specs.Lawful.{IsMachine}
 use Rattle.dm_link.specs.Plain.{plain_link}
-use Rattle.dm_process.specs.declared.process.Process.{Process}
 use Rattle.dm_onekernel.specs.declared.boot.Boot.{Boot}
 use Rattle.dm_onekernel.specs.Boot.{IsValid, slots_of}
-use Rattle.dm_onekernel.specs.Kernel.{Life, Alive, Ended, OneKernel}
+use Rattle.dm_onekernel.specs.Kernel.{Life, Alive, Ended}
 use Rattle.dm_onekernel.specs.Plain.{plain_process}
 use Rattle.dm_onekernel.specs.PlainProcess.{PlainProcess}
 use Rattle.dm_onekernel.specs.Step as kernel
 use Rattle.dm_schedule.specs.declared.Step.{Step}
 use Rattle.dm_schedule.specs.declared.Step.TheVariants as step
-use Rattle.dm_kernel.specs.State.{KernelState}
 use Rattle.dm_rule.specs.Laws.{Leads}
 use Rattle.dm_rule.specs.Point.{Point, first_point}
 use Rattle.dm_rulelaws.proofs.RunsAlways.{run_always, run_group, run_start}
 use Rattle.dm_rulelaws.proofs.TablesAlways.{format_always, tables_always}
-use Rattle.dm_placed.specs.Placed.{Placed, Mirrors}
+use Rattle.dm_placed.specs.Placed.{Placed}
 use Rattle.dm_world.specs.May.{MayStep}
 use Rattle.dm_world.specs.Whole.{AreWhole}
 use Rattle.dm_world.specs.World.{WorldState}
-use Rattle.dm_mirror.specs.Able.{AllMayAct}
 use Rattle.dm_mirror.specs.Laws.{EndIsSaid, EndMay, RunGoesOn, StepsStand}
 use Rattle.dm_mirror.specs.Run.{Steps}
-use Rattle.dm_mirror.specs.Stands.{CountsStand, History, KernelStands, Stands, StandsWith}
-use Rattle.dm_mirror.specs.Tokens.{AllRecords}
+use Rattle.dm_mirror.specs.Stands.{History, Stands, StandsWith}
 use Rattle.dm_mirror.proofs.ComeAll.{Around}
 use Rattle.dm_mirror.proofs.Counts.{counts_few}
 use Rattle.dm_mirror.proofs.Deliver.{OthersLawful, deliver_goes, may_deliver}
@@ -44,7 +39,7 @@ use Rattle.dm_mirror.proofs.Machines.{machines_are}
 use Rattle.dm_mirror.proofs.Made.{made_always}
 use Rattle.dm_mirror.proofs.May.{all_lawful, may_step_migrate, may_step_turn, may_step_tick}
 use Rattle.dm_mirror.proofs.Ticks.{tick_goes}
-use Rattle.dm_mirror.proofs.TurnAll.{About, turns_all}
+use Rattle.dm_mirror.proofs.TurnAll.{turns_all}
 use Rattle.dm_mirror.proofs.Whole.{move_goes, turn_goes}
 
 -- each living process has as many slots as the boot file's format gives

@@ -1,15 +1,13 @@
 -- A turn with a kernel's own message at the inbox's front, a row a kind.
-use Rattle.std.proofs.Common.{◌≡◌, ◌≢◌, ℕ, ◌<◌, Bool, true, false, List, ◌∷◌, refl, ap, ◌∙◌, sym, subst}
-use Rattle.std.specs.declared.option.Option.{Option}
+use Rattle.std.proofs.Common.{◌≡◌, ℕ, ◌<◌, true, false, refl, ap, ◌∙◌, sym, subst}
 use Rattle.std.specs.declared.option.Option.TheVariants.{None, Some}
 use Rattle.std.proofs.lemmas.Bool.{false≢true}
-use Rattle.dm_link.specs.declared.Addr.{Addr}
 use Rattle.dm_link.specs.declared.Pid.{Pid}
 use Rattle.dm_message.specs.declared.Message.{Message}
 use Rattle.dm_message.specs.declared.What.{What}
 use Rattle.dm_message.specs.declared.What.TheVariants as what
 use Rattle.dm_message.specs.Kinds.{kind_of}
-use Rattle.dm_message.specs.Plain.{PlainMessage, PlainWhat, plain_message, plain_what, with_what}
+use Rattle.dm_message.specs.Plain.{PlainWhat, plain_message, plain_what, with_what}
 use Rattle.dm_onekernel.specs.declared.boot.Boot.{Boot}
 use Rattle.dm_kernel.specs.Carried.{FreezesReceiverWhole, FreezesWhole}
 use Rattle.dm_kernel.specs.State.{KernelState}
@@ -22,7 +20,6 @@ use Rattle.dm_mirror.specs.Made.{MadeStands}
 use Rattle.dm_mirror.specs.Own.{about_of, told_of}
 use Rattle.dm_mirror.specs.Tokens.{AllRecords}
 use Rattle.dm_mirror.proofs.ComeAll.{Around, turns_come}
-use Rattle.dm_mirror.proofs.ComeFrames.{Comes}
 use Rattle.dm_mirror.proofs.FollowFrames.{Fronts}
 use Rattle.dm_mirror.proofs.FollowTurns.{migrate_apart, update_turn}
 use Rattle.dm_mirror.proofs.LeaveAsks.{hears_migrate}

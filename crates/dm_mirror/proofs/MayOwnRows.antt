@@ -1,8 +1,8 @@
 -- A kernel's own message at the front of another kernel's inbox, a row a kind.
-use Rattle.std.proofs.Common.{◌≡◌, ℕ, ◌+◌, ◌<◌, ◌==◌, ◌&&◌, ◌||◌, not, Bool, true, false, List, [], length, refl, ap, ◌∙◌, sym, subst, arith}
+use Rattle.std.proofs.Common.{◌≡◌, ℕ, ◌<◌, ◌==◌, ◌&&◌, ◌||◌, not, Bool, true, [], refl, ap, ◌∙◌, sym, subst, arith}
 use Rattle.std.specs.Prelude.{IsSome}
 use Rattle.std.specs.declared.option.Option.{Option}
-use Rattle.std.specs.declared.option.Option.TheVariants.{None, Some}
+use Rattle.std.specs.declared.option.Option.TheVariants.{None}
 use Rattle.std.proofs.lemmas.Bool.{false≢true}
 use Rattle.dm_link.specs.declared.Pid.{Pid}
 use Rattle.dm_message.specs.declared.Message.{Message}
@@ -12,10 +12,8 @@ use Rattle.dm_message.specs.declared.What.TheVariants as what
 use Rattle.dm_message.specs.declared.kind.MessageKind.TheVariants as kind
 use Rattle.dm_message.specs.Kinds.{kind_of}
 use Rattle.dm_process.specs.declared.process.Process.{Process}
-use Rattle.dm_forward.specs.declared.record.Record.TheVariants as record_
 use Rattle.dm_forward.specs.Records.{frozen_of, incoming_of}
 use Rattle.dm_migrate.specs.declared.arriving.Wanted.TheVariants.{Chunk, Block, Nothing}
-use Rattle.dm_migrate.specs.declared.arriving.Wanted.{Wanted}
 use Rattle.dm_migrate.specs.Answer.{IsAskOfProcess}
 use Rattle.dm_migrate.specs.Arrival.{Arrival, IsNextPiece, restarted}
 use Rattle.dm_migrate.specs.Departure.{CanMove, Departure, ask_of}
@@ -40,7 +38,7 @@ use Rattle.dm_mirror.specs.Tokens.{TokensStand}
 use Rattle.dm_mirror.proofs.CountsFew.{CountsFew}
 use Rattle.dm_mirror.proofs.MayHave.{has_taken, life_is}
 use Rattle.dm_mirror.proofs.MayOwn.{OwnFront}
-use Rattle.dm_mirror.proofs.MayOwnKernel.{IsToken, Leaves, Comes, block_there, chunk_there, destination_comes, frozen_at, frozen_is, incoming_is, leaves_at, lengths_are, moved_lawful, same_process, source_leaves, token_of, wants_is, whole_asks}
+use Rattle.dm_mirror.proofs.MayOwnKernel.{IsToken, Leaves, block_there, chunk_there, destination_comes, frozen_at, frozen_is, incoming_is, leaves_at, lengths_are, moved_lawful, same_process, source_leaves, token_of, wants_is, whole_asks}
 
 -- all that stands about the machines' kernels, with a message of a kernel's own at the front of machine m's inbox
 pub record Around (b : Boot) (pt : Point) (l : Placed) (ks : ℕ → KernelState) (m : ℕ) (i : MsgId) (x : Message) : Type 0 where

@@ -1,9 +1,8 @@
 -- Each turn of a machine, whatever its inbox has at the front.
-use Rattle.std.proofs.Common.{◌≡◌, ◌≢◌, ℕ, ◌<◌, Bool, true, false, List, [], ◌∷◌, refl, ap, ◌∙◌, sym, subst, inl, inr}
+use Rattle.std.proofs.Common.{◌≡◌, ℕ, ◌<◌, false, List, [], ◌∷◌, refl, ap, ◌∙◌, sym, inl, inr}
 use Rattle.std.specs.declared.option.Option.{Option}
 use Rattle.std.specs.declared.option.Option.TheVariants.{None, Some}
 use Rattle.std.proofs.lemmas.Bool.{cases_Bool}
-use Rattle.dm_link.specs.declared.Pid.{Pid}
 use Rattle.dm_message.specs.declared.Message.{Message}
 use Rattle.dm_message.specs.declared.MsgId.{MsgId}
 use Rattle.dm_message.specs.Plain.{PlainMessage, plain_message}
@@ -30,7 +29,7 @@ use Rattle.dm_mirror.proofs.FollowFronts.{fronted}
 use Rattle.dm_mirror.proofs.FollowTurns.{apart_turn, front_known}
 use Rattle.dm_mirror.proofs.HandleBag.{BagFor, ForFixed, ForHere, ForEnded, bag_row}
 use Rattle.dm_mirror.proofs.Heard.{heard_turn}
-use Rattle.dm_mirror.proofs.LeaveFronts.{Hearing, heard}
+use Rattle.dm_mirror.proofs.LeaveFronts.{heard}
 use Rattle.dm_mirror.proofs.RowTurns.{row_turns, serve_turns}
 use Rattle.dm_mirror.proofs.Turning.{TurnsAt}
 

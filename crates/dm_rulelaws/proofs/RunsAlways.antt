@@ -1,11 +1,9 @@
 -- All that holds wherever the rule leads holds at the start and behind each group; and so the laws.
-use Rattle.std.proofs.Common.{◌≡◌, List}
-use Rattle.std.specs.declared.option.Option.TheVariants.{Some}
+use Rattle.std.proofs.Common.{List}
 use Rattle.dm_onekernel.specs.declared.boot.Boot.{Boot}
 use Rattle.dm_onekernel.specs.Boot.{IsValid}
 use Rattle.dm_schedule.specs.declared.Step.{Step}
 use Rattle.dm_rule.specs.Laws.{Leads}
-use Rattle.dm_rule.specs.Parts.{Spelled}
 use Rattle.dm_rule.specs.Point.{Point, first_point}
 use Rattle.dm_rulelaws.specs.Laws.{FoundAlways, GoesOnAlways, KnownAlways}
 use Rattle.dm_rulelaws.specs.Order.{ReceivesInOrder}
