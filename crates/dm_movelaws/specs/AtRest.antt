@@ -1,0 +1,49 @@
+-- Where nothing is on its way between machines, all messages are queued, and each request to move has come to its end.
+use Rattle.std.specs.Prelude.{◌≡◌, ◌≢◌, ◌⊎◌, ℕ, Bool, true, false, List, []}
+use Rattle.std.specs.declared.option.Option.TheVariants.{Some}
+use Rattle.dm_link.specs.declared.Pid.{Pid}
+use Rattle.dm_message.specs.declared.MsgId.{MsgId}
+use Rattle.dm_message.specs.declared.kind.MessageKind.TheVariants as kind
+use Rattle.dm_message.specs.Kinds.{plain_kind}
+use Rattle.dm_message.specs.Plain.{PlainMessage}
+use Rattle.dm_onekernel.specs.declared.boot.Boot.{Boot}
+use Rattle.dm_onekernel.specs.Boot.{IsValid}
+use Rattle.dm_schedule.specs.declared.Step.{Step}
+use Rattle.dm_rule.specs.Laws.{Leads}
+use Rattle.dm_rule.specs.Point.{Point, first_point}
+use Rattle.dm_rule.specs.Quiet.{IsQuiet}
+use Rattle.dm_rule.specs.Spots.{Spot, Queue, standing, untaken}
+use Rattle.dm_rule.specs.View.{Known, Unknown, Here, Frozen, Incoming, Forward, Ended, is_kernels}
+
+-- a machine waits for a process to leave or to come
+abbrev pub is_moving : Known → Bool
+is_moving Unknown = false
+is_moving Here = false
+is_moving (Frozen to) = true
+is_moving (Incoming from) = true
+is_moving (Forward at moves) = false
+is_moving Ended = false
+
+-- a message in the queue of the process that it is for, where that is here or has ended, and in no other place
+pub record IsWaiting (pt : Point) (i : MsgId) (m : PlainMessage) : Type 0 where
+  pub machine : ℕ
+  pub user : plain_kind m.what ≡ kind.User
+  pub known : (pt.view.known machine m.to ≡ Here) ⊎ (pt.view.known machine m.to ≡ Ended)
+  pub queued : standing pt.view i (Queue machine m.to) ≡ 1
+  pub alone : (z : Spot) → z ≢ Queue machine m.to → standing pt.view i z ≡ 0
+
+pub record AtRest (pt : Point) : Type 0 where
+  -- no process is leaving or coming, and nothing is held back for one
+  pub still : (m : ℕ) (p : Pid) → is_moving (pt.view.known m p) ≡ false
+  pub held : (m : ℕ) (p : Pid) → pt.view.held m p ≡ []
+  -- nothing is on its way
+  pub inbox : (m : ℕ) → pt.view.inbox m ≡ []
+  pub untaken : (a b : ℕ) → untaken (pt.view.pair a b) ≡ []
+  -- each message that there is waits in a queue
+  pub waiting : (i : MsgId) (m : PlainMessage) → pt.kernel.bag i ≡ Some m → IsWaiting pt i m
+  -- no kernel's own message stands anywhere: no request to move, no message of a migration, no update
+  pub own : (i : MsgId) (z : Spot) → is_kernels i ≡ true → standing pt.view i z ≡ 0
+
+-- wherever the rule leads, where nothing is on its way between machines all is at rest
+abbrev pub AtRestAlways : Type 0
+AtRestAlways = (b : Boot) (es : List Step) (pt : Point) → IsValid b → Leads b (first_point b) es pt → IsQuiet pt.kernel.machines pt.view → AtRest pt

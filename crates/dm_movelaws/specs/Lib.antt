@@ -1,0 +1,5 @@
+pub mod Updates
+pub mod AtRest
+pub mod Stages
+pub mod Ends
+pub mod Promise

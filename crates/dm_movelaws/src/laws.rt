@@ -1,0 +1,1 @@
+//! What holds of migrations wherever the rule leads, whoever ran by it.
