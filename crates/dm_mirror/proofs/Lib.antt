@@ -146,4 +146,5 @@ pub mod May
 pub mod Ending
 pub mod EndMay
 pub mod Going
+pub mod Leading
 pub mod Given

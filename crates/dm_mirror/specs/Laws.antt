@@ -12,6 +12,7 @@ use Rattle.dm_rule.specs.Good.{Todo, Next, all_of}
 use Rattle.dm_rule.specs.Good as rule
 use Rattle.dm_rule.specs.Laws.{IsStep, Leads}
 use Rattle.dm_rule.specs.Point.{Point, first_point}
+use Rattle.dm_rulelaws.specs.Order.{LeadsBy}
 use Rattle.dm_world.specs.World.{WorldState, first_world}
 use Rattle.dm_world.specs.May.{MayStep}
 use Rattle.dm_world.specs.Next as world
@@ -22,7 +23,7 @@ use Rattle.dm_world.specs.Whole.{AreWhole}
 use Rattle.dm_mirror.specs.Able.{AllMayAct}
 use Rattle.dm_mirror.specs.Stands.{Stands}
 use Rattle.dm_mirror.specs.Todo.{IsDirective, IsTodo}
-use Rattle.dm_mirror.specs.Run.{GoesOn, RunStands, Steps}
+use Rattle.dm_mirror.specs.Run.{joined, IsGood, GoesOn, RunStands, Steps}
 
 -- the world as the boot file has it stands for the first point
 abbrev pub StartStands : Type 0
@@ -66,3 +67,10 @@ abbrev pub RunGoesOn : Type 0
 RunGoesOn =
     (b : Boot) (ds : List Directive) (gs : List (List Line)) (pt : Point) (left : Todo) (w : WorldState) (n : Next) → IsValid b → RunStands b ds gs pt left w
     → world.next_step (length b.machines) w left ≡ Some n → RunGoes b ds gs pt w n
+
+-- good groups are a run by the rule, directive by directive, and end to end they are the lines that were printed: so each law of
+-- such runs speaks of printed lines
+abbrev pub GoodLeads : Type 0
+GoodLeads =
+    (b : Boot) (ds : List Directive) (gs : List (List Line)) (end : Point) (left : Todo) → IsValid b → All (IsDirective (length b.machines)) ds → IsGood b ds gs end left
+    → (es : List Step) × LeadsBy b (first_point b) es (joined gs) end

@@ -1,6 +1,6 @@
 //! What holds of every run of the machines and their wires, whoever runs them.
 ghost use Rattle.dm_mirror.specs.Local.{ActsLocally, ReadsLocally, NothingComes};
-ghost use Rattle.dm_mirror.specs.Laws.{StartStands, StepsStand, NextIsSaid, EndIsSaid, EndMay, RunBegins, RunGoesOn};
+ghost use Rattle.dm_mirror.specs.Laws.{StartStands, StepsStand, NextIsSaid, EndIsSaid, EndMay, RunBegins, RunGoesOn, GoodLeads};
 
 /// The machines as the boot file has them, with empty wires, stand for the point where printed lines begin.
 pub fn start_stands()
@@ -40,6 +40,11 @@ pub fn run_begins()
 /// Or the machines stop, since two of them have counted all messages that they may.
 pub fn run_goes_on()
     ensures { RunGoesOn }
+{}
+
+/// Groups of lines that are good are a run by the rule, directive by directive: each law of such runs speaks of printed lines.
+pub fn good_leads()
+    ensures { GoodLeads }
 {}
 
 /// A directive changes one machine, and only that machine puts packets on its wires; none is taken off, and a delivery marks its

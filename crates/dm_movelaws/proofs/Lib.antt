@@ -1,0 +1,14 @@
+pub mod TrailPlaced
+pub mod TrailWalks
+pub mod TrailLoose
+pub mod TrailRows
+pub mod TrailForwards
+pub mod TrailHears
+pub mod TrailTurns
+pub mod TrailAlways
+pub mod UpdatesFirst
+pub mod UpdatesGroups
+pub mod UpdatesListed
+pub mod UpdatesAlways
+pub mod AtRestPairs
+pub mod AtRestAlways

@@ -1,5 +1,5 @@
 -- Where nothing is on its way between machines, all messages are queued, and each request to move has come to its end.
-use Rattle.std.specs.Prelude.{◌≡◌, ◌≢◌, ◌⊎◌, ℕ, Bool, true, false, List, []}
+use Rattle.std.specs.Prelude.{◌≡◌, ◌≢◌, ◌⊎◌, ◌==◌, ℕ, Bool, true, false, List, []}
 use Rattle.std.specs.declared.option.Option.TheVariants.{Some}
 use Rattle.dm_link.specs.declared.Pid.{Pid}
 use Rattle.dm_message.specs.declared.MsgId.{MsgId}
@@ -8,12 +8,15 @@ use Rattle.dm_message.specs.Kinds.{plain_kind}
 use Rattle.dm_message.specs.Plain.{PlainMessage}
 use Rattle.dm_onekernel.specs.declared.boot.Boot.{Boot}
 use Rattle.dm_onekernel.specs.Boot.{IsValid}
+use Rattle.dm_onekernel.specs.Kernel.{Alive}
+use Rattle.dm_onekernel.specs.PlainProcess.{PlainProcess}
 use Rattle.dm_schedule.specs.declared.Step.{Step}
 use Rattle.dm_rule.specs.Laws.{Leads}
+use Rattle.dm_rule.specs.Phases.{is_away}
 use Rattle.dm_rule.specs.Point.{Point, first_point}
 use Rattle.dm_rule.specs.Quiet.{IsQuiet}
 use Rattle.dm_rule.specs.Spots.{Spot, Queue, standing, untaken}
-use Rattle.dm_rule.specs.View.{Known, Unknown, Here, Frozen, Incoming, Forward, Ended, is_kernels}
+use Rattle.dm_rule.specs.View.{View, Known, Unknown, Here, Frozen, Incoming, Forward, Ended, is_kernels}
 
 -- a machine waits for a process to leave or to come
 abbrev pub is_moving : Known → Bool
@@ -32,7 +35,15 @@ pub record IsWaiting (pt : Point) (i : MsgId) (m : PlainMessage) : Type 0 where
   pub queued : standing pt.view i (Queue machine m.to) ≡ 1
   pub alone : (z : Spot) → z ≢ Queue machine m.to → standing pt.view i z ≡ 0
 
+-- a process is on one machine; each other machine doesn't know it, or forwards what comes for it
+pub record IsAt (v : View) (p : Pid) : Type 0 where
+  pub machine : ℕ
+  pub here : v.known machine p ≡ Here
+  pub away : (n : ℕ) → (machine == n) ≡ false → is_away (v.known n p) ≡ true
+
 pub record AtRest (pt : Point) : Type 0 where
+  -- each living process is on one machine
+  pub lives : (p : Pid) (x : PlainProcess) → pt.kernel.processes p ≡ Some (Alive x) → IsAt pt.view p
   -- no process is leaving or coming, and nothing is held back for one
   pub still : (m : ℕ) (p : Pid) → is_moving (pt.view.known m p) ≡ false
   pub held : (m : ℕ) (p : Pid) → pt.view.held m p ≡ []

@@ -1,1 +1,26 @@
 //! What holds of migrations wherever the rule leads, whoever ran by it.
+ghost use Rattle.dm_rule.specs.Trails.{TrailsAlways};
+ghost use Rattle.dm_movelaws.specs.AtRest.{AtRestAlways};
+ghost use Rattle.dm_movelaws.specs.Updates.{UpdatesAlways};
+
+/// Wherever the rule leads from a boot file, each address of a process that some machine knows names a machine where the process was,
+/// at its place of the list of all of them; and from there the forwarding addresses lead on, each with a higher count, to where the
+/// process is here, leaves, comes or has ended, in fewer steps than there are machines.
+pub fn trails_always()
+    ensures { TrailsAlways }
+{}
+
+/// Wherever the rule leads from a boot file, where an update is handled, each address of its receiver that leads to the process
+/// and knows fewer moves of it gets the place that the update tells, and the line says how many these are, but for the owner in
+/// a data move, which follows too. Every other address is as it was.
+pub fn updates_always()
+    ensures { UpdatesAlways }
+{}
+
+/// Wherever the rule leads from a boot file, where all messages that were routed are taken, and acknowledged between different
+/// machines, and all inboxes are empty: each living process is on one machine and none moves, no message is held back, each
+/// message that there is waits in the queue of the process that it is for, and no kernel's own message stands anywhere. So each
+/// request to move has come to its end.
+pub fn at_rest_always()
+    ensures { AtRestAlways }
+{}

@@ -1,0 +1,257 @@
+-- Where a process is on its trail: at the end, or one machine before it while the message that restarts it is under way.
+use Rattle.std.proofs.Common.{◌≡◌, ◌≢◌, ◌⊎◌, ℕ, ◌+◌, ◌==◌, ◌&&◌, not, Bool, true, false, List, length, refl, ap, ◌∙◌, sym, subst, inl, inr, arith}
+use Rattle.std.proofs.lemmas.Bool.{cases_Bool, false≢true}
+use Rattle.std.proofs.lemmas.Bool.Decides.{nat_tests}
+use Rattle.std.specs.Prelude.{if◌then◌else◌, slice_get}
+use Rattle.std.specs.declared.option.Option.{Option}
+use Rattle.std.specs.declared.option.Option.TheVariants.{Some}
+use Rattle.dm_link.specs.declared.Pid.{Pid}
+use Rattle.dm_link.specs.Names.{pid_eq}
+use Rattle.dm_message.specs.declared.MsgId.{MsgId}
+use Rattle.dm_message.specs.declared.kind.MessageKind.{MessageKind}
+use Rattle.dm_laws.proofs.Equal.{pid_eq-is, pid_eq-same}
+use Rattle.dm_rule.specs.Sets.{at_record}
+use Rattle.dm_rule.specs.View.{View, Known, Unknown, Here, Frozen, Incoming, Forward, Ended}
+use Rattle.dm_rule.specs.Phases.{Moves, IsIn, knows, leaves, comes, is_restart, is_away}
+use Rattle.dm_rule.specs.Trails.{Trails}
+use Rattle.dm_rule.proofs.Lines.{eq_is, parts}
+
+-- a machine has a process, or had it last
+abbrev pub is_held : Known → Bool
+is_held Unknown = false
+is_held Here = true
+is_held (Frozen to) = true
+is_held (Incoming from) = false
+is_held (Forward at moves) = false
+is_held Ended = true
+
+pub record Placed (v : View) (t : Trails) (p : Pid) : Type 0 where
+  pub now : (m : ℕ) → is_held (v.known m p) ≡ true → slice_get (t p) (v.moves p) ≡ Some m
+  pub long : (m : ℕ) → is_held (v.known m p) ≡ true → length (t p) ≡ v.moves p + 1
+  -- its source forwards, and its destination still expects it
+  pub next : (s d c : ℕ) → v.known s p ≡ Forward d c → v.known d p ≡ Incoming s → slice_get (t p) (v.moves p + 1) ≡ Some d
+  pub longer : (s d c : ℕ) → v.known s p ≡ Forward d c → v.known d p ≡ Incoming s → length (t p) ≡ v.moves p + 2
+  pub unmade : ((m : ℕ) → v.known m p ≡ Unknown) → (v.moves p ≡ 0) × (length (t p) ≡ 1)
+
+abbrev pub Places : View → Trails → Type 0
+Places v t = (p : Pid) → Placed v t p
+
+pub placed_same : (v w : View) (t u : Trails) (p : Pid) → ((m : ℕ) → w.known m p ≡ v.known m p) → w.moves p ≡ v.moves p → u p ≡ t p → Placed v t p → Placed w u p
+placed_same v w t u p known moves same h = record {
+  now = λ m e. ap (λ (xs : List ℕ). slice_get xs (w.moves p)) same ∙ ap (λ (n : ℕ). slice_get (t p) n) moves ∙ h.now m (sym (ap is_held (known m)) ∙ e);
+  long = λ m e. ap length same ∙ h.long m (sym (ap is_held (known m)) ∙ e) ∙ sym (ap (λ (n : ℕ). n + 1) moves);
+  next = λ s d c e f. ap (λ (xs : List ℕ). slice_get xs (w.moves p + 1)) same ∙ ap (λ (n : ℕ). slice_get (t p) (n + 1)) moves ∙ h.next s d c (sym (known s) ∙ e) (sym (known d) ∙ f);
+  longer = λ s d c e f. ap length same ∙ h.longer s d c (sym (known s) ∙ e) (sym (known d) ∙ f) ∙ sym (ap (λ (n : ℕ). n + 2) moves);
+  unmade = λ e. let k = h.unmade (λ m. sym (known m) ∙ e m) in (moves ∙ k.0, ap length same ∙ k.1);
+}
+
+-- the acting machine learns something of a process
+abbrev pub Learnt : View → View → Pid → Known → Type 0
+Learnt v w p x = (m : ℕ) → w.known m p ≡ (if v.acting == m then x else v.known m p)
+
+same_number : (m : ℕ) → (m == m) ≡ true
+same_number m = grind (arith, nat_tests)
+
+learnt_here : (v w : View) (p : Pid) (x : Known) → Learnt v w p x → w.known v.acting p ≡ x
+learnt_here v w p x known = known v.acting ∙ ap (λ (c : Bool). if c then x else v.known v.acting p) (same_number v.acting)
+
+pub record Off (v w : View) (p : Pid) (m : ℕ) : Type 0 where
+  pub off : (v.acting == m) ≡ false
+  pub is : w.known m p ≡ v.known m p
+
+learnt_either : (v w : View) (p : Pid) (x : Known) (m : ℕ) → Learnt v w p x → ((v.acting ≡ m) × (w.known m p ≡ x)) ⊎ Off v w p m
+learnt_either v w p x m known = elim (cases_Bool (v.acting == m)) [
+  | inl same ↦ inl (eq_is v.acting m same, known m ∙ ap (λ (c : Bool). if c then x else v.known m p) same)
+  | inr apart ↦ inr (record { off = apart; is = known m ∙ ap (λ (c : Bool). if c then x else v.known m p) apart })
+]
+
+held_incoming : (x : Known) (s : ℕ) → is_held x ≡ true → x ≢ Incoming s
+held_incoming x s held e = false≢true (sym (ap is_held e) ∙ held)
+
+held_forward : (x : Known) (d c : ℕ) → is_held x ≡ true → x ≢ Forward d c
+held_forward x d c held e = false≢true (sym (ap is_held e) ∙ held)
+
+held_unknown : (x : Known) → is_held x ≡ true → x ≢ Unknown
+held_unknown x held e = false≢true (sym (ap is_held e) ∙ held)
+
+-- it has it, where it is at the end of the trail
+pub placed_held : (v w : View) (t : Trails) (p : Pid) (x : Known) → Learnt v w p x → w.moves p ≡ v.moves p → is_held x ≡ true → slice_get (t p) (v.moves p) ≡ Some v.acting → length (t p) ≡ v.moves p + 1 → Placed v t p → Placed w t p
+placed_held v w t p x known moves held at long h = record {
+  now = λ m e. elim (learnt_either v w p x m known) [
+    | inl new ↦ ap (λ (n : ℕ). slice_get (t p) n) moves ∙ at ∙ ap Some new.0
+    | inr old ↦ ap (λ (n : ℕ). slice_get (t p) n) moves ∙ h.now m (sym (ap is_held old.is) ∙ e)
+  ];
+  long = λ m e. long ∙ sym (ap (λ (n : ℕ). n + 1) moves);
+  next = λ s d c e f. elim (learnt_either v w p x s known) [
+    | inl new ↦ absurd (held_forward x d c held (sym new.1 ∙ e))
+    | inr old ↦ elim (learnt_either v w p x d known) [
+      | inl new ↦ absurd (held_incoming x s held (sym new.1 ∙ f))
+      | inr older ↦ ap (λ (n : ℕ). slice_get (t p) (n + 1)) moves ∙ h.next s d c (sym old.is ∙ e) (sym older.is ∙ f)
+    ]
+  ];
+  longer = λ s d c e f. elim (learnt_either v w p x s known) [
+    | inl new ↦ absurd (held_forward x d c held (sym new.1 ∙ e))
+    | inr old ↦ elim (learnt_either v w p x d known) [
+      | inl new ↦ absurd (held_incoming x s held (sym new.1 ∙ f))
+      | inr older ↦ h.longer s d c (sym old.is ∙ e) (sym older.is ∙ f) ∙ sym (ap (λ (n : ℕ). n + 2) moves)
+    ]
+  ];
+  unmade = λ e. absurd (held_unknown x held (sym (learnt_here v w p x known) ∙ e v.acting));
+}
+
+-- it expects it from a machine that doesn't forward
+pub placed_comes : (v w : View) (t : Trails) (p : Pid) (from : ℕ) → Learnt v w p (Incoming from) → w.moves p ≡ v.moves p → ((d c : ℕ) → v.known from p ≢ Forward d c) → Placed v t p → Placed w t p
+placed_comes v w t p from known moves off h = record {
+  now = λ m e. elim (learnt_either v w p (Incoming from) m known) [
+    | inl new ↦ absurd (false≢true (sym (ap is_held new.1) ∙ e))
+    | inr old ↦ ap (λ (n : ℕ). slice_get (t p) n) moves ∙ h.now m (sym (ap is_held old.is) ∙ e)
+  ];
+  long = λ m e. elim (learnt_either v w p (Incoming from) m known) [
+    | inl new ↦ absurd (false≢true (sym (ap is_held new.1) ∙ e))
+    | inr old ↦ h.long m (sym (ap is_held old.is) ∙ e) ∙ sym (ap (λ (n : ℕ). n + 1) moves)
+  ];
+  next = λ s d c e f. let k = both s d c e f in ap (λ (n : ℕ). slice_get (t p) (n + 1)) moves ∙ h.next s d c k.0 k.1;
+  longer = λ s d c e f. let k = both s d c e f in h.longer s d c k.0 k.1 ∙ sym (ap (λ (n : ℕ). n + 2) moves);
+  unmade = λ e. absurd (let f : Incoming from ≡ Unknown = sym (learnt_here v w p (Incoming from) known) ∙ e v.acting in cc);
+}
+  where
+    both : (s d c : ℕ) → w.known s p ≡ Forward d c → w.known d p ≡ Incoming s → (v.known s p ≡ Forward d c) × (v.known d p ≡ Incoming s)
+    both s d c e f = elim (learnt_either v w p (Incoming from) s known) [
+      | inl new ↦ absurd (let g : Incoming from ≡ Forward d c = sym new.1 ∙ e in cc)
+      | inr old ↦ elim (learnt_either v w p (Incoming from) d known) [
+        | inl new ↦ absurd (let g : Incoming from ≡ Incoming s = sym new.1 ∙ f in let k : s ≡ from = cc in off d c (subst (λ (i : ℕ). v.known i p ≡ Forward d c) k (sym old.is ∙ e)))
+        | inr older ↦ (sym old.is ∙ e, sym older.is ∙ f)
+      ]
+    ]
+
+-- it restarts it
+pub placed_restarts : (v w : View) (t : Trails) (p : Pid) → Learnt v w p Here → w.moves p ≡ v.moves p + 1 → slice_get (t p) (v.moves p + 1) ≡ Some v.acting → length (t p) ≡ v.moves p + 2 → ((m : ℕ) → is_held (v.known m p) ≡ true → ⊥)
+    → ((d s : ℕ) → v.known d p ≡ Incoming s → d ≡ v.acting) → Placed w t p
+placed_restarts v w t p known moves at long none only = record {
+  now = λ m e. elim (learnt_either v w p Here m known) [
+    | inl new ↦ ap (λ (n : ℕ). slice_get (t p) n) moves ∙ at ∙ ap Some new.0
+    | inr old ↦ absurd (none m (sym (ap is_held old.is) ∙ e))
+  ];
+  long = λ m e. omega (arith, long, moves);
+  next = λ s d c e f. absurd (off d s f);
+  longer = λ s d c e f. absurd (off d s f);
+  unmade = λ e. absurd (let f : Here ≡ Unknown = sym (learnt_here v w p Here known) ∙ e v.acting in cc);
+}
+  where
+    off : (d s : ℕ) → w.known d p ≡ Incoming s → ⊥
+    off d s f = elim (learnt_either v w p Here d known) [
+      | inl new ↦ (let g : Here ≡ Incoming s = sym new.1 ∙ f in cc)
+      | inr old ↦ (let k = only d s (sym old.is ∙ f) in let g : Here ≡ Incoming s = sym (learnt_here v w p Here known) ∙ sym (ap (λ (i : ℕ). w.known i p) k) ∙ f in cc)
+    ]
+
+-- it forwards from then on
+pub placed_left : (v w : View) (t : Trails) (p : Pid) (d n : ℕ) → Learnt v w p (Forward d n) → w.moves p ≡ v.moves p → slice_get (t p) (v.moves p + 1) ≡ Some d → length (t p) ≡ v.moves p + 2
+    → ((m : ℕ) → (v.acting == m) ≡ false → is_held (v.known m p) ≡ true → ⊥) → ((k s : ℕ) → v.known k p ≡ Incoming s → k ≡ d) → Placed w t p
+placed_left v w t p d n known moves at long none only = record {
+  now = λ m e. absurd (off m e);
+  long = λ m e. absurd (off m e);
+  next = λ s k c e f. ap (λ (i : ℕ). slice_get (t p) (i + 1)) moves ∙ at ∙ ap Some (sym (to k s f));
+  longer = λ s k c e f. long ∙ sym (ap (λ (i : ℕ). i + 2) moves);
+  unmade = λ e. absurd (let f : Forward d n ≡ Unknown = sym (learnt_here v w p (Forward d n) known) ∙ e v.acting in cc);
+}
+  where
+    off : (m : ℕ) → is_held (w.known m p) ≡ true → ⊥
+    off m e = elim (learnt_either v w p (Forward d n) m known) [
+      | inl new ↦ false≢true (sym (ap is_held new.1) ∙ e)
+      | inr old ↦ none m old.off (sym (ap is_held old.is) ∙ e)
+    ]
+
+    to : (k s : ℕ) → w.known k p ≡ Incoming s → k ≡ d
+    to k s f = elim (learnt_either v w p (Forward d n) k known) [
+      | inl new ↦ absurd (let g : Forward d n ≡ Incoming s = sym new.1 ∙ f in cc)
+      | inr old ↦ only k s (sym old.is ∙ f)
+    ]
+
+-- of the other processes it learns nothing
+set_at : (v : View) (p : Pid) (x : Known) (m : ℕ) → at_record v.known v.acting p x m p ≡ (if v.acting == m then x else v.known m p)
+set_at v p x m = ap (λ (c : Bool). if (v.acting == m) && c then x else v.known m p) (pid_eq-same p) ∙ drop_true (v.acting == m)
+  where
+    drop_true : (b : Bool) → (if b && true then x else v.known m p) ≡ (if b then x else v.known m p)
+    drop_true true = refl
+    drop_true false = refl
+
+set_off : (v : View) (p : Pid) (x : Known) (m : ℕ) (q : Pid) → pid_eq p q ≡ false → at_record v.known v.acting p x m q ≡ v.known m q
+set_off v p x m q off = ap (λ (c : Bool). if (v.acting == m) && c then x else v.known m q) off ∙ drop_false (v.acting == m)
+  where
+    drop_false : (b : Bool) → (if b && false then x else v.known m q) ≡ v.known m q
+    drop_false true = refl
+    drop_false false = refl
+
+pub places_set : (v w : View) (t u : Trails) (p : Pid) (x : Known) → w.known ≡ at_record v.known v.acting p x → ((q : Pid) → pid_eq p q ≡ false → w.moves q ≡ v.moves q) → ((q : Pid) → pid_eq p q ≡ false → u q ≡ t q)
+    → ((q : Pid) → pid_eq p q ≡ false → Placed v t q) → (Learnt v w p x → Placed w u p) → Places w u
+places_set v w t u p x known moves same h on q = elim (cases_Bool (pid_eq p q)) [
+  | inl is ↦ subst (Placed w u) (pid_eq-is p q is) (on (λ m. ap (λ (f : ℕ → Pid → Known). f m p) known ∙ set_at v p x m))
+  | inr apart ↦ placed_same v w t u q (λ m. ap (λ (f : ℕ → Pid → Known). f m q) known ∙ set_off v p x m q apart) (moves q apart) (same q apart) (h q apart)
+]
+
+-- a machine that has a process learns something else of it, and still has it
+pub places_held : (v w : View) (t : Trails) (p : Pid) (x : Known) → w.known ≡ at_record v.known v.acting p x → w.moves ≡ v.moves → is_held x ≡ true → is_held (v.known v.acting p) ≡ true → Places v t → Places w t
+places_held v w t p x known moves held had h =
+    let same : (q : Pid) → w.moves q ≡ v.moves q = λ q. ap (λ (f : Pid → ℕ). f q) moves in
+    places_set v w t t p x known (λ q apart. same q) (λ q apart. refl) (λ q apart. h q)
+    (λ learnt. placed_held v w t p x learnt (same p) held ((h p).now v.acting had) ((h p).long v.acting had) (h p))
+
+-- what the phase of a process that moves says
+leaves_held : (k : MessageKind) (d : ℕ) (x : Known) → leaves k d x ≡ true → is_held x ≡ true → is_restart k ≡ false
+leaves_held k d (Frozen to) e h = turned (is_restart k) (parts (not (is_restart k)) (d == to) e).0
+  where
+    turned : (b : Bool) → not b ≡ true → b ≡ false
+    turned true f = absurd (false≢true f)
+    turned false f = refl
+leaves_held k d Unknown e h = absurd (false≢true h)
+leaves_held k d Here e h = absurd (false≢true e)
+leaves_held k d (Incoming from) e h = absurd (false≢true h)
+leaves_held k d (Forward at moves) e h = absurd (false≢true h)
+leaves_held k d Ended e h = absurd (false≢true e)
+
+comes_held : (k : MessageKind) (s : ℕ) (x : Known) → comes k s x ≡ true → is_held x ≡ true → ⊥
+comes_held k s Unknown e h = false≢true h
+comes_held k s Here e h = false≢true e
+comes_held k s (Frozen to) e h = false≢true e
+comes_held k s (Incoming from) e h = false≢true h
+comes_held k s (Forward at moves) e h = false≢true h
+comes_held k s Ended e h = false≢true e
+
+away_held : (x : Known) → is_away x ≡ true → is_held x ≡ true → ⊥
+away_held Unknown e h = false≢true h
+away_held Here e h = false≢true e
+away_held (Frozen to) e h = false≢true e
+away_held (Incoming from) e h = false≢true h
+away_held (Forward at moves) e h = false≢true h
+away_held Ended e h = false≢true e
+
+held_by : (k : MessageKind) (s d m : ℕ) (x : Known) (b c : Bool) → (s == m) ≡ b → (if b then leaves k d x else if c then comes k s x else is_away x) ≡ true → is_held x ≡ true → (s ≡ m) × (is_restart k ≡ false)
+held_by k s d m x true c is e h = (eq_is s m is, leaves_held k d x e h)
+held_by k s d m x false true is e h = absurd (comes_held k s x e h)
+held_by k s d m x false false is e h = absurd (away_held x e h)
+
+-- its source has it, until the message is under way that restarts it
+pub moves_held : (v : View) (p : Pid) (k : MessageKind) (s d m : ℕ) (o : Option MsgId) → IsIn v p (Moves k s d o) → is_held (v.known m p) ≡ true → (s ≡ m) × (is_restart k ≡ false)
+moves_held v p k s d m o h held = held_by k s d m (v.known m p) (s == m) (d == m) refl (h.known m) held
+
+incoming_by : (k : MessageKind) (s d m from : ℕ) (b c : Bool) → (d == m) ≡ c → (if b then leaves k d (Incoming from) else if c then comes k s (Incoming from) else is_away (Incoming from)) ≡ true → m ≡ d
+incoming_by k s d m from true c is e = absurd (false≢true e)
+incoming_by k s d m from false true is e = sym (eq_is d m is)
+incoming_by k s d m from false false is e = absurd (false≢true e)
+
+-- and its destination alone expects it
+pub moves_comes : (v : View) (p : Pid) (k : MessageKind) (s d m from : ℕ) (o : Option MsgId) → IsIn v p (Moves k s d o) → v.known m p ≡ Incoming from → m ≡ d
+moves_comes v p k s d m from o h at = incoming_by k s d m from (s == m) (d == m) refl (sym (ap (λ (x : Known). knows (Moves k s d o) m x) at) ∙ h.known m)
+
+forward_by : (k : MessageKind) (d : ℕ) (x : Known) → is_restart k ≡ true → leaves k d x ≡ true → (c : ℕ) × (x ≡ Forward d c)
+forward_by k d (Forward to c) on e = let both = parts (is_restart k) (d == to) e in (c, ap (λ (n : ℕ). Forward n c) (sym (eq_is d to both.1)))
+forward_by k d (Frozen to) on e = absurd (let both = parts (not (is_restart k)) (d == to) e in false≢true (sym (ap not on) ∙ both.0))
+forward_by k d Unknown on e = absurd (false≢true e)
+forward_by k d Here on e = absurd (false≢true e)
+forward_by k d (Incoming from) on e = absurd (false≢true e)
+forward_by k d Ended on e = absurd (false≢true e)
+
+-- then its source forwards
+pub moves_forward : (v : View) (p : Pid) (k : MessageKind) (s d : ℕ) (o : Option MsgId) → IsIn v p (Moves k s d o) → is_restart k ≡ true → (c : ℕ) × (v.known s p ≡ Forward d c)
+moves_forward v p k s d o h on =
+    forward_by k d (v.known s p) on (sym (ap (λ (c : Bool). if c then leaves k d (v.known s p) else if d == s then comes k s (v.known s p) else is_away (v.known s p)) (same_number s)) ∙ h.known s)

@@ -1,0 +1,192 @@
+-- An update's line counts each address of its receiver once.
+use Rattle.std.proofs.Common.{◌≡◌, ◌⊎◌, ℕ, zero, suc, ◌+◌, ◌<◌, ◌≤◌, ◌==◌, ◌&&◌, ◌||◌, Bool, true, false, List, [], ◌∷◌, ◌++◌, length, refl, ap, ◌∙◌, sym, subst, inl, inr, nat_lt, nat_le, is_some, arith}
+use Rattle.std.specs.Prelude.{if◌then◌else◌, slice_get, slice_index_or, map}
+use Rattle.std.proofs.lemmas.Bool.{cases_Bool, false≢true}
+use Rattle.std.proofs.lemmas.Bool.Decides.{nat_tests}
+use Rattle.std.proofs.lemmas.Option.{slice_get_cases}
+use Rattle.std.specs.declared.option.Option.{Option}
+use Rattle.std.specs.declared.option.Option.TheVariants.{None, Some}
+use Rattle.dm_link.specs.declared.Pid.{Pid}
+use Rattle.dm_link.specs.Names.{pid_eq}
+use Rattle.dm_link.specs.Plain.{PlainLink}
+use Rattle.dm_linktable.specs.Slots.{link_at}
+use Rattle.dm_onekernel.specs.Boot.{switchboard, manager}
+use Rattle.dm_onekernel.specs.Kernel.{Life, Alive, NamedLink, Pending, OneKernel}
+use Rattle.dm_onekernel.specs.Manager as manage
+use Rattle.dm_onekernel.specs.PlainProcess.{PlainProcess}
+use Rattle.dm_onekernel.specs.Step as kernel
+use Rattle.dm_laws.proofs.Entered.{Made}
+use Rattle.dm_laws.proofs.Equal.{pid_eq-is, pid_eq-same}
+use Rattle.dm_laws.proofs.Sound.{not_server}
+use Rattle.dm_laws.proofs.Steps.{alive-is}
+use Rattle.dm_rule.specs.Addresses.{Holder, Slot, Owner, Receiver, Sender, Enclosed, Child, Name, Answer, holder_eq, belongs_to, leads_to, link_to, slot_of, name_link, answer_link}
+use Rattle.dm_rule.specs.Homes.{ascends}
+use Rattle.dm_rule.specs.Migrating.{holders_of, slots_from, slots_in, numbered, answers_in}
+use Rattle.dm_movelaws.specs.Updates.{listings, is_owner}
+
+-- where a list has something
+got : {X : Type 0} (xs : List X) (k : ℕ) (x : X) → slice_get xs k ≡ Some x → k < length xs
+got xs k x e = elim (slice_get_cases xs k).1 [
+  | inl w ↦ w.1
+  | inr w ↦ absurd (let f : None ≡ Some x = sym w.1 ∙ e in cc)
+]
+
+-- slots
+slots_below : (p q : Pid) (k n : ℕ) (ls : List (Option PlainLink)) → k < n → listings (Slot p k) (slots_from q n ls) ≡ 0
+slots_below p q k n [] le = refl
+slots_below p q k n (l ∷ ls) le =
+    let off : (pid_eq q p && (n == k)) ≡ false = grind (arith, nat_tests) in
+    let rest = slots_below p q k (n + 1) ls (omega (arith, le)) in
+    let first : listings (Slot p k) (slots_from q n (l ∷ ls)) ≡ 0 + listings (Slot p k) (slots_from q (n + 1) ls) = ap (λ (c : Bool). (if c then 1 else 0) + listings (Slot p k) (slots_from q (n + 1) ls)) off in
+    omega (arith, first, rest)
+
+slots_once : (p q : Pid) (k n : ℕ) (ls : List (Option PlainLink)) → pid_eq q p ≡ true → n ≤ k → k < n + length ls → listings (Slot p k) (slots_from q n ls) ≡ 1
+slots_once p q k n [] same least most = absurd (omega (arith, least, most))
+slots_once p q k n (l ∷ ls) same least most = elim (cases_Bool (n == k)) [
+  | inl e ↦
+      let on : (pid_eq q p && (n == k)) ≡ true = ap (λ (c : Bool). c && (n == k)) same ∙ e in
+      let f : n ≡ k = grind (arith, nat_tests) in
+      let rest = slots_below p q k (n + 1) ls (omega (arith, f)) in
+      let first : listings (Slot p k) (slots_from q n (l ∷ ls)) ≡ 1 + listings (Slot p k) (slots_from q (n + 1) ls) = ap (λ (c : Bool). (if c then 1 else 0) + listings (Slot p k) (slots_from q (n + 1) ls)) on in
+      omega (arith, first, rest)
+  | inr e ↦
+      let off : (pid_eq q p && (n == k)) ≡ false = ap (λ (c : Bool). c && (n == k)) same ∙ e in
+      let more : n < k = grind (arith, nat_tests) in
+      let long : length (l ∷ ls) ≡ length ls + 1 = omega arith in
+      let rest = slots_once p q k (n + 1) ls same (omega (arith, more)) (omega (arith, most, long)) in
+      let first : listings (Slot p k) (slots_from q n (l ∷ ls)) ≡ 0 + listings (Slot p k) (slots_from q (n + 1) ls) = ap (λ (c : Bool). (if c then 1 else 0) + listings (Slot p k) (slots_from q (n + 1) ls)) off in
+      omega (arith, first, rest)
+]
+
+-- names and children, by number
+pub record Counts (f : ℕ → Holder) : Type 0 where
+  pub eq : (m n : ℕ) → holder_eq (f m) (f n) ≡ (m == n)
+
+numbered_below : {X : Type 0} (f : ℕ → Holder) (k n : ℕ) (xs : List X) → Counts f → k < n → listings (f k) (numbered f n xs) ≡ 0
+numbered_below f k n [] c le = refl
+numbered_below f k n (x ∷ xs) c le =
+    let off : holder_eq (f n) (f k) ≡ false = c.eq n k ∙ (let g : (n == k) ≡ false = grind (arith, nat_tests) in g) in
+    let rest = numbered_below f k (n + 1) xs c (omega (arith, le)) in
+    let first : listings (f k) (numbered f n (x ∷ xs)) ≡ 0 + listings (f k) (numbered f (n + 1) xs) = ap (λ (b : Bool). (if b then 1 else 0) + listings (f k) (numbered f (n + 1) xs)) off in
+    omega (arith, first, rest)
+
+numbered_once : {X : Type 0} (f : ℕ → Holder) (k n : ℕ) (xs : List X) → Counts f → n ≤ k → k < n + length xs → listings (f k) (numbered f n xs) ≡ 1
+numbered_once f k n [] c least most = absurd (omega (arith, least, most))
+numbered_once f k n (x ∷ xs) c least most = elim (cases_Bool (n == k)) [
+  | inl e ↦
+      let on : holder_eq (f n) (f k) ≡ true = c.eq n k ∙ e in
+      let g : n ≡ k = grind (arith, nat_tests) in
+      let rest = numbered_below f k (n + 1) xs c (omega (arith, g)) in
+      let first : listings (f k) (numbered f n (x ∷ xs)) ≡ 1 + listings (f k) (numbered f (n + 1) xs) = ap (λ (b : Bool). (if b then 1 else 0) + listings (f k) (numbered f (n + 1) xs)) on in
+      omega (arith, first, rest)
+  | inr e ↦
+      let off : holder_eq (f n) (f k) ≡ false = c.eq n k ∙ e in
+      let more : n < k = grind (arith, nat_tests) in
+      let long : length (x ∷ xs) ≡ length xs + 1 = omega arith in
+      let rest = numbered_once f k (n + 1) xs c (omega (arith, more)) (omega (arith, most, long)) in
+      let first : listings (f k) (numbered f n (x ∷ xs)) ≡ 0 + listings (f k) (numbered f (n + 1) xs) = ap (λ (b : Bool). (if b then 1 else 0) + listings (f k) (numbered f (n + 1) xs)) off in
+      omega (arith, first, rest)
+]
+
+-- requests, whose numbers ascend
+answers_below : (k from to : ℕ) (rs : List Pending) → ascends from rs to ≡ true → k < from → listings (Answer k) (answers_in rs) ≡ 0
+answers_below k from to [] up le = refl
+answers_below k from to (r ∷ rs) up le =
+    let least : from ≤ r.n = grind (arith, nat_tests) in
+    let more : ascends (r.n + 1) rs to ≡ true = grind (arith, nat_tests) in
+    let off : (r.n == k) ≡ false = grind (arith, nat_tests) in
+    let rest = answers_below k (r.n + 1) to rs more (omega (arith, least, le)) in
+    let first : listings (Answer k) (answers_in (r ∷ rs)) ≡ 0 + listings (Answer k) (answers_in rs) = ap (λ (c : Bool). (if c then 1 else 0) + listings (Answer k) (answers_in rs)) off in
+    omega (arith, first, rest)
+
+answers_once : (k from to : ℕ) (rs : List Pending) (r : Pending) → ascends from rs to ≡ true → manage.pending_numbered k rs ≡ Some r → listings (Answer k) (answers_in rs) ≡ 1
+answers_once k from to [] r up e = absurd (let f : None ≡ Some r = e in cc)
+answers_once k from to (x ∷ xs) r up e = elim (cases_Bool (x.n == k)) [
+  | inl same ↦
+      let more : ascends (x.n + 1) xs to ≡ true = grind (arith, nat_tests) in
+      let g : x.n ≡ k = grind (arith, nat_tests) in
+      let rest = answers_below k (x.n + 1) to xs more (omega (arith, g)) in
+      let first : listings (Answer k) (answers_in (x ∷ xs)) ≡ 1 + listings (Answer k) (answers_in xs) = ap (λ (c : Bool). (if c then 1 else 0) + listings (Answer k) (answers_in xs)) same in
+      omega (arith, first, rest)
+  | inr off ↦
+      let more : ascends (x.n + 1) xs to ≡ true = grind (arith, nat_tests) in
+      let rest = answers_once k (x.n + 1) to xs r more (sym (ap (λ (c : Bool). if c then Some x else manage.pending_numbered k xs) off) ∙ e) in
+      let first : listings (Answer k) (answers_in (x ∷ xs)) ≡ 0 + listings (Answer k) (answers_in xs) = ap (λ (c : Bool). (if c then 1 else 0) + listings (Answer k) (answers_in xs)) off in
+      omega (arith, first, rest)
+]
+
+-- two lists
+listings-append : (h : Holder) (xs ys : List Holder) → listings h (xs ++ ys) ≡ listings h xs + listings h ys
+listings-append h [] ys = omega arith
+listings-append h (x ∷ xs) ys = let f = listings-append h xs ys in omega (arith, f)
+
+no_answer : (k : ℕ) (rs : List Pending) → listings (Child k) (answers_in rs) ≡ 0
+no_answer k [] = refl
+no_answer k (r ∷ rs) = let f = no_answer k rs in omega (arith, f)
+
+no_child : {X : Type 0} (k n : ℕ) (xs : List X) → listings (Answer k) (numbered Child n xs) ≡ 0
+no_child k n [] = refl
+no_child k n (x ∷ xs) = let f = no_child k (n + 1) xs in omega (arith, f)
+
+-- each by what it belongs to
+slot_link : (o : Option PlainProcess) (k : ℕ) (q : Pid) → link_to (slot_of o k) ≡ Some q → (x : PlainProcess) × (o ≡ Some x) × (k < length x.links)
+slot_link None k q e = absurd (let f : None ≡ Some q = e in cc)
+slot_link (Some x) k q e = (x, refl, at_place x.links k q e)
+  where
+    at_place : (ls : List (Option PlainLink)) (k : ℕ) (q : Pid) → link_to (link_at ls k) ≡ Some q → k < length ls
+    at_place [] k q e = absurd (let f : None ≡ Some q = e in cc)
+    at_place (l ∷ ls) zero q e = let long : length (l ∷ ls) ≡ length ls + 1 = omega arith in omega (arith, long)
+    at_place (l ∷ ls) (suc k) q e = let f = at_place ls k q e in let long : length (l ∷ ls) ≡ length ls + 1 = omega arith in omega (arith, long, f)
+
+abbrev listed_as : OneKernel → Pid → Bool → Bool → List Holder
+listed_as s q c d = if c then numbered Name 0 s.switchboard.names else if d then numbered Child 1 s.manager.children ++ answers_in s.manager.pending else slots_in q (kernel.alive (s.processes q))
+
+named_link : (o : Option NamedLink) (q : Pid) → link_to (name_link o) ≡ Some q → (k : NamedLink) × (o ≡ Some k)
+named_link None q e = absurd (let f : None ≡ Some q = e in cc)
+named_link (Some k) q e = (k, refl)
+
+pending_link : (o : Option Pending) (q : Pid) → link_to (answer_link o) ≡ Some q → (r : Pending) × (o ≡ Some r)
+pending_link None q e = absurd (let f : None ≡ Some q = e in cc)
+pending_link (Some r) q e = (r, refl)
+
+not_board : (q : Pid) → pid_eq q manager ≡ true → pid_eq q switchboard ≡ false
+not_board q e = grind (arith, nat_tests)
+
+pub listed : (s : OneKernel) (q : Pid) (h : Holder) (r : Pid) → Made s → ascends 0 s.manager.pending s.manager.sent ≡ true → belongs_to q h ≡ true → is_owner h ≡ false → leads_to s h ≡ Some r → listings h (holders_of s q) ≡ 1
+listed s q (Slot p k) r made up mine other leads =
+    let (x, alive, within) = slot_link (kernel.alive (s.processes p)) k r leads in
+    let same : p ≡ q = pid_eq-is p q mine in
+    let not = not_server s p x (alive-is (s.processes p) x alive) made in
+    let board : pid_eq q switchboard ≡ false = ap (λ (z : Pid). pid_eq z switchboard) (sym same) ∙ not.0 in
+    let man : pid_eq q manager ≡ false = ap (λ (z : Pid). pid_eq z manager) (sym same) ∙ not.1 in
+    let there : kernel.alive (s.processes q) ≡ Some x = ap (λ (z : Pid). kernel.alive (s.processes z)) (sym same) ∙ alive in
+    let back : pid_eq q p ≡ true = ap (pid_eq q) same ∙ pid_eq-same q in
+    ap (λ (c : Bool). listings (Slot p k) (listed_as s q c (pid_eq q manager))) board
+    ∙ ap (λ (c : Bool). listings (Slot p k) (listed_as s q false c)) man
+    ∙ ap (λ (o : Option PlainProcess). listings (Slot p k) (slots_in q o)) there
+    ∙ slots_once p q k 0 x.links back (omega arith) (omega (arith, within))
+listed s q (Owner p) r made up mine other leads = absurd (false≢true (sym other))
+listed s q (Receiver id) r made up mine other leads = absurd (false≢true mine)
+listed s q (Sender id) r made up mine other leads = absurd (false≢true mine)
+listed s q (Enclosed id k) r made up mine other leads = absurd (false≢true mine)
+listed s q (Child zero) r made up mine other leads = absurd (let f : None ≡ Some r = leads in cc)
+listed s q (Child (suc n)) r made up mine other leads =
+    let within = got s.manager.children n r leads in
+    let once : listings (Child (suc n)) (numbered Child 1 s.manager.children) ≡ 1 = numbered_once Child (suc n) 1 s.manager.children (record { eq = λ i j. refl }) (omega arith) (omega (arith, within)) in
+    let none = no_answer (suc n) s.manager.pending in
+    let sum = listings-append (Child (suc n)) (numbered Child 1 s.manager.children) (answers_in s.manager.pending) in
+    ap (λ (c : Bool). listings (Child (suc n)) (listed_as s q c (pid_eq q manager))) (not_board q mine)
+    ∙ ap (λ (c : Bool). listings (Child (suc n)) (listed_as s q false c)) mine
+    ∙ (let f : listings (Child (suc n)) (numbered Child 1 s.manager.children ++ answers_in s.manager.pending) ≡ 1 = omega (arith, once, none, sum) in f)
+listed s q (Name n) r made up mine other leads =
+    let (k, there) = named_link (slice_get s.switchboard.names n) r leads in
+    ap (λ (c : Bool). listings (Name n) (listed_as s q c (pid_eq q manager))) mine
+    ∙ numbered_once Name n 0 s.switchboard.names (record { eq = λ i j. refl }) (omega arith) (let f = got s.switchboard.names n k there in omega (arith, f))
+listed s q (Answer n) r made up mine other leads =
+    let (x, there) = pending_link (manage.pending_numbered n s.manager.pending) r leads in
+    let once = answers_once n 0 s.manager.sent s.manager.pending x up there in
+    let none = no_child n 1 s.manager.children in
+    let sum = listings-append (Answer n) (numbered Child 1 s.manager.children) (answers_in s.manager.pending) in
+    ap (λ (c : Bool). listings (Answer n) (listed_as s q c (pid_eq q manager))) (not_board q mine)
+    ∙ ap (λ (c : Bool). listings (Answer n) (listed_as s q false c)) mine
+    ∙ (let f : listings (Answer n) (numbered Child 1 s.manager.children ++ answers_in s.manager.pending) ≡ 1 = omega (arith, once, none, sum) in f)

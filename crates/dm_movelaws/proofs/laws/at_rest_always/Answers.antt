@@ -1,0 +1,5 @@
+use Rattle.dm_movelaws.proofs.AtRestAlways.{at_rest_always}
+use Rattle.dm_movelaws.proofs.laws.at_rest_always.Goals as goal
+
+pub returns : goal.returns
+returns c = at_rest_always

@@ -1,0 +1,5 @@
+use Rattle.dm_movelaws.proofs.UpdatesAlways.{updates_always}
+use Rattle.dm_movelaws.proofs.laws.updates_always.Goals as goal
+
+pub returns : goal.returns
+returns c = updates_always
