@@ -12,3 +12,13 @@ pub mod UpdatesListed
 pub mod UpdatesAlways
 pub mod AtRestPairs
 pub mod AtRestAlways
+pub mod StagesMarks
+pub mod StagesSpares
+pub mod StagesLines
+pub mod StagesParts
+pub mod StagesTurns
+pub mod StagesHears
+pub mod StagesRows
+pub mod StagesSteps
+pub mod StagesTold
+pub mod StagesAlways

@@ -1,6 +1,7 @@
 //! What holds of migrations wherever the rule leads, whoever ran by it.
 ghost use Rattle.dm_rule.specs.Trails.{TrailsAlways};
 ghost use Rattle.dm_movelaws.specs.AtRest.{AtRestAlways};
+ghost use Rattle.dm_movelaws.specs.Stages.{StepsInOrder};
 ghost use Rattle.dm_movelaws.specs.Updates.{UpdatesAlways};
 
 /// Wherever the rule leads from a boot file, each address of a process that some machine knows names a machine where the process was,
@@ -23,4 +24,10 @@ pub fn updates_always()
 /// request to move has come to its end.
 pub fn at_rest_always()
     ensures { AtRestAlways }
+{}
+
+/// Wherever the rule leads from a boot file, the lines of each process's migrations are steps 1 to 8 in order, or 1, 2, lacks and
+/// stays, one migration after another; the last may be unfinished.
+pub fn steps_in_order()
+    ensures { StepsInOrder }
 {}
