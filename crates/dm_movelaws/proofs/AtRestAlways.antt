@@ -1,5 +1,5 @@
 -- Where nothing is on its way between machines all is at rest.
-use Rattle.std.proofs.Common.{◌≡◌, ◌≢◌, ◌⊎◌, ℕ, ◌+◌, ◌<◌, ◌≤◌, ◌==◌, ◌||◌, Bool, true, false, is_some, List, [], ◌∷◌, length, drop, refl, ap, ◌∙◌, sym, subst, inl, inr, nat_lt, nat_le, arith}
+use Rattle.std.proofs.Common.{◌≡◌, ◌≢◌, ℕ, ◌+◌, ◌<◌, ◌≤◌, ◌==◌, ◌||◌, Bool, true, false, is_some, List, [], ◌∷◌, drop, refl, ap, ◌∙◌, sym, subst, inl, inr, nat_lt, nat_le, arith}
 use Rattle.std.specs.Prelude.{if◌then◌else◌}
 use Rattle.std.proofs.Math.Seq.{drop-length, drop-nil}
 use Rattle.std.proofs.lemmas.Bool.{cases_Bool, false≢true}
@@ -9,36 +9,34 @@ use Rattle.std.specs.declared.option.Option.TheVariants.{None, Some}
 use Rattle.dm_link.specs.declared.Pid.{Pid}
 use Rattle.dm_link.specs.Names.{pid_eq}
 use Rattle.dm_message.specs.declared.MsgId.{MsgId}
-use Rattle.dm_message.specs.Ids.{id_eq}
 use Rattle.dm_message.specs.declared.kind.MessageKind.{MessageKind}
 use Rattle.dm_message.specs.declared.kind.MessageKind.TheVariants as kind
 use Rattle.dm_message.specs.Kinds.{plain_kind}
 use Rattle.dm_message.specs.Plain as what
 use Rattle.dm_message.specs.Plain.{PlainMessage, PlainWhat}
 use Rattle.dm_onekernel.specs.declared.boot.Boot.{Boot}
-use Rattle.dm_onekernel.specs.Boot.{IsValid, manager}
+use Rattle.dm_onekernel.specs.Boot.{manager}
 use Rattle.dm_onekernel.specs.Kernel.{Alive}
 use Rattle.dm_onekernel.specs.PlainProcess.{PlainProcess}
 use Rattle.dm_laws.proofs.Equal.{id_eq-same}
 use Rattle.dm_laws.proofs.Sound.{not_server}
-use Rattle.dm_schedule.specs.declared.Step.{Step}
 use Rattle.dm_rule.specs.Addresses.{Receiver}
 use Rattle.dm_rule.specs.Homes.{to_of}
-use Rattle.dm_rule.specs.Laws.{Leads}
 use Rattle.dm_rule.specs.Phases as phases
 use Rattle.dm_rule.specs.Phases.{Phase, Nowhere, Rests, Over, Moves, knows, is_unknown, is_here, is_over, is_away, is_due, HasToken, IsToken, IsIn}
-use Rattle.dm_rule.specs.Point.{Point, first_point}
+use Rattle.dm_rule.specs.Point.{Point}
 use Rattle.dm_rule.specs.Quiet.{IsQuiet}
-use Rattle.dm_rule.specs.Spots.{Spot, Queue, Held, Inbox, Untaken, times, untaken, standing, StandsOutside, StandsRight, StandsOnce}
+use Rattle.dm_rule.specs.Spots.{Spot, Queue, Held, Inbox, Untaken, times, untaken, standing, StandsOutside}
 use Rattle.dm_rule.specs.View.{View, Told, Known, Unknown, Here, Frozen, Incoming, Forward, Ended, is_kernels}
 use Rattle.dm_rule.proofs.Groups.{stands_right}
 use Rattle.dm_rule.proofs.Letters.{kernels_fresh}
 use Rattle.dm_rule.proofs.PhasesAlways.{phases_always}
-use Rattle.dm_movelaws.specs.AtRest.{AtRest, AtRestAlways, IsAt, IsWaiting, is_moving}
+use Rattle.dm_movelaws.specs.AtRest.{AtRestAlways, IsAt, IsWaiting, is_moving}
 use Rattle.dm_rulelaws.specs.Fits.{is_server}
 use Rattle.dm_rulelaws.specs.Found.{machine_of, has_no_queue, has_nothing_held}
 use Rattle.dm_rulelaws.specs.KnownStands.{agrees}
 use Rattle.dm_movelaws.proofs.AtRestPairs.{Routed, routed_always}
+use Rattle.dm_movelaws.proofs.AtRestQueues.{Dropped, dropped_always}
 use Rattle.dm_rulelaws.proofs.Queued.{is_user}
 use Rattle.dm_rulelaws.proofs.Runs.{Run}
 use Rattle.dm_rulelaws.proofs.RunsAlways.{run_always}
@@ -157,14 +155,14 @@ still_held (Incoming from) e = sym e
 still_held (Forward to moves) e = refl
 still_held Ended e = refl
 
--- a queue is where a process is, or has ended
-still_queue : (k : Known) → is_moving k ≡ false → has_no_queue k ≡ false → (k ≡ Here) ⊎ (k ≡ Ended)
-still_queue Unknown e f = absurd (false≢true (sym f))
-still_queue Here e f = inl refl
-still_queue (Frozen to) e f = absurd (false≢true (sym e))
-still_queue (Incoming from) e f = absurd (false≢true (sym e))
-still_queue (Forward to moves) e f = absurd (false≢true (sym f))
-still_queue Ended e f = inr refl
+-- a queue is where a process is
+still_queue : (k : Known) → is_moving k ≡ false → has_no_queue k ≡ false → (k ≡ Ended → ⊥) → k ≡ Here
+still_queue Unknown e f lives = absurd (false≢true (sym f))
+still_queue Here e f lives = refl
+still_queue (Frozen to) e f lives = absurd (false≢true (sym e))
+still_queue (Incoming from) e f lives = absurd (false≢true (sym f))
+still_queue (Forward to moves) e f lives = absurd (false≢true (sym f))
+still_queue Ended e f lives = absurd (lives refl)
 
 user_kind : (w : PlainWhat) → is_user w ≡ true → plain_kind w ≡ kind.User
 user_kind (what.User x1 x2 x3 x4) e = refl
@@ -187,6 +185,7 @@ pub record Rest (pt : Point) : Type 0 where
   pub calm : Calm pt.view
   pub still : (m : ℕ) (p : Pid) → is_moving (pt.view.known m p) ≡ false
   pub held : (m : ℕ) (p : Pid) → pt.view.held m p ≡ []
+  pub dropped : Dropped pt.view
 
 waits_in : (b : Boot) (pt : Point) (i : MsgId) (x : PlainMessage) (m : ℕ) (p : Pid) → Run b pt → Rest pt → pt.kernel.bag i ≡ Some x → standing pt.view i (Queue m p) ≡ 1 → ((z : Spot) → z ≢ Queue m p → standing pt.view i z ≡ 0) → IsWaiting pt i x
 waits_in b pt i x m p h rest there one others =
@@ -200,7 +199,8 @@ waits_in b pt i x m p h rest there one others =
     record {
       machine = m;
       user = user_kind x.what k.1;
-      known = subst (λ (r : Pid). (pt.view.known m r ≡ Here) ⊎ (pt.view.known m r ≡ Ended)) same (still_queue (pt.view.known m p) (rest.still m p) full);
+      here = subst (λ (r : Pid). pt.view.known m r ≡ Here) same
+          (still_queue (pt.view.known m p) (rest.still m p) full (λ ended. let f : times i (pt.view.queue m p) ≡ 0 = ap (times i) (rest.dropped.queue m p ended) in omega (arith, one, f)));
       queued = subst (λ (r : Pid). standing pt.view i (Queue m r) ≡ 1) same one;
       alone = subst (λ (r : Pid). (z : Spot) → z ≢ Queue m r → standing pt.view i z ≡ 0) same others;
     }
@@ -282,7 +282,7 @@ at_rest_always b es pt valid leads quiet =
     let calm_ = calm b pt h routed quiet in
     let still : (m : ℕ) (p : Pid) → is_moving (pt.view.known m p) ≡ false = λ m p. let (phase, is, due) = phases_always b es pt p valid leads in phase_still pt.view p phase m calm_ is due in
     let held : (m : ℕ) (p : Pid) → pt.view.held m p ≡ [] = λ m p. h.based.lists.held m p (still_held (pt.view.known m p) (still m p)) in
-    let rest : Rest pt = record { calm = calm_; still = still; held = held } in
+    let rest : Rest pt = record { calm = calm_; still = still; held = held; dropped = dropped_always b es pt valid leads } in
     record {
       lives = λ p x alive. let (phase, is, due) = phases_always b es pt p valid leads in lives_at b pt p x phase h calm_ alive is due;
       still = still;

@@ -147,7 +147,7 @@ rest_settled (Moves k s t None) m x d e h = cc
 rest_settled (Moves k s t (Some i)) m x d e h = cc
 
 -- where something is, not all machines are settled: the source holds the process, or the destination expects it
-restart_late : (k : MessageKind) → is_restart k ≡ true → is_early k ≡ false
+pub restart_late : (k : MessageKind) → is_restart k ≡ true → is_early k ≡ false
 restart_late kind.Ask e = absurd (false≢true e)
 restart_late kind.Refuse e = absurd (false≢true e)
 restart_late kind.PullState e = refl

@@ -46,7 +46,7 @@ spelled_after (p ∷ ps) pt w e =
     let f : behind ls z ≡ w = cc in
     subst (λ (x : Spelled). after pt x.lines ≡ Some x.point) f (after_both ls z.lines pt next leads ∙ spelled_after ps next z more)
 
-group_after : (b : Boot) (pt : Point) (d : Step) (w : Spelled) → group_of b pt d ≡ Some w → after pt w.lines ≡ Some w.point
+pub group_after : (b : Boot) (pt : Point) (d : Step) (w : Spelled) → group_of b pt d ≡ Some w → after pt w.lines ≡ Some w.point
 group_after b pt d w e =
     let (ps, is, more) = bind-is (rule.outcome b pt d) (λ ps. bind (after_line pt (line.Head d)) (λ start. bind (spelled start ps) (λ w. Some (rule.headed (line.Head d) w)))) w e in
     let (rest, said, end) = bind-is (spelled (begun pt d) ps) (λ w. Some (rule.headed (line.Head d) w)) w more in
@@ -76,10 +76,10 @@ places_start b p = record {
 }
 
 -- what holds of all points that the rule leads to
-record Holds (b : Boot) (x : Trodden) : Type 0 where
-  valid : IsValid b
-  both : Both b x.point
-  places : Places x.point.view x.trails
+pub record Holds (b : Boot) (x : Trodden) : Type 0 where
+  pub valid : IsValid b
+  pub both : Both b x.point
+  pub places : Places x.point.view x.trails
 
 good : (b : Boot) (x : Trodden) (e : Step) (w : Spelled) → group_of b x.point e ≡ Some w → Holds b x → Treads x.point x.trails → AllGood x.point x.trails w.lines
 good b x e w is h on = let run = h.both.run in group_good b x.point x.trails e w is run.based.phased run.based.known run.kept h.places on
@@ -90,7 +90,7 @@ behind_group b x y e w step is comes h on =
     let g : w.point ≡ y.point = cc in
     record { valid = h.valid; both = subst (Both b) g (both_group run_group b x.point e w h.valid step is h.both); places = good_places w.lines x y comes (good b x e w is h on) }
 
-carries : Carries Holds
+pub carries : Carries Holds
 carries = record {
   start = λ b valid. record { valid = valid; both = both_start run_start b valid; places = places_start b };
   fits = λ b x e w step is h on. good_fit w.lines x.point x.trails (good b x e w is h on);

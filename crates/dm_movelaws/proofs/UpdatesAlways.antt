@@ -1,5 +1,5 @@
 -- What an update does wherever the rule leads.
-use Rattle.std.proofs.Common.{◌≡◌, ◌⊎◌, ℕ, ◌+◌, ◌<◌, ◌≤◌, ◌==◌, ◌&&◌, ◌||◌, Bool, true, false, not, List, [], ◌∷◌, ◌++◌, refl, ap, ◌∙◌, sym, subst, inl, inr, nat_lt, arith}
+use Rattle.std.proofs.Common.{◌≡◌, ◌⊎◌, ℕ, ◌<◌, ◌≤◌, ◌==◌, ◌&&◌, ◌||◌, Bool, true, false, not, [], ◌++◌, refl, ap, ◌∙◌, sym, inl, inr, nat_lt, arith}
 use Rattle.std.specs.Prelude.{if◌then◌else◌}
 use Rattle.std.proofs.lemmas.Bool.{cases_Bool, false≢true}
 use Rattle.std.proofs.lemmas.Bool.Decides.{nat_tests}
@@ -8,24 +8,19 @@ use Rattle.std.specs.declared.option.Option.TheVariants.{None, Some}
 use Rattle.dm_link.specs.declared.Pid.{Pid}
 use Rattle.dm_link.specs.Names.{Place, pid_eq}
 use Rattle.dm_message.specs.declared.MsgId.{MsgId}
-use Rattle.dm_message.specs.declared.kind.MessageKind.TheVariants as kind
 use Rattle.dm_onekernel.specs.declared.boot.Boot.{Boot}
-use Rattle.dm_onekernel.specs.Boot.{IsValid, switchboard, manager}
+use Rattle.dm_onekernel.specs.Boot.{switchboard, manager}
 use Rattle.dm_onekernel.specs.Kernel.{Life, Alive, OneKernel}
 use Rattle.dm_onekernel.specs.Kernel as kernels
 use Rattle.dm_onekernel.specs.Step as kernel
-use Rattle.dm_onekernel.specs.PlainProcess.{PlainProcess}
 use Rattle.dm_laws.proofs.Equal.{pid_eq-is, pid_eq-same}
 use Rattle.dm_schedule.specs.declared.Step.{Step}
 use Rattle.dm_schedule.specs.declared.Step.TheVariants as step
-use Rattle.dm_rule.specs.declared.line.Line.TheVariants as line
 use Rattle.dm_rule.specs.Addresses as addresses
 use Rattle.dm_rule.specs.Addresses.{Addresses, Holder, belongs_to, leads_to, is_pid, is_behind, place_told, updated, updated_to}
-use Rattle.dm_rule.specs.Laws.{Leads}
 use Rattle.dm_rule.specs.Migrating.{holders_of, behind_among, behind_count, numbered, answers_in, slots_in}
 use Rattle.dm_rule.specs.Parts.{Spelled}
-use Rattle.dm_rule.specs.Point.{Point, first_point, moved}
-use Rattle.dm_rule.specs.Rule.{group_of}
+use Rattle.dm_rule.specs.Point.{Point}
 use Rattle.dm_rule.specs.View.{View, Told, About, NothingElse, Target, Of, Ended, after_head}
 use Rattle.dm_rule.specs.View as view
 use Rattle.dm_rulelaws.specs.Fits.{is_server}
@@ -35,7 +30,6 @@ use Rattle.dm_rulelaws.proofs.GoesAlways.{front_own}
 use Rattle.dm_rulelaws.proofs.GoesRuns.{Both}
 use Rattle.dm_rulelaws.proofs.OwnTold.{is_place, own_sort}
 use Rattle.dm_rulelaws.proofs.RunsAlways.{run_always}
-use Rattle.dm_movelaws.proofs.UpdatesFirst.{Handles}
 use Rattle.dm_movelaws.proofs.UpdatesGroups.{Handled, handled_by}
 use Rattle.dm_movelaws.proofs.UpdatesListed.{listed}
 
@@ -61,6 +55,18 @@ head_told v (step.Turn m) = refl
 head_told v (step.Tick m) = refl
 head_told v (step.Deliver a b k) = refl
 head_told v (step.Migrate p m) = refl
+
+record Kept (v w : View) : Type 0 where
+  known : w.known ≡ v.known
+  queue : w.queue ≡ v.queue
+  held : w.held ≡ v.held
+  ring : w.ring ≡ v.ring
+
+head_kept : (v : View) (d : Step) → Kept v (after_head v d)
+head_kept v (step.Turn m) = record { known = refl; queue = refl; held = refl; ring = refl }
+head_kept v (step.Tick m) = record { known = refl; queue = refl; held = refl; ring = refl }
+head_kept v (step.Deliver a b k) = record { known = refl; queue = refl; held = refl; ring = refl }
+head_kept v (step.Migrate p m) = record { known = refl; queue = refl; held = refl; ring = refl }
 
 address : (s : OneKernel) (v w : View) (a : Addresses) (id : MsgId) (t : Told) (p : Pid) (at_ : Place) (h : Holder) → w.told ≡ v.told → v.told id ≡ Some t → t.about ≡ view.Place p at_.at at_.moves
     → updated s w a (w.told id) h ≡ (if is_behind s a t.receiver p at_.moves h then at_ else a h)
@@ -130,7 +136,7 @@ updated_by b pt d w id n both h =
     let x = tells t.about place in
     let behind = is_behind s a t.receiver x.process x.place.moves in
     let now : (g : Holder) → w.point.addresses g ≡ (if behind g then x.place else a g) =
-      λ g. ap (λ (q : Point). q.addresses g) (sym h.point) ∙ address s pt.view (after_head pt.view d) a id t x.process x.place g (head_told pt.view d) u.is x.is in
+    λ g. ap (λ (q : Point). q.addresses g) (sym h.point) ∙ address s pt.view (after_head pt.view d) a id t x.process x.place g (head_told pt.view d) u.is x.is in
     let lag : (g : Holder) → behind g ≡ true → w.point.addresses g ≡ x.place = λ g e. now g ∙ ap (λ (c : Bool). if c then x.place else a g) e in
     let stay : (g : Holder) → behind g ≡ false → w.point.addresses g ≡ a g = λ g e. now g ∙ ap (λ (c : Bool). if c then x.place else a g) e in
     record {
@@ -157,7 +163,13 @@ updated_by b pt d w id n both h =
       count = count_is s pt.view a t x.process x.place h.machine n x.is both.run.based.known u.counts;
       listed = λ g q mine other leads. listed s t.receiver g q both.run.based.phased.sane.sound.made both.run.based.pending mine other leads;
       kernel = sym (ap (λ (q : Point). q.kernel) h.point);
+      known = sym (ap (λ (q : Point). q.view.known) h.point) ∙ (head_kept pt.view d).known;
+      queue = sym (ap (λ (q : Point). q.view.queue) h.point) ∙ (head_kept pt.view d).queue;
+      held = sym (ap (λ (q : Point). q.view.held) h.point) ∙ (head_kept pt.view d).held;
+      ring = sym (ap (λ (q : Point). q.view.ring) h.point) ∙ (head_kept pt.view d).ring;
     }
 
 pub updates_always : UpdatesAlways
-updates_always b es pt d w id n valid leads is lines = updated_by b pt d w id n (run_always b es pt valid leads) (handled_by b pt d w id n is lines)
+updates_always b es pt d w id n earlier later valid leads is there =
+    let h = handled_by b pt d w id n earlier later is there in
+    (h.lines, updated_by b pt d w id n (run_always b es pt valid leads) h)

@@ -1,5 +1,5 @@
 -- Where nothing is on its way between machines, all messages are queued, and each request to move has come to its end.
-use Rattle.std.specs.Prelude.{◌≡◌, ◌≢◌, ◌⊎◌, ◌==◌, ℕ, Bool, true, false, List, []}
+use Rattle.std.specs.Prelude.{◌≡◌, ◌≢◌, ◌==◌, ℕ, Bool, true, false, List, []}
 use Rattle.std.specs.declared.option.Option.TheVariants.{Some}
 use Rattle.dm_link.specs.declared.Pid.{Pid}
 use Rattle.dm_message.specs.declared.MsgId.{MsgId}
@@ -27,11 +27,11 @@ is_moving (Incoming from) = true
 is_moving (Forward at moves) = false
 is_moving Ended = false
 
--- a message in the queue of the process that it is for, where that is here or has ended, and in no other place
+-- a message in the queue of the process that it is for, where that is, and in no other place
 pub record IsWaiting (pt : Point) (i : MsgId) (m : PlainMessage) : Type 0 where
   pub machine : ℕ
   pub user : plain_kind m.what ≡ kind.User
-  pub known : (pt.view.known machine m.to ≡ Here) ⊎ (pt.view.known machine m.to ≡ Ended)
+  pub here : pt.view.known machine m.to ≡ Here
   pub queued : standing pt.view i (Queue machine m.to) ≡ 1
   pub alone : (z : Spot) → z ≢ Queue machine m.to → standing pt.view i z ≡ 0
 
@@ -58,3 +58,7 @@ pub record AtRest (pt : Point) : Type 0 where
 -- wherever the rule leads, where nothing is on its way between machines all is at rest
 abbrev pub AtRestAlways : Type 0
 AtRestAlways = (b : Boot) (es : List Step) (pt : Point) → IsValid b → Leads b (first_point b) es pt → IsQuiet pt.kernel.machines pt.view → AtRest pt
+
+-- wherever the rule leads, where a process has ended no message is queued for it
+abbrev pub DropsAlways : Type 0
+DropsAlways = (b : Boot) (es : List Step) (pt : Point) (n : ℕ) (q : Pid) → IsValid b → Leads b (first_point b) es pt → pt.view.known n q ≡ Ended → pt.view.queue n q ≡ []

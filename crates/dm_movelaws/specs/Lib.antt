@@ -1,5 +1,6 @@
 pub mod Updates
 pub mod AtRest
+pub mod Counts
 pub mod Stages
 pub mod Ends
 pub mod Promise

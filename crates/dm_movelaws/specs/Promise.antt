@@ -1,6 +1,6 @@
 -- What counts promise: a process that was told where another went has, where all is at rest, the links that it hasn't filled since
 -- lead to where the other is.
-use Rattle.std.specs.Prelude.{◌≡◌, ⊤, ℕ, ◌≤◌, ◌||◌, Bool, true, false, List, [], ◌∷◌, ◌++◌, is_some}
+use Rattle.std.specs.Prelude.{◌≡◌, ⊤, ℕ, ◌≤◌, ◌||◌, Bool, true, false, List, [], ◌∷◌, ◌++◌}
 use Rattle.std.specs.declared.option.Option.TheVariants.{None, Some}
 use Rattle.dm_link.specs.declared.Pid.{Pid}
 use Rattle.dm_link.specs.Names.{Place}
@@ -8,7 +8,6 @@ use Rattle.dm_message.specs.declared.MsgId.{MsgId}
 use Rattle.dm_message.specs.declared.kind.MessageKind.TheVariants as kind
 use Rattle.dm_onekernel.specs.declared.boot.Boot.{Boot}
 use Rattle.dm_onekernel.specs.Boot.{IsValid}
-use Rattle.dm_onekernel.specs.Step as kernel
 use Rattle.dm_schedule.specs.declared.Step.{Step}
 use Rattle.dm_rule.specs.declared.line.Line.{Line}
 use Rattle.dm_rule.specs.declared.line.Line.TheVariants as line
@@ -63,9 +62,8 @@ pub record Promised (b : Boot) (told pt : Point) (between : List Step) (id : Msg
   pub goes : LeadsBy b group.point late lines pt
   pub place_kept : (k : ℕ) → pt.view.moves q ≡ place.moves → Unfilled group.point (Slot p k) lines → leads_to pt.kernel (Slot p k) ≡ Some q → pt.addresses (Slot p k) ≡ place
 
--- wherever the rule leads, each update that is under way for a process keeps its promise where nothing is on its way any more and
--- the process lives
+-- wherever the rule leads, each update that is under way keeps its promise where nothing is on its way any more
 abbrev pub PromisesAlways : Type 0
 PromisesAlways =
     (b : Boot) (before between : List Step) (told pt : Point) (id : MsgId) (p q : Pid) (place : Place) → IsValid b → Leads b (first_point b) before told → IsUnderWay told.view id p q place → Leads b told between pt
-    → IsQuiet pt.kernel.machines pt.view → is_some (kernel.alive (pt.kernel.processes p)) ≡ true → Promised b told pt between id p q place
+    → IsQuiet pt.kernel.machines pt.view → Promised b told pt between id p q place

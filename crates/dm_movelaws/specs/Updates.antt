@@ -1,5 +1,5 @@
 -- What an update does: its receiver's addresses of a process that know fewer moves of it get the place that the update tells.
-use Rattle.std.specs.Prelude.{◌≡◌, ℕ, ◌+◌, ◌<◌, ◌≤◌, ◌==◌, ◌&&◌, Bool, true, false, if◌then◌else◌, List, [], ◌∷◌}
+use Rattle.std.specs.Prelude.{◌≡◌, ℕ, ◌+◌, ◌<◌, ◌≤◌, Bool, true, false, if◌then◌else◌, List, [], ◌∷◌, ◌++◌}
 use Rattle.std.specs.declared.option.Option.TheVariants.{Some}
 use Rattle.dm_link.specs.declared.Pid.{Pid}
 use Rattle.dm_link.specs.Names.{Place}
@@ -8,6 +8,7 @@ use Rattle.dm_message.specs.declared.kind.MessageKind.TheVariants as kind
 use Rattle.dm_onekernel.specs.declared.boot.Boot.{Boot}
 use Rattle.dm_onekernel.specs.Boot.{IsValid}
 use Rattle.dm_schedule.specs.declared.Step.{Step}
+use Rattle.dm_rule.specs.declared.line.Line.{Line}
 use Rattle.dm_rule.specs.declared.line.Line.TheVariants as line
 use Rattle.dm_rule.specs.Addresses.{Holder, Slot, Owner, Receiver, Sender, Enclosed, Child, Name, Answer, holder_eq, belongs_to, leads_to, is_behind}
 use Rattle.dm_rule.specs.Laws.{Leads}
@@ -51,10 +52,15 @@ pub record Updated (pt next : Point) (id : MsgId) (n : ℕ) : Type 0 where
   -- the line says how many knew fewer, but for the owner in a data move: each of the others is listed once
   pub count : behind_among (is_behind pt.kernel pt.addresses told.receiver process place.moves) (holders_of pt.kernel told.receiver) ≡ n
   pub listed : (h : Holder) (q : Pid) → belongs_to told.receiver h ≡ true → is_owner h ≡ false → leads_to pt.kernel h ≡ Some q → listings h (holders_of pt.kernel told.receiver) ≡ 1
-  -- and nothing else happens but that the message is handled
+  -- the kernel without machines is as it was, and so is what machines know, queue and hold
   pub kernel : next.kernel ≡ pt.kernel
+  pub known : next.view.known ≡ pt.view.known
+  pub queue : next.view.queue ≡ pt.view.queue
+  pub held : next.view.held ≡ pt.view.held
+  pub ring : next.view.ring ≡ pt.view.ring
 
--- wherever the rule leads, each group that says that an update was handled does this, and no more
+-- wherever the rule leads, a group that says that an update was handled says nothing else, and does this
 abbrev pub UpdatesAlways : Type 0
 UpdatesAlways =
-    (b : Boot) (es : List Step) (pt : Point) (d : Step) (w : Spelled) (id : MsgId) (n : ℕ) → IsValid b → Leads b (first_point b) es pt → group_of b pt d ≡ Some w → w.lines ≡ line.Head d ∷ line.Updated id n ∷ [] → Updated pt w.point id n
+    (b : Boot) (es : List Step) (pt : Point) (d : Step) (w : Spelled) (id : MsgId) (n : ℕ) (earlier later : List Line) → IsValid b → Leads b (first_point b) es pt → group_of b pt d ≡ Some w → w.lines ≡ earlier ++ line.Updated id n ∷ later
+    → (w.lines ≡ line.Head d ∷ line.Updated id n ∷ []) × Updated pt w.point id n

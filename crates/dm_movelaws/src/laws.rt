@@ -1,6 +1,8 @@
 //! What holds of migrations wherever the rule leads, whoever ran by it.
 ghost use Rattle.dm_rule.specs.Trails.{TrailsAlways};
-ghost use Rattle.dm_movelaws.specs.AtRest.{AtRestAlways};
+ghost use Rattle.dm_movelaws.specs.AtRest.{AtRestAlways, DropsAlways};
+ghost use Rattle.dm_movelaws.specs.Counts.{CountsKept, CountsStay};
+ghost use Rattle.dm_movelaws.specs.Promise.{PromisesAlways};
 ghost use Rattle.dm_movelaws.specs.Stages.{StepsInOrder};
 ghost use Rattle.dm_movelaws.specs.Updates.{UpdatesAlways};
 
@@ -11,11 +13,22 @@ pub fn trails_always()
     ensures { TrailsAlways }
 {}
 
-/// Wherever the rule leads from a boot file, where an update is handled, each address of its receiver that leads to the process
-/// and knows fewer moves of it gets the place that the update tells, and the line says how many these are, but for the owner in
-/// a data move, which follows too. Every other address is as it was.
+/// Wherever the rule leads from a boot file, the lines of each process's migrations are steps 1 to 8 in order, or 1, 2, lacks and
+/// stays, one migration after another; the last may be unfinished.
+pub fn steps_in_order()
+    ensures { StepsInOrder }
+{}
+
+/// Wherever the rule leads from a boot file, a group that says that an update was handled says nothing else: each address of the
+/// receiver that leads to the process and knows fewer moves of it gets the place that the update tells, and the line says how
+/// many these are, but for the owner in a data move, which follows too. Every other address is as it was.
 pub fn updates_always()
     ensures { UpdatesAlways }
+{}
+
+/// Wherever the rule leads from a boot file, a process that has ended has left no message in its queue.
+pub fn drops_always()
+    ensures { DropsAlways }
 {}
 
 /// Wherever the rule leads from a boot file, where all messages that were routed are taken, and acknowledged between different
@@ -26,8 +39,22 @@ pub fn at_rest_always()
     ensures { AtRestAlways }
 {}
 
-/// Wherever the rule leads from a boot file, the lines of each process's migrations are steps 1 to 8 in order, or 1, 2, lacks and
-/// stays, one migration after another; the last may be unfinished.
-pub fn steps_in_order()
-    ensures { StepsInOrder }
+/// From any point on, as long as no step of the kernel without machines gives an address anew that a process or a server has,
+/// in a slot, as the owner in a data move, to a child, under a name or for an answer, its count doesn't fall: neither forwards
+/// nor migrations change it, and an update only raises it.
+pub fn counts_stay()
+    ensures { CountsStay }
+{}
+
+/// Wherever the rule leads from a boot file and beyond: where an update was handled, each address of its receiver that led to
+/// the process has no lower count than the update, until a step gives it anew.
+pub fn counts_kept()
+    ensures { CountsKept }
+{}
+
+/// Wherever the rule leads from a boot file and beyond: each update that is under way has been handled where nothing is on its way
+/// any more; and where the process that it is about hasn't moved since, each slot of its receiver that leads there and that no step
+/// filled since names the machine where that process is.
+pub fn promises_always()
+    ensures { PromisesAlways }
 {}

@@ -1,0 +1,247 @@
+-- The count of an address that a process or a server has doesn't fall until a step gives it a new one.
+use Rattle.std.proofs.Common.{◌≡◌, ℕ, ◌<◌, ◌≤◌, ◌&&◌, ◌||◌, Bool, true, false, List, [], ◌∷◌, ◌++◌, refl, ap, ◌∙◌, sym, subst, nat_lt, arith}
+use Rattle.std.specs.Prelude.{if◌then◌else◌}
+use Rattle.std.proofs.lemmas.Bool.{false≢true}
+use Rattle.std.proofs.lemmas.Bool.Decides.{nat_tests}
+use Rattle.std.specs.declared.option.Option.{Option}
+use Rattle.std.specs.declared.option.Option.TheVariants.{None, Some}
+use Rattle.dm_link.specs.declared.Pid.{Pid}
+use Rattle.dm_link.specs.Names.{Place}
+use Rattle.dm_message.specs.declared.MsgId.{MsgId}
+use Rattle.dm_message.specs.declared.kind.MessageKind.{MessageKind}
+use Rattle.dm_message.specs.declared.kind.MessageKind.TheVariants as kind
+use Rattle.dm_onekernel.specs.declared.boot.Boot.{Boot}
+use Rattle.dm_onekernel.specs.Kernel.{OneKernel}
+use Rattle.dm_onekernel.specs.Options.{bind}
+use Rattle.dm_laws.proofs.Steps.{bind-is}
+use Rattle.dm_schedule.specs.declared.Step.{Step}
+use Rattle.dm_rule.specs.declared.line.Line.{Line}
+use Rattle.dm_rule.specs.declared.line.Line.TheVariants as line
+use Rattle.dm_rule.specs.Addresses.{Addresses, Holder, Slot, Owner, Receiver, Sender, Enclosed, Child, Name, Answer, Gets, gets, holder_eq, unmoved, given, gives, belongs_to, leads_to, is_pid, is_behind, tells_back, is_told_back, forwards, all_follow, child_number, place_of_child, own_gives, first_gives, place_told, updated, updated_to, addresses_after}
+use Rattle.dm_rule.specs.Parts.{Part, Spelled, lines_of, behind, spelled}
+use Rattle.dm_rule.specs.Point.{Point, label_of, kernel_after, moved, after_line, after}
+use Rattle.dm_rule.specs.Rule as rule
+use Rattle.dm_rule.specs.Rule.{group_of}
+use Rattle.dm_rule.specs.View.{View, Told, About}
+use Rattle.dm_rule.specs.View as view
+use Rattle.dm_movelaws.specs.Counts.{is_owned, gives_to, is_filled, in_next, refilled, CountsStay, CountsKept}
+use Rattle.dm_movelaws.specs.Updates.{Updated}
+use Rattle.dm_movelaws.proofs.UpdatesAlways.{updates_always}
+
+abbrev count_of : Addresses → Holder → ℕ
+count_of a h = (a h).moves
+
+same_count : (a c : Addresses) (h : Holder) → c h ≡ a h → count_of a h ≤ count_of c h
+same_count a c h e = let f : count_of c h ≡ count_of a h = ap (λ (p : Place). p.moves) e in omega (arith, f)
+
+-- what a label gives
+either : (b c : Bool) → (b || c) ≡ false → (b ≡ false) × (c ≡ false)
+either true c e = absurd (false≢true (sym e))
+either false c e = (refl, e)
+
+not_given : (a : Addresses) (gs : List Gets) (h : Holder) → gives_to h gs ≡ false → given a gs h ≡ a h
+not_given a [] h e = refl
+not_given a (g ∷ gs) h e =
+    let k = either (holder_eq g.holder h) (gives_to h gs) e in
+    ap (λ (c : Bool). if c then g.place else given a gs h) k.0 ∙ not_given a gs h k.1
+
+-- what goes on gives addresses to messages only
+no_receiver : (i : MsgId) (h : Holder) → is_owned h ≡ true → holder_eq (Receiver i) h ≡ false
+no_receiver i (Slot p k) e = refl
+no_receiver i (Owner p) e = refl
+no_receiver i (Receiver j) e = absurd (false≢true e)
+no_receiver i (Sender j) e = refl
+no_receiver i (Enclosed j k) e = refl
+no_receiver i (Child n) e = refl
+no_receiver i (Name n) e = refl
+no_receiver i (Answer n) e = refl
+
+no_sender : (i : MsgId) (h : Holder) → is_owned h ≡ true → holder_eq (Sender i) h ≡ false
+no_sender i (Slot p k) e = refl
+no_sender i (Owner p) e = refl
+no_sender i (Receiver j) e = refl
+no_sender i (Sender j) e = absurd (false≢true e)
+no_sender i (Enclosed j k) e = refl
+no_sender i (Child n) e = refl
+no_sender i (Name n) e = refl
+no_sender i (Answer n) e = refl
+
+both_none : (i : MsgId) (p r : Place) (h : Holder) → is_owned h ≡ true → gives_to h (gets (Receiver i) p ∷ gets (Sender i) r ∷ []) ≡ false
+both_none i p r h e = ap (λ (c : Bool). c || (holder_eq (Sender i) h || false)) (no_receiver i h e) ∙ ap (λ (c : Bool). c || false) (no_sender i h e)
+
+tells_none : (v : View) (a : Addresses) (id : MsgId) (h : Holder) (c : Bool) → is_owned h ≡ true → gives_to h (tells_back v a id c) ≡ false
+tells_none v a id h true e = both_none (view.own_id v) (a (Sender id)) (unmoved v.acting) h e
+tells_none v a id h false e = refl
+
+forwards_none : (v : View) (a : Addresses) (id : MsgId) (h : Holder) (o : Option Told) → is_owned h ≡ true → gives_to h (forwards v a id o) ≡ false
+forwards_none v a id h None e = refl
+forwards_none v a id h (Some t) e = ap (λ (c : Bool). c || gives_to h (tells_back v a id (is_told_back t.kind))) (no_receiver id h e) ∙ tells_none v a id h (is_told_back t.kind) e
+
+follows_none : (v : View) (a : Addresses) (p : Pid) (h : Holder) (is : List MsgId) → is_owned h ≡ true → gives_to h (all_follow v a p is) ≡ false
+follows_none v a p h [] e = refl
+follows_none v a p h (i ∷ is) e = ap (λ (c : Bool). c || gives_to h (all_follow v a p is)) (no_receiver i h e) ∙ follows_none v a p h is e
+
+own_none : (s : OneKernel) (v : View) (a : Addresses) (id : MsgId) (r : Pid) (h : Holder) (x : MessageKind) → is_owned h ≡ true → gives_to h (own_gives s v a id r x) ≡ false
+own_none s v a id r h kind.Ask e = both_none id (unmoved r.home) (unmoved v.acting) h e
+own_none s v a id r h kind.Refuse e = both_none id (unmoved r.home) (unmoved v.acting) h e
+own_none s v a id r h kind.PullState e = both_none id (unmoved r.home) (unmoved v.acting) h e
+own_none s v a id r h kind.State e = both_none id (unmoved r.home) (unmoved v.acting) h e
+own_none s v a id r h kind.PullBlock e = both_none id (unmoved r.home) (unmoved v.acting) h e
+own_none s v a id r h kind.Memory e = both_none id (unmoved r.home) (unmoved v.acting) h e
+own_none s v a id r h kind.AllTaken e = both_none id (unmoved r.home) (unmoved v.acting) h e
+own_none s v a id r h kind.Restart e = both_none id (unmoved r.home) (unmoved v.acting) h e
+own_none s v a id r h kind.User e = refl
+own_none s v a id r h kind.Stop e = refl
+own_none s v a id r h kind.Resume e = refl
+own_none s v a id r h kind.Kill e = refl
+own_none s v a id r h kind.Read e = refl
+own_none s v a id r h kind.Write e = refl
+own_none s v a id r h kind.Block e = refl
+own_none s v a id r h kind.Written e = refl
+own_none s v a id r h kind.Gone e = refl
+own_none s v a id r h kind.Create e = refl
+own_none s v a id r h kind.Created e = refl
+own_none s v a id r h kind.NoRoom e = refl
+own_none s v a id r h kind.Migrate e = both_none id (place_of_child a (child_number s r)) (unmoved v.acting) h e
+own_none s v a id r h kind.Update e = refl
+own_none s v a id r h kind.Move e = refl
+own_none s v a id r h kind.Moved e = refl
+own_none s v a id r h kind.CallOff e = both_none id (unmoved r.home) (unmoved v.acting) h e
+own_none s v a id r h kind.Bury e = both_none id (unmoved r.home) (unmoved v.acting) h e
+
+first_none : (h : Holder) (o : Option Told) (gs : List Gets) → gives_to h gs ≡ false → gives_to h (first_gives o gs) ≡ false
+first_none h None gs e = e
+first_none h (Some t) gs e = refl
+
+-- an update only raises
+raised_if : (c : Bool) (p at_ : Place) → (c ≡ true → p.moves ≤ at_.moves) → p.moves ≤ (if c then at_ else p).moves
+raised_if true p at_ h = h refl
+raised_if false p at_ h = omega arith
+
+third : (a b c : Bool) → (a && (b && c)) ≡ true → c ≡ true
+third true true c e = e
+third true false c e = absurd (false≢true e)
+third false b c e = absurd (false≢true e)
+
+told_raises : (s : OneKernel) (a : Addresses) (r : Pid) (h : Holder) (o : Option (Pid × Place)) → count_of a h ≤ (updated_to s a (Some r) o h).moves
+told_raises s a r h None = omega arith
+told_raises s a r h (Some t) =
+    raised_if (is_behind s a r t.0 t.1.moves h) (a h) t.1
+    (λ e. let f = third (belongs_to r h) (is_pid t.0 (leads_to s h)) (nat_lt (a h).moves t.1.moves) e in
+    let g : (a h).moves < t.1.moves = grind (arith, nat_tests) in omega (arith, g))
+
+update_raises : (s : OneKernel) (v : View) (a : Addresses) (h : Holder) (o : Option Told) → count_of a h ≤ (updated s v a o h).moves
+update_raises s v a h None = omega arith
+update_raises s v a h (Some t) = told_raises s a t.receiver h (place_told t.about)
+
+-- each line
+by_line : (pt : Point) (l : Line) (h : Holder) → is_owned h ≡ true → is_filled pt (label_of l) h ≡ false → count_of pt.addresses h ≤ count_of (addresses_after pt.kernel pt.view pt.addresses l) h
+by_line pt (line.Label l) h mine e = same_count pt.addresses (given pt.addresses (gives pt.kernel pt.view pt.addresses l)) h (not_given pt.addresses (gives pt.kernel pt.view pt.addresses l) h e)
+by_line pt (line.Forwarded id m) h mine e =
+    let gs = forwards pt.view pt.addresses id (pt.view.told id) in
+    same_count pt.addresses (given pt.addresses gs) h (not_given pt.addresses gs h (forwards_none pt.view pt.addresses id h (pt.view.told id) mine))
+by_line pt (line.SentOn p n) h mine e =
+    let is = pt.view.queue pt.view.acting p ++ pt.view.held pt.view.acting p in
+    let gs = all_follow pt.view pt.addresses p is in
+    same_count pt.addresses (given pt.addresses gs) h (not_given pt.addresses gs h (follows_none pt.view pt.addresses p h is mine))
+by_line pt (line.Put from to id x r) h mine e =
+    let own = own_gives pt.kernel pt.view pt.addresses id r x in
+    let gs = first_gives (pt.view.told id) own in
+    same_count pt.addresses (given pt.addresses gs) h (not_given pt.addresses gs h (first_none h (pt.view.told id) own (own_none pt.kernel pt.view pt.addresses id r h x mine)))
+by_line pt (line.Updated id n) h mine e = update_raises pt.kernel pt.view pt.addresses h (pt.view.told id)
+by_line pt (line.Head d) h mine e = omega arith
+by_line pt (line.Idle m) h mine e = omega arith
+by_line pt (line.Packet a b x l) h mine e = omega arith
+by_line pt (line.Taken a b n) h mine e = omega arith
+by_line pt (line.Old a b n) h mine e = omega arith
+by_line pt (line.Early a b n) h mine e = omega arith
+by_line pt (line.Acked a b n) h mine e = omega arith
+by_line pt line.Nothing h mine e = omega arith
+by_line pt (line.Resent m n) h mine e = omega arith
+by_line pt (line.Queued id) h mine e = omega arith
+by_line pt (line.Held id) h mine e = omega arith
+by_line pt (line.Migration s p) h mine e = omega arith
+by_line pt (line.Lacks p f b) h mine e = omega arith
+by_line pt (line.Stays p) h mine e = omega arith
+by_line pt (line.Here id) h mine e = omega arith
+by_line pt (line.NoMove id) h mine e = omega arith
+by_line pt (line.Proto id) h mine e = omega arith
+by_line pt (line.NoChild p) h mine e = omega arith
+by_line pt (line.Pinned p) h mine e = omega arith
+by_line pt (line.End x) h mine e = omega arith
+
+-- and so all lines of a group
+in_some : (o : Option Point) (f : Point → Bool) (next : Point) → o ≡ Some next → in_next o f ≡ false → f next ≡ false
+in_some o f next is e = sym (ap (λ (x : Option Point). in_next x f) is) ∙ e
+
+by_lines : (ls : List Line) (pt end : Point) (h : Holder) → is_owned h ≡ true → after pt ls ≡ Some end → refilled h pt ls ≡ false → count_of pt.addresses h ≤ count_of end.addresses h
+by_lines [] pt end h mine is e = let f : pt ≡ end = cc in same_count pt.addresses end.addresses h (sym (ap (λ (x : Point). x.addresses h) f))
+by_lines (l ∷ ls) pt end h mine is e =
+    let (next, first, rest) = bind-is (after_line pt l) (λ (x : Point). after x ls) end is in
+    let (s, step_, last) = bind-is (kernel_after pt.kernel (label_of l)) (λ (s : OneKernel). Some (moved pt l s)) next first in
+    let f : moved pt l s ≡ next = cc in
+    let two = either (is_filled pt (label_of l) h) (in_next (after_line pt l) (λ next. refilled h next ls)) e in
+    let one : count_of pt.addresses h ≤ count_of next.addresses h = subst (λ (x : Point). count_of pt.addresses h ≤ count_of x.addresses h) f (by_line pt l h mine two.0) in
+    let others = by_lines ls next end h mine rest (in_some (after_line pt l) (λ next. refilled h next ls) next first two.1) in
+    omega (arith, one, others)
+
+after-append : (xs ys : List Line) (pt q r : Point) → after pt xs ≡ Some q → after q ys ≡ Some r → after pt (xs ++ ys) ≡ Some r
+after-append [] ys pt q r e f = let g : pt ≡ q = cc in ap (λ (x : Point). after x ys) g ∙ f
+after-append (x ∷ xs) ys pt q r e f =
+    let (next, first, rest) = bind-is (after_line pt x) (λ (z : Point). after z xs) q e in
+    ap (λ (o : Option Point). bind o (λ (z : Point). after z (xs ++ ys))) first ∙ after-append xs ys next q r rest f
+
+spelled_after : (ps : List Part) (pt : Point) (w : Spelled) → spelled pt ps ≡ Some w → after pt w.lines ≡ Some w.point
+spelled_after [] pt w is = let f : record { lines = []; point = pt } ≡ w = cc in subst (λ (x : Spelled). after pt x.lines ≡ Some x.point) f refl
+spelled_after (p ∷ ps) pt w is =
+    let (ls, lines, rest) = bind-is (lines_of pt p) (λ (xs : List Line). bind (after pt xs) (λ (q : Point). bind (spelled q ps) (λ (z : Spelled). Some (behind xs z)))) w is in
+    let (next, leads, last) = bind-is (after pt ls) (λ (q : Point). bind (spelled q ps) (λ (z : Spelled). Some (behind ls z))) w rest in
+    let (z, more, end) = bind-is (spelled next ps) (λ (y : Spelled). Some (behind ls y)) w last in
+    let f : behind ls z ≡ w = cc in
+    subst (λ (x : Spelled). after pt x.lines ≡ Some x.point) f (after-append ls z.lines pt next z.point leads (spelled_after ps next z more))
+
+pub group_after : (b : Boot) (pt : Point) (d : Step) (w : Spelled) → group_of b pt d ≡ Some w → after pt w.lines ≡ Some w.point
+group_after b pt d w e =
+    let (parts, is, more) = bind-is (rule.outcome b pt d) (λ parts. bind (after_line pt (line.Head d)) (λ begun. bind (spelled begun parts) (λ w. Some (rule.headed (line.Head d) w)))) w e in
+    let (start, head, last) = bind-is (after_line pt (line.Head d)) (λ begun. bind (spelled begun parts) (λ w. Some (rule.headed (line.Head d) w))) w more in
+    let (rest, told, end) = bind-is (spelled start parts) (λ w. Some (rule.headed (line.Head d) w)) w last in
+    let g : rule.headed (line.Head d) rest ≡ w = cc in
+    subst (λ (x : Spelled). after pt x.lines ≡ Some x.point) g (ap (λ (o : Option Point). bind o (λ (z : Point). after z rest.lines)) head ∙ spelled_after parts start rest told)
+
+pub counts_stay : CountsStay
+counts_stay b [] pt end h mine leads = same_count pt.addresses end.addresses h (sym (ap (λ (x : Point). x.addresses h) leads))
+counts_stay b (d ∷ ds) pt end h mine (w, fit, is, unfilled, more) =
+    let one = by_lines w.lines pt w.point h mine (group_after b pt d w is) unfilled in
+    let others = counts_stay b ds w.point end h mine more in
+    omega (arith, one, others)
+
+-- what belongs to a process or a server is its own
+owned_by : (q : Pid) (h : Holder) → belongs_to q h ≡ true → is_owned h ≡ true
+owned_by q (Slot p k) e = refl
+owned_by q (Owner p) e = refl
+owned_by q (Receiver j) e = e
+owned_by q (Sender j) e = e
+owned_by q (Enclosed j k) e = e
+owned_by q (Child n) e = refl
+owned_by q (Name n) e = refl
+owned_by q (Answer n) e = refl
+
+-- what an update told stays
+count_in : (x y : About) (p : Pid) (c at_ : Place) (r : Pid) → x ≡ view.Place p c.at c.moves → x ≡ view.Place r at_.at at_.moves → (r ≡ p) × (c.moves ≡ at_.moves)
+count_in x y p c at_ r e f =
+    let g : view.Place p c.at c.moves ≡ view.Place r at_.at at_.moves = sym e ∙ f in
+    (let k : r ≡ p = cc in k, let k : c.moves ≡ at_.moves = cc in k)
+
+kept_by : (pt next end : Point) (id : MsgId) (n : ℕ) (t : Told) (p : Pid) (c : Place) (h : Holder) → Updated pt next id n → pt.view.told id ≡ Some t → t.about ≡ view.Place p c.at c.moves → belongs_to t.receiver h ≡ true → leads_to pt.kernel h ≡ Some p
+    → count_of next.addresses h ≤ count_of end.addresses h → c.moves ≤ count_of end.addresses h
+kept_by pt next end id n t p c h u told about mine leads stay =
+    let same : u.told ≡ t = let f : Some u.told ≡ Some t = sym u.is ∙ told in cc in
+    let both = count_in t.about t.about p c u.place u.process about (sym (ap (λ (x : Told). x.about) same) ∙ u.about) in
+    let own : belongs_to u.told.receiver h ≡ true = ap (λ (x : Told). belongs_to x.receiver h) same ∙ mine in
+    let least = u.raised h own (leads ∙ ap Some (sym both.0)) in
+    let counts = both.1 in
+    omega (arith, least, counts, stay)
+
+pub counts_kept : CountsKept
+counts_kept b es more pt end d w id n t p c h earlier later valid leads is lines told about mine slot unfilled =
+    kept_by pt w.point end id n t p c h (updates_always b es pt d w id n earlier later valid leads is lines).1 told about mine slot (counts_stay b more w.point end h (owned_by t.receiver h mine) unfilled)
