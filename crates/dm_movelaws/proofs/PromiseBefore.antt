@@ -19,17 +19,17 @@ use Rattle.dm_rule.proofs.Lines.{eq_is, eq_self, parts}
 use Rattle.dm_rule.proofs.Homes.{AtHome, HomesAre, homes_are, at_home}
 use Rattle.dm_rule.proofs.HomesServes.{Named}
 use Rattle.dm_rule.proofs.HomesLabels.{SaidOn, label_on}
-use Rattle.dm_movelaws.specs.Promise.{is_given}
+use Rattle.dm_movelaws.specs.Counts.{gives_to}
 use Rattle.dm_movelaws.proofs.PromiseSlots.{same_given, gives_same}
 
 neither : (c d : Bool) → (c || d) ≡ false → (c ≡ false) × (d ≡ false)
 neither true d e = absurd (false≢true (sym e))
 neither false d e = (refl, e)
 
-pub not_given : (a : Addresses) (h : Holder) (gs : List Gets) → is_given h gs ≡ false → given a gs h ≡ a h
+pub not_given : (a : Addresses) (h : Holder) (gs : List Gets) → gives_to h gs ≡ false → given a gs h ≡ a h
 not_given a h [] e = refl
 not_given a h (g ∷ gs) e =
-    let off = neither (holder_eq g.holder h) (is_given h gs) e in
+    let off = neither (holder_eq g.holder h) (gives_to h gs) e in
     ap (λ (b : Bool). if b then g.place else given a gs h) off.0 ∙ not_given a h gs off.1
 
 -- addresses that mark one slot
@@ -103,11 +103,11 @@ pub step_pending : (s t : OneKernel) (v : View) (l : Label) → kernel.step s l 
 step_pending s t v l is named pending = (marked_home s t v l (record { home = 0; num = 0 }) 0 is named pending).pending
 
 -- and a slot that gets no address led there before
-pub led_before : (s t : OneKernel) (v : View) (a : Addresses) (l : Label) (p q : Pid) (k : ℕ) → kernel.step s l ≡ Some t → Named s → ascends 0 s.manager.pending s.manager.sent ≡ true → is_given (Slot p k) (gives s v a l) ≡ false → leads_to t (Slot p k) ≡ Some q
+pub led_before : (s t : OneKernel) (v : View) (a : Addresses) (l : Label) (p q : Pid) (k : ℕ) → kernel.step s l ≡ Some t → Named s → ascends 0 s.manager.pending s.manager.sent ≡ true → gives_to (Slot p k) (gives s v a l) ≡ false → leads_to t (Slot p k) ≡ Some q
     → leads_to s (Slot p k) ≡ Some q
 led_before s t v a l p q k is named pending spared leads =
     let gs = gives s (still_view s v l) (marked p k) l in
-    let off : is_given (Slot p k) gs ≡ false = same_given (Slot p k) gs (gives s v a l) (gives_same s (still_view s v l) v (marked p k) a l) ∙ spared in
+    let off : gives_to (Slot p k) gs ≡ false = same_given (Slot p k) gs (gives s v a l) (gives_same s (still_view s v l) v (marked p k) a l) ∙ spared in
     let at : given (marked p k) gs (Slot p k) ≡ marked p k (Slot p k) = not_given (marked p k) (Slot p k) gs off in
     let one : (marked p k (Slot p k)).moves ≡ 1 = ap (λ (c : Bool). (if c then record { at = 0; moves = 1 } else unmoved 0).moves) (slot_same p k) in
     homes_are (Was s p k) t (given (marked p k) gs) (marked_home s t v l p k is named pending) (Slot p k) q leads (ap (λ (x : Place). x.moves) at ∙ one)

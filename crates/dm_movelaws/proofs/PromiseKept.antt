@@ -29,7 +29,8 @@ use Rattle.dm_rule.proofs.Lines.{parts}
 use Rattle.dm_rule.proofs.Hushed.{hushed}
 use Rattle.dm_rule.proofs.PhasesLines.{put_at}
 use Rattle.dm_rule.proofs.States.{put_told_off}
-use Rattle.dm_movelaws.specs.Promise.{is_given, fills, Unfilled}
+use Rattle.dm_movelaws.specs.Counts.{gives_to}
+use Rattle.dm_movelaws.specs.Promise.{fills, Unfilled}
 use Rattle.dm_movelaws.proofs.PromiseBefore.{not_given, step_pending, led_before}
 
 -- what was told stays
@@ -74,22 +75,22 @@ told_stays v (line.Pinned r) j t e = ap (λ (f : MsgId → Option Told). f j) (h
 told_stays v (line.End y) j t e = ap (λ (f : MsgId → Option Told). f j) (hushed v (line.End y) refl).told ∙ e
 
 -- a slot's address
-same_address : (a : Addresses) (p : Pid) (k : ℕ) (gs : List Gets) → is_given (Slot p k) gs ≡ false → (a (Slot p k)).moves ≤ (given a gs (Slot p k)).moves
+same_address : (a : Addresses) (p : Pid) (k : ℕ) (gs : List Gets) → gives_to (Slot p k) gs ≡ false → (a (Slot p k)).moves ≤ (given a gs (Slot p k)).moves
 same_address a p k gs e = let f : (given a gs (Slot p k)).moves ≡ (a (Slot p k)).moves = ap (λ (x : Place). x.moves) (not_given a (Slot p k) gs e) in omega (arith, f)
 
-back_spares : (v : View) (a : Addresses) (id : MsgId) (c : Bool) (p : Pid) (k : ℕ) → is_given (Slot p k) (tells_back v a id c) ≡ false
+back_spares : (v : View) (a : Addresses) (id : MsgId) (c : Bool) (p : Pid) (k : ℕ) → gives_to (Slot p k) (tells_back v a id c) ≡ false
 back_spares v a id true p k = refl
 back_spares v a id false p k = refl
 
-forwards_spare : (v : View) (a : Addresses) (id : MsgId) (o : Option Told) (p : Pid) (k : ℕ) → is_given (Slot p k) (forwards v a id o) ≡ false
+forwards_spare : (v : View) (a : Addresses) (id : MsgId) (o : Option Told) (p : Pid) (k : ℕ) → gives_to (Slot p k) (forwards v a id o) ≡ false
 forwards_spare v a id None p k = refl
 forwards_spare v a id (Some t) p k = back_spares v a id (is_told_back t.kind) p k
 
-follow_spares : (v : View) (a : Addresses) (r : Pid) (ids : List MsgId) (p : Pid) (k : ℕ) → is_given (Slot p k) (all_follow v a r ids) ≡ false
+follow_spares : (v : View) (a : Addresses) (r : Pid) (ids : List MsgId) (p : Pid) (k : ℕ) → gives_to (Slot p k) (all_follow v a r ids) ≡ false
 follow_spares v a r [] p k = refl
 follow_spares v a r (i ∷ is) p k = follow_spares v a r is p k
 
-own_spares : (s : OneKernel) (v : View) (a : Addresses) (id : MsgId) (q : Pid) (c : MessageKind) (p : Pid) (k : ℕ) → is_given (Slot p k) (own_gives s v a id q c) ≡ false
+own_spares : (s : OneKernel) (v : View) (a : Addresses) (id : MsgId) (q : Pid) (c : MessageKind) (p : Pid) (k : ℕ) → gives_to (Slot p k) (own_gives s v a id q c) ≡ false
 own_spares s v a id q kind.Ask p k = refl
 own_spares s v a id q kind.Refuse p k = refl
 own_spares s v a id q kind.PullState p k = refl
@@ -117,7 +118,7 @@ own_spares s v a id q kind.Moved p k = refl
 own_spares s v a id q kind.CallOff p k = refl
 own_spares s v a id q kind.Bury p k = refl
 
-first_spares : (o : Option Told) (gs : List Gets) (p : Pid) (k : ℕ) → is_given (Slot p k) gs ≡ false → is_given (Slot p k) (first_gives o gs) ≡ false
+first_spares : (o : Option Told) (gs : List Gets) (p : Pid) (k : ℕ) → gives_to (Slot p k) gs ≡ false → gives_to (Slot p k) (first_gives o gs) ≡ false
 first_spares None gs p k e = e
 first_spares (Some t) gs p k e = refl
 
@@ -190,13 +191,13 @@ grounds_by s t v (Some x) is h = record {
   pending = step_pending s t v x is h.sound.entered.named h.pending;
 }
 
-led_by : (pt : Point) (t : OneKernel) (l : Line) (o : Option Label) (p q : Pid) (k : ℕ) → label_of l ≡ o → kernel_after pt.kernel o ≡ Some t → Grounds pt.kernel → ((x : Label) → o ≡ Some x → is_given (Slot p k) (gives pt.kernel pt.view pt.addresses x) ≡ false) → leads_to t (Slot p k) ≡ Some q
+led_by : (pt : Point) (t : OneKernel) (l : Line) (o : Option Label) (p q : Pid) (k : ℕ) → label_of l ≡ o → kernel_after pt.kernel o ≡ Some t → Grounds pt.kernel → ((x : Label) → o ≡ Some x → gives_to (Slot p k) (gives pt.kernel pt.view pt.addresses x) ≡ false) → leads_to t (Slot p k) ≡ Some q
     → leads_to pt.kernel (Slot p k) ≡ Some q
 led_by pt t l None p q k of is h spared leads = let f : pt.kernel ≡ t = cc in ap (λ (s : OneKernel). leads_to s (Slot p k)) f ∙ leads
 led_by pt t l (Some x) p q k of is h spared leads = led_before pt.kernel t pt.view pt.addresses x p q k is h.sound.entered.named h.pending (spared x refl) leads
 
-spared_by : (pt : Point) (l : Line) (p : Pid) (k : ℕ) (x : Label) → label_of l ≡ Some x → fills pt (Slot p k) l ≡ false → is_given (Slot p k) (gives pt.kernel pt.view pt.addresses x) ≡ false
-spared_by pt (line.Label y) p k x of e = let f : y ≡ x = cc in ap (λ (z : Label). is_given (Slot p k) (gives pt.kernel pt.view pt.addresses z)) (sym f) ∙ e
+spared_by : (pt : Point) (l : Line) (p : Pid) (k : ℕ) (x : Label) → label_of l ≡ Some x → fills pt (Slot p k) l ≡ false → gives_to (Slot p k) (gives pt.kernel pt.view pt.addresses x) ≡ false
+spared_by pt (line.Label y) p k x of e = let f : y ≡ x = cc in ap (λ (z : Label). gives_to (Slot p k) (gives pt.kernel pt.view pt.addresses z)) (sym f) ∙ e
 spared_by pt (line.Forwarded id m) p k x of e = cc
 spared_by pt (line.SentOn r n) p k x of e = cc
 spared_by pt (line.Updated id n) p k x of e = cc

@@ -27,20 +27,20 @@ use Rattle.dm_onekernel.specs.Step as kernel
 use Rattle.dm_rule.specs.View.{View}
 use Rattle.dm_rule.specs.Addresses as addresses
 use Rattle.dm_rule.specs.Addresses.{Addresses, Holder, Slot, Owner, Receiver, Sender, Enclosed, Child, Name, Answer, Gets, gets, gives, holder_eq, here, unmoved, encloses, enclosed_from, sends_what, fills_by, made, receives_links, receives_what, slot_after, lands, serves_what, answers, child_links, creates_what, board_finds, board_keeps, board_takes, manager_tells, manager_sends, manager_answers, manager_takes}
-use Rattle.dm_movelaws.specs.Promise.{is_given}
+use Rattle.dm_movelaws.specs.Counts.{gives_to}
 
 abbrev pub holders : List Gets → List Holder
 holders [] = []
 holders (g ∷ gs) = g.holder ∷ holders gs
 
-pub same_given : (h : Holder) (xs ys : List Gets) → holders xs ≡ holders ys → is_given h xs ≡ is_given h ys
+pub same_given : (h : Holder) (xs ys : List Gets) → holders xs ≡ holders ys → gives_to h xs ≡ gives_to h ys
 same_given h [] [] e = refl
 same_given h [] (y ∷ ys) e = cc
 same_given h (x ∷ xs) [] e = cc
 same_given h (x ∷ xs) (y ∷ ys) e =
     let first : x.holder ≡ y.holder = cc in
     let rest : holders xs ≡ holders ys = cc in
-    ap (λ (g : Holder). holder_eq g h || is_given h xs) first ∙ ap (λ (c : Bool). holder_eq y.holder h || c) (same_given h xs ys rest)
+    ap (λ (g : Holder). holder_eq g h || gives_to h xs) first ∙ ap (λ (c : Bool). holder_eq y.holder h || c) (same_given h xs ys rest)
 
 holders-append : (xs ys : List Gets) → holders (xs ++ ys) ≡ holders xs ++ holders ys
 holders-append [] ys = refl

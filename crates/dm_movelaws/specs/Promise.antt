@@ -1,7 +1,7 @@
 -- What counts promise: a process that was told where another went has, where all is at rest, the links that it hasn't filled since
 -- lead to where the other is.
-use Rattle.std.specs.Prelude.{◌≡◌, ⊤, ℕ, ◌≤◌, ◌||◌, Bool, true, false, List, [], ◌∷◌, ◌++◌}
-use Rattle.std.specs.declared.option.Option.TheVariants.{None, Some}
+use Rattle.std.specs.Prelude.{◌≡◌, ⊤, ℕ, ◌≤◌, Bool, false, List, [], ◌∷◌, ◌++◌}
+use Rattle.std.specs.declared.option.Option.TheVariants.{Some}
 use Rattle.dm_link.specs.declared.Pid.{Pid}
 use Rattle.dm_link.specs.Names.{Place}
 use Rattle.dm_message.specs.declared.MsgId.{MsgId}
@@ -11,25 +11,21 @@ use Rattle.dm_onekernel.specs.Boot.{IsValid}
 use Rattle.dm_schedule.specs.declared.Step.{Step}
 use Rattle.dm_rule.specs.declared.line.Line.{Line}
 use Rattle.dm_rule.specs.declared.line.Line.TheVariants as line
-use Rattle.dm_rule.specs.Addresses.{Holder, Slot, Gets, holder_eq, gives, leads_to}
+use Rattle.dm_rule.specs.Addresses.{Holder, Slot, leads_to}
 use Rattle.dm_rule.specs.Laws.{Leads, IsStep}
 use Rattle.dm_rule.specs.Parts.{Spelled}
-use Rattle.dm_rule.specs.Point.{Point, first_point, after_line}
+use Rattle.dm_rule.specs.Point.{Point, label_of, first_point, after_line}
 use Rattle.dm_rule.specs.Quiet.{IsQuiet}
 use Rattle.dm_rule.specs.Rule.{group_of}
 use Rattle.dm_rule.specs.Spots.{Spot, standing}
 use Rattle.dm_rule.specs.View.{View, Told}
 use Rattle.dm_rule.specs.View as view
 use Rattle.dm_rulelaws.specs.Order.{LeadsBy}
+use Rattle.dm_movelaws.specs.Counts.{is_filled}
 
--- a label gives a holder its address: a link comes into a slot
-abbrev pub is_given : Holder → List Gets → Bool
-is_given h [] = false
-is_given h (g ∷ gs) = holder_eq g.holder h || is_given h gs
-
+-- a line is a step that gives a holder its address: a link comes into a slot
 abbrev pub fills : Point → Holder → Line → Bool
-fills pt h (line.Label l) = is_given h (gives pt.kernel pt.view pt.addresses l)
-fills pt h l = false
+fills pt h l = is_filled pt (label_of l) h
 
 -- none of these lines does
 abbrev pub Unfilled : Point → Holder → List Line → Type 0
