@@ -17,7 +17,7 @@ use std::io;
 use std::process::ExitCode;
 
 fn main(rt: HostRuntime) -> ExitCode {
-    let mut shelf = RealShelf::new(rt.alloc(), &rt);
+    let mut shelf = RealShelf::new(&rt);
     let mut out = RealSink::new(io::writer(&rt));
     let status = run_given(
         rt.alloc(),

@@ -44,7 +44,7 @@ run_begins b ds valid fit = record {
 }
 
 -- one more directive, and one more group
-leads_last : (b : Boot) (es : List Step) (pt mid : Point) (e : Step) (v : Spelled) → Leads b pt es mid → IsStep mid.kernel.machines e → group_of b mid e ≡ Some v → Leads b pt (es ++ e ∷ []) v.point
+pub leads_last : (b : Boot) (es : List Step) (pt mid : Point) (e : Step) (v : Spelled) → Leads b pt es mid → IsStep mid.kernel.machines e → group_of b mid e ≡ Some v → Leads b pt (es ++ e ∷ []) v.point
 leads_last b [] pt mid e v leads fit is = (v, subst (λ (q : Point). IsStep q.kernel.machines e) (sym leads) fit, ap (λ (q : Point). group_of b q e) leads ∙ is, refl)
 leads_last b (d ∷ ds) pt mid e v (w, first, group, rest) fit is = (w, first, group, leads_last b ds w.point mid e v rest fit is)
 

@@ -147,4 +147,5 @@ pub mod Ending
 pub mod EndMay
 pub mod Going
 pub mod Leading
+pub mod Places
 pub mod Given

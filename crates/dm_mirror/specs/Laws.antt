@@ -13,6 +13,8 @@ use Rattle.dm_rule.specs.Good as rule
 use Rattle.dm_rule.specs.Laws.{IsStep, Leads}
 use Rattle.dm_rule.specs.Point.{Point, first_point}
 use Rattle.dm_rulelaws.specs.Order.{LeadsBy}
+use Rattle.dm_placed.specs.Following.{MirrorsPoint}
+use Rattle.dm_placed.specs.Placed.{Placed}
 use Rattle.dm_world.specs.World.{WorldState, first_world}
 use Rattle.dm_world.specs.May.{MayStep}
 use Rattle.dm_world.specs.Next as world
@@ -74,3 +76,7 @@ abbrev pub GoodLeads : Type 0
 GoodLeads =
     (b : Boot) (ds : List Directive) (gs : List (List Line)) (end : Point) (left : Todo) → IsValid b → All (IsDirective (length b.machines)) ds → IsGood b ds gs end left
     → (es : List Step) × LeadsBy b (first_point b) es (joined gs) end
+
+-- wherever the rule leads, there is a kernel with places that mirrors the point
+abbrev pub PlacesFollow : Type 0
+PlacesFollow = (b : Boot) (es : List Step) (pt : Point) → IsValid b → Leads b (first_point b) es pt → (l : Placed) × MirrorsPoint pt l

@@ -1,6 +1,6 @@
 //! What holds of every run of the machines and their wires, whoever runs them.
 ghost use Rattle.dm_mirror.specs.Local.{ActsLocally, ReadsLocally, NothingComes};
-ghost use Rattle.dm_mirror.specs.Laws.{StartStands, StepsStand, NextIsSaid, EndIsSaid, EndMay, RunBegins, RunGoesOn, GoodLeads};
+ghost use Rattle.dm_mirror.specs.Laws.{StartStands, StepsStand, NextIsSaid, EndIsSaid, EndMay, RunBegins, RunGoesOn, GoodLeads, PlacesFollow};
 
 /// The machines as the boot file has them, with empty wires, stand for the point where printed lines begin.
 pub fn start_stands()
@@ -45,6 +45,12 @@ pub fn run_goes_on()
 /// Groups of lines that are good are a run by the rule, directive by directive: each law of such runs speaks of printed lines.
 pub fn good_leads()
     ensures { GoodLeads }
+{}
+
+/// Wherever the rule leads from a boot file, there is a kernel with places that is the kernel without machines where places are left
+/// out, and whose places are the addresses of the printed lines.
+pub fn places_follow()
+    ensures { PlacesFollow }
 {}
 
 /// A directive changes one machine, and only that machine puts packets on its wires; none is taken off, and a delivery marks its

@@ -6,18 +6,21 @@ ghost use Rattle.dm_outside.specs.Outside.{RoseOrFull};
 ghost use Rattle.dm_outside.specs.Real.{GoesOn, ReadsReal};
 
 use crate::{Failed, Shelf};
-use std::alloc::Global;
+use arrayvec::ArrayString;
 use std::fs;
 use std::io::Read;
 use std::marker::Model;
 use std::rt::Files;
 
+/// The most bytes of a file's name: no system opens a longer one.
+const LONGEST_NAME: usize = 4096;
+
 /// The files of the system, read one at a time from their first byte on. A read at byte 0 opens
-/// the file; one that doesn't go on where the last one ended is a fault.
+/// the file; one that doesn't go on where the last one ended is a fault, and so is one of a name
+/// of more than 4,096 bytes. No memory is taken.
 #[derive(Drop)]
 pub struct RealShelf<R: Files> {
     rt: R,
-    alloc: Global,
     opened: Option<Opened<R::File>>,
     faults: u64,
 }
@@ -25,18 +28,17 @@ pub struct RealShelf<R: Files> {
 /// An open file, and the place of its next byte.
 #[derive(Drop)]
 struct Opened<F> {
-    name: String,
+    name: ArrayString<LONGEST_NAME>,
     file: F,
     place: u64,
 }
 
 impl<F> Model for Opened<F> {
-    ghost use Rattle.std.specs.Prelude.{string_bytes};
     ghost use Rattle.dm_outside.specs.Real.{OpenFile};
 
     ghost Value = { OpenFile F };
 
-    ghost view = { λ o. record { name = string_bytes o.name; file = o.file; place = o.place } };
+    ghost view = { λ o. record { name = o.name.bytes; file = o.file; place = o.place } };
 }
 
 impl<R: Files> Model for RealShelf<R> {
@@ -49,12 +51,11 @@ impl<R: Files> Model for RealShelf<R> {
 
 impl<R: Files> RealShelf<R> {
     /// A shelf with no file open and no faults.
-    pub fn new(alloc: Global, rt: R) -> Self
+    pub fn new(rt: R) -> Self
         ensures { result ≡ record { opened = None; faults = 0 } }
     {
         RealShelf {
             rt,
-            alloc,
             opened: None,
             faults: 0,
         }
@@ -92,7 +93,7 @@ impl<R: Files> Shelf for RealShelf<R> {
         ensures closes { OnErr result (self.new.opened ≡ None) }
     {
         let opened = if from == 0 {
-            open(self.alloc, &self.rt, name)
+            open(&self.rt, name)
         } else {
             self.opened.take()
         };
@@ -111,12 +112,12 @@ impl<R: Files> Shelf for RealShelf<R> {
 }
 
 /// Opens a file at its first byte.
-fn open<R: Files>(alloc: Global, rt: &R, name: &str) -> Option<Opened<R::File>>
+fn open<R: Files>(rt: &R, name: &str) -> Option<Opened<R::File>>
     ensures named { IfSome result (λ o. o.name ≡ name.now) }
     ensures begins { IfSome result (λ o. o.place ≡ 0) }
 {
     Some(Opened {
-        name: String::from_str(alloc, name).ok()?,
+        name: ArrayString::from(name).ok()?,
         file: fs::open(rt, name).ok()?,
         place: 0,
     })

@@ -132,7 +132,7 @@ fn reads_real_files_on(rt: HostRuntime) -> Result<(), Fail> {
     let missing = format!(in rt.alloc(); "{}/missing_file_{id}", dir.display())?;
     fs::write(&rt, first.as_str(), b"abcdef")?;
     fs::write(&rt, second.as_str(), b"ghijk")?;
-    let mut shelf = RealShelf::new(rt.alloc(), &rt);
+    let mut shelf = RealShelf::new(&rt);
     let done = reads_real_so(
         &mut shelf,
         first.as_str(),

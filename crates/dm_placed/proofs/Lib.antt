@@ -25,7 +25,6 @@ pub mod AnyPart
 pub mod EasyRows
 pub mod AnyGroup
 pub mod AnyRun
-pub mod Groups
 pub mod Worked
 pub mod Frames
 pub mod Queues

@@ -1,6 +1,6 @@
 -- Places follow the lines: each step of the kernel without machines is one with places, and leads to the addresses that the
 -- lines say; so wherever the rule leads, there is a kernel with places.
-use Rattle.std.specs.Prelude.{◌≡◌, ⊤, true, List, []}
+use Rattle.std.specs.Prelude.{◌≡◌, ⊤, true, []}
 use Rattle.std.specs.declared.option.Option.TheVariants.{Some}
 use Rattle.dm_link.specs.declared.Pid.{Pid}
 use Rattle.dm_message.specs.declared.MsgId.{MsgId}
@@ -9,17 +9,14 @@ use Rattle.dm_process.specs.declared.process.Process.{Process}
 use Rattle.dm_onekernel.specs.declared.boot.Boot.{Boot}
 use Rattle.dm_onekernel.specs.declared.label.Label.{Label}
 use Rattle.dm_onekernel.specs.declared.label.Label.TheVariants as label
-use Rattle.dm_onekernel.specs.Boot.{IsValid}
 use Rattle.dm_onekernel.specs.Kernel.{OneKernel}
 use Rattle.dm_onekernel.specs.Step as kernel
-use Rattle.dm_schedule.specs.declared.Step.{Step}
 use Rattle.dm_rule.specs.declared.line.Line.{Line}
 use Rattle.dm_rule.specs.declared.line.Line.TheVariants as line
 use Rattle.dm_rule.specs.declared.line.Stage.TheVariants as stage
 use Rattle.dm_rule.specs.View.{View}
 use Rattle.dm_rule.specs.Addresses.{Addresses, addresses_after, first_gives, own_gives}
 use Rattle.dm_rule.specs.Homes.{ascends}
-use Rattle.dm_rule.specs.Laws.{AreStill, Leads}
 use Rattle.dm_rule.specs.Point.{Point, after_line, first_point}
 use Rattle.dm_placed.specs.Placed.{Placed, Mirrors}
 use Rattle.dm_placed.specs.PlacedStart.{placed_start}
@@ -99,8 +96,3 @@ abbrev pub PointDetermines : Type 0
 PointDetermines =
     (s : OneKernel) (v : View) (a : Addresses) (l m : Placed) → Mirrors s v a l → Mirrors s v a m
     → ((i : MsgId) (x : PlainMessage) → s.bag i ≡ Some x → l.bag i ≡ m.bag i) × ((p : Pid) (x y : Process) → l.processes p ≡ Some x → m.processes p ≡ Some y → record x { queue = y.queue } ≡ y)
-
--- wherever the rule leads without a migration, there is a kernel with places that mirrors the point
-abbrev pub PlacesFollowAlways : Type 0
-PlacesFollowAlways =
-    (b : Boot) (es : List Step) (pt : Point) → IsValid b → AreStill es → Leads b (first_point b) es pt → (l : Placed) × Mirrors pt.kernel pt.view pt.addresses l

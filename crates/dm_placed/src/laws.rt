@@ -1,6 +1,6 @@
 //! Places follow the printed lines, whoever ran by them.
 ghost use Rattle.dm_placed.specs.Changes.{StepsChangeLittle};
-ghost use Rattle.dm_placed.specs.Laws.{StepsFollow, LinesKeep, StartMirrors, PointDetermines, PlacesFollowAlways};
+ghost use Rattle.dm_placed.specs.Laws.{StepsFollow, LinesKeep, StartMirrors, PointDetermines};
 
 /// Each step of the kernel without machines is one with places, by the functions of the machines' code, and its places are
 /// the addresses that the line of the step gives: a process that is made hasn't moved yet, and the servers act on machine 0,
@@ -30,10 +30,4 @@ pub fn start_mirrors()
 /// its processes, but for the messages that wait for them.
 pub fn point_determines()
     ensures { PointDetermines }
-{}
-
-/// Wherever the rule leads from a boot file without a migration, there is a kernel with places that is the kernel without
-/// machines where places are left out, and whose places are the addresses of the printed lines.
-pub fn places_follow_always()
-    ensures { PlacesFollowAlways }
 {}
