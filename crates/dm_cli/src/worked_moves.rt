@@ -295,14 +295,18 @@ const RUNS: [(&str, &str, &str); 5] = [
 pub(crate) fn tells(alloc: Global, boot: &str, schedule: &str, said: &str) -> Result<bool, Fail> {
     let files = (boot.as_bytes(), schedule.as_bytes());
     let ended = run_over(alloc, &WORDS, files, NONE, 0)?;
-    let Ok(mut rest) = str::from_utf8(ended.written.as_slice()) else {
+    let Ok(text) = str::from_utf8(ended.written.as_slice()) else {
         return Ok(false);
     };
+    let mut done = 0;
     for part in said.split("..\n") {
+        let Some((_, rest)) = text.split_at_checked(done) else {
+            return Ok(false);
+        };
         let Some((_, after)) = rest.split_once(part) else {
             return Ok(false);
         };
-        rest = after;
+        done = text.len().saturating_sub(after.len());
     }
     Ok(ended.status == Status::Done)
 }
