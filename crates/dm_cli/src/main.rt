@@ -34,6 +34,10 @@ mod tests;
 #[cfg(test)]
 mod worked;
 #[cfg(test)]
+mod worked_chains;
+#[cfg(test)]
 mod worked_migration;
+#[cfg(test)]
+mod worked_moves;
 #[cfg(test)]
 mod worked_servers;

@@ -381,7 +381,7 @@ pub(crate) fn run_over(
     );
     let files = vec![in alloc; boot, schedule]?;
     let mut shelf = MemShelf::new(files, Vec::from_slice(alloc, fails.0)?);
-    let mut sink = MemSink::new(alloc, 4096, Vec::from_slice(alloc, fails.1)?)?;
+    let mut sink = MemSink::new(alloc, 16_384, Vec::from_slice(alloc, fails.1)?)?;
     if cut > 0 {
         sink.cut(cut);
     }

@@ -240,8 +240,84 @@ stream 1 0 1.0#1
 end 9
 ";
 
+/// A process moves, and nothing else happens.
+const WHOLE: &str = "machine = [{ slots = 2, blocks = 2 }, { slots = 2, blocks = 2 }]
+image = [{ name = 'w', blocks = 1, text = 'sys 7' }]
+process = [{ name = 'w', machine = 0, image = 'w' }]
+";
+
+const WHOLE_RUN: &str = "migrate 0.3 1
+put 0 0 0.0#0 migrate 0.3
+turn 0
+step 1 0.3
+step 2 0.3
+put 0 1 0.0#1 ask 1.0
+packet 0 1 0 data 0
+deliver 0 1 0
+taken 0 1 0
+packet 1 0 0 ack 1
+turn 1
+step 3 0.3
+put 1 0 1.0#0 pullstate 0.0
+packet 1 0 1 data 0
+deliver 1 0 1
+taken 1 0 0
+packet 0 1 1 ack 1
+turn 0
+proto 1.0#0
+put 0 1 0.0#2 state 1.0
+packet 0 1 2 data 1
+deliver 0 1 2
+taken 0 1 1
+packet 1 0 2 ack 2
+turn 1
+step 4 0.3
+put 1 0 1.0#1 pullblock 0.0
+packet 1 0 3 data 1
+deliver 1 0 3
+taken 1 0 1
+packet 0 1 3 ack 2
+turn 0
+proto 1.0#1
+put 0 1 0.0#3 memory 1.0
+packet 0 1 4 data 2
+deliver 0 1 4
+taken 0 1 2
+packet 1 0 4 ack 3
+turn 1
+step 5 0.3
+put 1 0 1.0#2 alltaken 0.0
+packet 1 0 5 data 2
+deliver 1 0 5
+taken 1 0 2
+packet 0 1 5 ack 3
+turn 0
+step 6 0.3 0
+step 7 0.3
+put 0 1 0.0#4 restart 1.0
+packet 0 1 6 data 3
+deliver 0 1 6
+taken 0 1 3
+packet 1 0 6 ack 4
+turn 1
+step 8 0.3
+final
+process 0.3 at 1 here ready go 0
+registers 0.3 0 0 0 0 0 0 0 0 0 0 0 0 0 0 0 0 0
+memory 0.3 0 14000007
+server 0.1 0
+server 0.2 0
+child 1 0.3 at 0
+end 16
+";
+
 /// A boot file, a schedule, and all that is written.
-const RUNS: [(&str, &str, &str); 4] = [
+const RUNS: [(&str, &str, &str); 5] = [
+    (
+        WHOLE,
+        "migrate 0.3 1\nturn 0\ndeliver 0 1 0\nturn 1\ndeliver 1 0 1\nturn 0\ndeliver 0 1 2\nturn 1\ndeliver 1 0 3\nturn 0\ndeliver 0 1 4\nturn 1\ndeliver 1 0 5\nturn 0\ndeliver 0 1 6\nturn 1\n",
+        WHOLE_RUN,
+    ),
     (
         FOLLOWED,
         "migrate 0.3 1\nturn 0\nturn 1\ndeliver 1 0 0\nturn 0\ndeliver 0 1 0\nturn 1\ndeliver 1 0 2\nturn 0\ndeliver 0 1 3\nturn 1\ndeliver 1 0 4\nturn 0\ndeliver 0 1 5\nturn 1\ndeliver 1 0 6\nturn 0\ndeliver 0 1 7\nturn 1\ndeliver 0 1 8\nturn 1\nturn 1\nturn 1\ndeliver 1 0 9\nturn 0\ndeliver 0 1 10\ndeliver 0 1 11\nturn 1\nturn 1\n",
