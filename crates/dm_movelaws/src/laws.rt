@@ -2,6 +2,7 @@
 ghost use Rattle.dm_rule.specs.Trails.{TrailsAlways};
 ghost use Rattle.dm_movelaws.specs.AtRest.{AtRestAlways, DropsAlways};
 ghost use Rattle.dm_movelaws.specs.Counts.{CountsKept, CountsStay};
+ghost use Rattle.dm_movelaws.specs.Ends.{EndsAlways};
 ghost use Rattle.dm_movelaws.specs.Promise.{PromisesAlways};
 ghost use Rattle.dm_movelaws.specs.Stages.{StepsInOrder};
 ghost use Rattle.dm_movelaws.specs.Updates.{UpdatesAlways};
@@ -37,6 +38,12 @@ pub fn drops_always()
 /// request to move has come to its end.
 pub fn at_rest_always()
     ensures { AtRestAlways }
+{}
+
+/// Wherever the rule leads from a boot file, each directive to move a process has at most one end, and exactly one where nothing is
+/// on its way between machines: the manager has no such child, it is a server, it was there already, had ended, moved, or stays.
+pub fn ends_always()
+    ensures { EndsAlways }
 {}
 
 /// From any point on, as long as no step of the kernel without machines gives an address anew that a process or a server has,
