@@ -9,7 +9,6 @@ use Rattle.dm_link.specs.declared.Pid.{Pid}
 use Rattle.dm_message.specs.declared.MsgId.{MsgId}
 use Rattle.dm_message.specs.declared.kind.MessageKind.{MessageKind}
 use Rattle.dm_onekernel.specs.declared.boot.Boot.{Boot}
-use Rattle.dm_onekernel.specs.Boot.{IsValid}
 use Rattle.dm_onekernel.specs.Options.{bind}
 use Rattle.dm_schedule.specs.declared.Step.{Step}
 use Rattle.dm_laws.proofs.Steps.{bind-is}
@@ -20,12 +19,11 @@ use Rattle.dm_rule.specs.Point.{Point, first_point, after, after_line}
 use Rattle.dm_rule.specs.Trails.{Trails, Trodden, first_trodden, along, trails_after}
 use Rattle.dm_rule.specs.View.{View, Known, Unknown, Here, Frozen, Incoming, Forward, Ended}
 use Rattle.dm_rule.proofs.Lines.{parts}
-use Rattle.dm_rule.proofs.TrailsAlong.{Carries, along_treads}
+use Rattle.dm_rule.proofs.TrailsAlong.{along_treads}
 use Rattle.dm_rule.proofs.TrailsFound.{treads_start}
 use Rattle.dm_rule.proofs.TrailsTreads.{Treads}
-use Rattle.dm_rulelaws.proofs.GoesRuns.{Both}
 use Rattle.dm_movelaws.specs.AtRest.{is_moving}
-use Rattle.dm_movelaws.proofs.PromiseTrail.{OnTrail, TrailKnown}
+use Rattle.dm_movelaws.proofs.PromiseTrail.{TrailKnown}
 use Rattle.dm_movelaws.proofs.StagesSpares.{restart_late}
 use Rattle.dm_movelaws.proofs.TrailAlways.{Holds, carries, group_after}
 use Rattle.dm_movelaws.proofs.TrailPlaced.{is_held, Placed}
@@ -131,9 +129,11 @@ pub trail_known : TrailKnown
 trail_known b es pt valid leads =
     let first : Trod b (first_point b) = record { trails = (first_trodden b).trails; holds = carries.start b valid; treads = treads_start b valid } in
     let h = trod_on b es (first_point b) pt leads first in
-    let phases = h.holds.both.run.based.phased.phases in
-    (h.trails, record {
-      addresses = h.treads.links;
-      about = h.treads.own.about;
-      long = λ p still. long_in pt.view h.trails p (phases.of p) (phases.each p) (h.holds.places p) still;
-    })
+    let phases = h.holds.both.run.based.phased.phases in (
+      h.trails,
+      record {
+        addresses = h.treads.links;
+        about = h.treads.own.about;
+        long = λ p still. long_in pt.view h.trails p (phases.of p) (phases.each p) (h.holds.places p) still;
+      },
+    )

@@ -12,7 +12,7 @@ use Rattle.dm_schedule.specs.declared.Step.{Step}
 use Rattle.dm_rule.specs.declared.line.Line.{Line}
 use Rattle.dm_rule.specs.declared.line.Line.TheVariants as line
 use Rattle.dm_rule.specs.Addresses.{Holder, Slot, leads_to}
-use Rattle.dm_rule.specs.Laws.{Leads, IsStep}
+use Rattle.dm_rule.specs.Laws.{Leads}
 use Rattle.dm_rule.specs.Parts.{Spelled}
 use Rattle.dm_rule.specs.Point.{Point, label_of, first_point, after_line}
 use Rattle.dm_rule.specs.Quiet.{IsQuiet}
