@@ -57,3 +57,4 @@ pub mod EndsGroups
 pub mod EndsSources
 pub mod EndsQuiet
 pub mod EndsAlways
+pub mod Worked
