@@ -10,22 +10,17 @@ use Rattle.dm_link.specs.Names.{Place}
 use Rattle.dm_message.specs.declared.MsgId.{MsgId}
 use Rattle.dm_message.specs.declared.kind.MessageKind.{MessageKind}
 use Rattle.dm_message.specs.declared.kind.MessageKind.TheVariants as kind
-use Rattle.dm_onekernel.specs.declared.boot.Boot.{Boot}
 use Rattle.dm_onekernel.specs.Kernel.{OneKernel}
-use Rattle.dm_onekernel.specs.Options.{bind}
 use Rattle.dm_laws.proofs.Steps.{bind-is}
-use Rattle.dm_schedule.specs.declared.Step.{Step}
 use Rattle.dm_rule.specs.declared.line.Line.{Line}
 use Rattle.dm_rule.specs.declared.line.Line.TheVariants as line
 use Rattle.dm_rule.specs.Addresses.{Addresses, Holder, Slot, Owner, Receiver, Sender, Enclosed, Child, Name, Answer, Gets, gets, holder_eq, unmoved, given, gives, belongs_to, leads_to, is_pid, is_behind, tells_back, is_told_back, forwards, all_follow, child_number, place_of_child, own_gives, first_gives, place_told, updated, updated_to, addresses_after}
-use Rattle.dm_rule.specs.Parts.{Part, Spelled, lines_of, behind, spelled}
 use Rattle.dm_rule.specs.Point.{Point, label_of, kernel_after, moved, after_line, after}
-use Rattle.dm_rule.specs.Rule as rule
-use Rattle.dm_rule.specs.Rule.{group_of}
 use Rattle.dm_rule.specs.View.{View, Told, About}
 use Rattle.dm_rule.specs.View as view
 use Rattle.dm_movelaws.specs.Counts.{is_owned, gives_to, is_filled, in_next, refilled, CountsStay, CountsKept}
 use Rattle.dm_movelaws.specs.Updates.{Updated}
+use Rattle.dm_movelaws.proofs.After.{group_after}
 use Rattle.dm_movelaws.proofs.UpdatesAlways.{updates_always}
 
 abbrev count_of : Addresses → Holder → ℕ
@@ -184,29 +179,6 @@ by_lines (l ∷ ls) pt end h mine is e =
     let one : count_of pt.addresses h ≤ count_of next.addresses h = subst (λ (x : Point). count_of pt.addresses h ≤ count_of x.addresses h) f (by_line pt l h mine two.0) in
     let others = by_lines ls next end h mine rest (in_some (after_line pt l) (λ next. refilled h next ls) next first two.1) in
     omega (arith, one, others)
-
-after-append : (xs ys : List Line) (pt q r : Point) → after pt xs ≡ Some q → after q ys ≡ Some r → after pt (xs ++ ys) ≡ Some r
-after-append [] ys pt q r e f = let g : pt ≡ q = cc in ap (λ (x : Point). after x ys) g ∙ f
-after-append (x ∷ xs) ys pt q r e f =
-    let (next, first, rest) = bind-is (after_line pt x) (λ (z : Point). after z xs) q e in
-    ap (λ (o : Option Point). bind o (λ (z : Point). after z (xs ++ ys))) first ∙ after-append xs ys next q r rest f
-
-spelled_after : (ps : List Part) (pt : Point) (w : Spelled) → spelled pt ps ≡ Some w → after pt w.lines ≡ Some w.point
-spelled_after [] pt w is = let f : record { lines = []; point = pt } ≡ w = cc in subst (λ (x : Spelled). after pt x.lines ≡ Some x.point) f refl
-spelled_after (p ∷ ps) pt w is =
-    let (ls, lines, rest) = bind-is (lines_of pt p) (λ (xs : List Line). bind (after pt xs) (λ (q : Point). bind (spelled q ps) (λ (z : Spelled). Some (behind xs z)))) w is in
-    let (next, leads, last) = bind-is (after pt ls) (λ (q : Point). bind (spelled q ps) (λ (z : Spelled). Some (behind ls z))) w rest in
-    let (z, more, end) = bind-is (spelled next ps) (λ (y : Spelled). Some (behind ls y)) w last in
-    let f : behind ls z ≡ w = cc in
-    subst (λ (x : Spelled). after pt x.lines ≡ Some x.point) f (after-append ls z.lines pt next z.point leads (spelled_after ps next z more))
-
-pub group_after : (b : Boot) (pt : Point) (d : Step) (w : Spelled) → group_of b pt d ≡ Some w → after pt w.lines ≡ Some w.point
-group_after b pt d w e =
-    let (parts, is, more) = bind-is (rule.outcome b pt d) (λ parts. bind (after_line pt (line.Head d)) (λ begun. bind (spelled begun parts) (λ w. Some (rule.headed (line.Head d) w)))) w e in
-    let (start, head, last) = bind-is (after_line pt (line.Head d)) (λ begun. bind (spelled begun parts) (λ w. Some (rule.headed (line.Head d) w))) w more in
-    let (rest, told, end) = bind-is (spelled start parts) (λ w. Some (rule.headed (line.Head d) w)) w last in
-    let g : rule.headed (line.Head d) rest ≡ w = cc in
-    subst (λ (x : Spelled). after pt x.lines ≡ Some x.point) g (ap (λ (o : Option Point). bind o (λ (z : Point). after z rest.lines)) head ∙ spelled_after parts start rest told)
 
 pub counts_stay : CountsStay
 counts_stay b [] pt end h mine leads = same_count pt.addresses end.addresses h (sym (ap (λ (x : Point). x.addresses h) leads))

@@ -1,3 +1,4 @@
+pub mod After
 pub mod TrailPlaced
 pub mod TrailWalks
 pub mod TrailLoose

@@ -32,7 +32,8 @@ use Rattle.dm_movelaws.proofs.TrailKnown.{trail_known}
 use Rattle.dm_movelaws.proofs.PromiseKept.{Grounds, lines_before, lines_told}
 use Rattle.dm_movelaws.proofs.PromiseSpots.{Stands}
 use Rattle.dm_movelaws.proofs.PromiseGroups.{update_own}
-use Rattle.dm_movelaws.proofs.PromiseFinds.{group_after, lines_by, leads_append, Handles, find_handled}
+use Rattle.dm_movelaws.proofs.After.{group_after}
+use Rattle.dm_movelaws.proofs.PromiseFinds.{lines_by, leads_append, Handles, find_handled}
 
 same_place : (a b : Place) → a.at ≡ b.at → a.moves ≡ b.moves → a ≡ b
 same_place a b e f = λ i. record { at = e i; moves = f i }

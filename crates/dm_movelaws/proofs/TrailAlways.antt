@@ -1,21 +1,14 @@
 -- Wherever the rule leads, each address is on the trail of its process, and from there the forwards lead to it.
-use Rattle.std.proofs.Common.{◌≡◌, ℕ, ◌==◌, ◌&&◌, Bool, true, false, List, [], ◌∷◌, ◌++◌, refl, ap, ◌∙◌, sym, subst}
+use Rattle.std.proofs.Common.{◌≡◌, ℕ, ◌==◌, ◌&&◌, Bool, true, false, refl, ap, ◌∙◌, sym, subst}
 use Rattle.std.proofs.lemmas.Bool.{false≢true}
 use Rattle.std.specs.Prelude.{if◌then◌else◌}
-use Rattle.std.specs.declared.option.Option.{Option}
 use Rattle.std.specs.declared.option.Option.TheVariants.{Some}
 use Rattle.dm_link.specs.declared.Pid.{Pid}
 use Rattle.dm_onekernel.specs.declared.boot.Boot.{Boot}
 use Rattle.dm_onekernel.specs.Boot.{IsValid}
-use Rattle.dm_onekernel.specs.Options.{bind}
 use Rattle.dm_schedule.specs.declared.Step.{Step}
-use Rattle.dm_laws.proofs.Steps.{bind-is}
-use Rattle.dm_rule.specs.declared.line.Line.{Line}
-use Rattle.dm_rule.specs.declared.line.Line.TheVariants as line
 use Rattle.dm_rule.specs.Laws.{IsStep}
-use Rattle.dm_rule.specs.Parts.{Part, Spelled, lines_of, behind, spelled}
-use Rattle.dm_rule.specs.Point.{Point, after, after_line}
-use Rattle.dm_rule.specs.Rule as rule
+use Rattle.dm_rule.specs.Parts.{Spelled}
 use Rattle.dm_rule.specs.Rule.{group_of}
 use Rattle.dm_rule.specs.Trails.{Trodden, first_trails, along, TrailsAlways}
 use Rattle.dm_rule.specs.View.{Known, Unknown, Here, Forward, first_view}
@@ -23,35 +16,12 @@ use Rattle.dm_rule.proofs.Lines.{eq_is}
 use Rattle.dm_rule.proofs.PhasesStart.{starts, start_known}
 use Rattle.dm_rule.proofs.TrailsAlong.{Carries, trails_always_by}
 use Rattle.dm_rule.proofs.TrailsTreads.{Treads}
-use Rattle.dm_rulelaws.proofs.BasedNeeds.{begun}
 use Rattle.dm_rulelaws.proofs.GoesRuns.{Both, both_start, both_group}
 use Rattle.dm_rulelaws.proofs.RunsAlways.{run_start, run_group}
+use Rattle.dm_movelaws.proofs.After.{group_after}
 use Rattle.dm_movelaws.proofs.TrailPlaced.{is_held, Places}
 use Rattle.dm_movelaws.proofs.TrailWalks.{AllGood, good_fit, good_places, along_after}
 use Rattle.dm_movelaws.proofs.TrailTurns.{group_good}
-
--- the lines of a group lead to where it leads
-after_both : (xs ys : List Line) (pt mid : Point) → after pt xs ≡ Some mid → after pt (xs ++ ys) ≡ after mid ys
-after_both [] ys pt mid e = let f : pt ≡ mid = cc in ap (λ (q : Point). after q ys) f
-after_both (x ∷ xs) ys pt mid e =
-    let (next, first, rest) = bind-is (after_line pt x) (λ (q : Point). after q xs) mid e in
-    ap (λ (o : Option Point). bind o (λ (q : Point). after q (xs ++ ys))) first ∙ after_both xs ys next mid rest
-
-spelled_after : (ps : List Part) (pt : Point) (w : Spelled) → spelled pt ps ≡ Some w → after pt w.lines ≡ Some w.point
-spelled_after [] pt w e = let f : record { lines = []; point = pt } ≡ w = cc in subst (λ (x : Spelled). after pt x.lines ≡ Some x.point) f refl
-spelled_after (p ∷ ps) pt w e =
-    let (ls, lines, rest) = bind-is (lines_of pt p) (λ (xs : List Line). bind (after pt xs) (λ (q : Point). bind (spelled q ps) (λ (z : Spelled). Some (behind xs z)))) w e in
-    let (next, leads, last) = bind-is (after pt ls) (λ (q : Point). bind (spelled q ps) (λ (z : Spelled). Some (behind ls z))) w rest in
-    let (z, more, end) = bind-is (spelled next ps) (λ (y : Spelled). Some (behind ls y)) w last in
-    let f : behind ls z ≡ w = cc in
-    subst (λ (x : Spelled). after pt x.lines ≡ Some x.point) f (after_both ls z.lines pt next leads ∙ spelled_after ps next z more)
-
-pub group_after : (b : Boot) (pt : Point) (d : Step) (w : Spelled) → group_of b pt d ≡ Some w → after pt w.lines ≡ Some w.point
-group_after b pt d w e =
-    let (ps, is, more) = bind-is (rule.outcome b pt d) (λ ps. bind (after_line pt (line.Head d)) (λ start. bind (spelled start ps) (λ w. Some (rule.headed (line.Head d) w)))) w e in
-    let (rest, said, end) = bind-is (spelled (begun pt d) ps) (λ w. Some (rule.headed (line.Head d) w)) w more in
-    let g : rule.headed (line.Head d) rest ≡ w = cc in
-    subst (λ (x : Spelled). after pt x.lines ≡ Some x.point) g (spelled_after ps (begun pt d) rest said)
 
 -- where a run begins each process is at home
 at_start : Bool → Pid → ℕ → Known

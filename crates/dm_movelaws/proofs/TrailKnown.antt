@@ -23,9 +23,10 @@ use Rattle.dm_rule.proofs.TrailsAlong.{along_treads}
 use Rattle.dm_rule.proofs.TrailsFound.{treads_start}
 use Rattle.dm_rule.proofs.TrailsTreads.{Treads}
 use Rattle.dm_movelaws.specs.AtRest.{is_moving}
+use Rattle.dm_movelaws.proofs.After.{group_after}
 use Rattle.dm_movelaws.proofs.PromiseTrail.{TrailKnown}
 use Rattle.dm_movelaws.proofs.StagesSpares.{restart_late}
-use Rattle.dm_movelaws.proofs.TrailAlways.{Holds, carries, group_after}
+use Rattle.dm_movelaws.proofs.TrailAlways.{Holds, carries}
 use Rattle.dm_movelaws.proofs.TrailPlaced.{is_held, Placed}
 
 abbrev trodden : Point → Trails → Trodden
