@@ -21,7 +21,7 @@ use Rattle.dm_text.specs.Fits.{HidesNothing, LineFits}
 use Rattle.dm_text.specs.Text.{text, text_of_lines}
 use Rattle.dm_world.specs.declared.world.World.{World}
 use Rattle.dm_world.specs.May.{MayStep}
-use Rattle.dm_world.specs.Meets.{state_of}
+use Rattle.dm_world.specs.Meets.{IsWorld, state_of}
 use Rattle.dm_world.specs.Next.{next_step}
 use Rattle.dm_world.specs.Ends as world_ends
 use Rattle.dm_world.specs.Ends.{MayEnd}
@@ -160,9 +160,9 @@ fits_last : (gs : List (List Line)) (g : List Line) → All LineFits (joined gs)
 fits_last gs g h k = subst (All LineFits) (sym (joined_last gs g)) (All-append LineFits (joined gs) g h k)
 
 -- the lines of a group were offered
-pub came_on : (A : Type 0) (b : Boot) (ds : List Directive) (t : Todo) (n : Next) (before now after : Option (List ℕ)) (w : WorldState) (u : World) (ls : List Line) (r : Result A Stop) → IsValid b → HasCome b ds t before now w → next_step (length b.machines) w t ≡ Some n
+pub came_on : (A : Type 0) (b : Boot) (ds : List Directive) (t : Todo) (n : Next) (before now after : Option (List ℕ)) (w : WorldState) (u : World) (ls : List Line) (r : Result A Stop) → IsValid b → IsWorld u → u.boot ≡ b → HasCome b ds t before now w → next_step (length b.machines) w t ≡ Some n
     → world_step b w n.step ≡ Some (Says (record { state = state_of u; lines = ls })) → AreReadBack (gave b w n.step) → AreWhole w n.step → (All HidesNothing ls → All LineFits ls) → Offered now (text_of_lines ls) after r → Came b ds n.left before after u r
-came_on A b ds t n before now after w u ls (Ok x) valid h is happens again whole fit o =
+came_on A b ds t n before now after w u ls (Ok x) valid one same h is happens again whole fit o =
     let g = grown b ds t before now w n (record { state = state_of u; lines = ls }) valid h is happens again whole in
     record {
       groups = h.groups ++ ls ∷ [];
@@ -173,8 +173,8 @@ came_on A b ds t n before now after w u ls (Ok x) valid h is happens again whole
       fits = fits_last h.groups ls h.fits (fit g.hides);
       written = more_written before now after (text_of_lines (joined h.groups)) (text_of_lines ls) h.written o ∙ ap (λ t. appended before t) (sym (text_last h.groups ls));
     }
-came_on A b ds t n before now after w u ls (Err (NoMemory lack)) valid h is happens again whole fit o = lacks_there b ds t before now after w h o
-came_on A b ds t n before now after w u ls (Err WriteFault) valid h is happens again whole fit o =
+came_on A b ds t n before now after w u ls (Err (NoMemory lack)) valid one same h is happens again whole fit o = lacks_there b ds t before now after w h o
+came_on A b ds t n before now after w u ls (Err WriteFault) valid one same h is happens again whole fit o =
     let g = grown b ds t before now w n (record { state = state_of u; lines = ls }) valid h is happens again whole in
     record {
       groups = h.groups ++ ls ∷ [];
@@ -189,9 +189,9 @@ came_on A b ds t n before now after w u ls (Err WriteFault) valid h is happens a
       prefix = ap text_of_lines (append-nil (joined (h.groups ++ ls ∷ [])) ∙ joined_last h.groups ls) ∙ cut_text (joined h.groups) ls o.count;
       more = some_left (text_of_lines ls) o.count o.fewer;
       written = more_written before now after (text_of_lines (joined h.groups)) (take o.count (text_of_lines ls)) h.written o.taken;
-      stands = g.stands.stands;
+      stands = (one, same, g.stands.stands);
     }
-came_on A b ds t n before now after w u ls (Err (Worn from to)) valid h is happens again whole fit o = absurd o
+came_on A b ds t n before now after w u ls (Err (Worn from to)) valid one same h is happens again whole fit o = absurd o
 
 some_machines : (b : Boot) → IsValid b → 0 < length b.machines
 some_machines b valid = least (length b.machines) valid.some_machines
@@ -210,9 +210,9 @@ ends_hide b ds before now w valid h =
     end_hides (length b.machines) w (some_machines b valid) (λ m l. (k.nodes m (omega (arith, l, machines))).lawful)
 
 -- the lines at the end were offered
-pub ended_by : (A : Type 0) (b : Boot) (ds : List Directive) (before now after : Option (List ℕ)) (w : World) (ls : List Line) (r : Result A Stop) → IsValid b → HasCome b ds (all_of []) before now (state_of w) → ls ≡ world_ends.end_lines (length b.machines) (state_of w)
+pub ended_by : (A : Type 0) (b : Boot) (ds : List Directive) (before now after : Option (List ℕ)) (w : World) (ls : List Line) (r : Result A Stop) → IsValid b → IsWorld w → w.boot ≡ b → HasCome b ds (all_of []) before now (state_of w) → ls ≡ world_ends.end_lines (length b.machines) (state_of w)
     → (All HidesNothing ls → All LineFits ls) → Offered now (text_of_lines ls) after r → Ended b ds before after w r
-ended_by A b ds before now after w ls (Ok x) valid h e fit o =
+ended_by A b ds before now after w ls (Ok x) valid one same h e fit o =
     let said : ls ≡ rule_ends.end_lines h.end = e ∙ end_is_said b h.stands.steps (state_of w) h.end valid h.stands.leads h.stands.stands in
     let fits : All LineFits ls = fit (subst (All HidesNothing) (sym e) (ends_hide b ds before now (state_of w) valid h)) in
     record {
@@ -223,10 +223,10 @@ ended_by A b ds before now after w ls (Ok x) valid h e fit o =
       over = is_over b ds before now (state_of w) valid h;
       fits = All-append LineFits (joined h.groups) (rule_ends.end_lines h.end) h.fits (subst (All LineFits) said fits);
       written = more_written before now after (text_of_lines (joined h.groups)) (text_of_lines ls) h.written o ∙ ap (λ t. appended before t) (ap (λ l. text_of_lines (joined h.groups) ++ text_of_lines l) said ∙ sym (text_append (joined h.groups) (rule_ends.end_lines h.end)));
-      stands = h.stands.stands;
+      stands = (one, same, h.stands.stands);
     }
-ended_by A b ds before now after w ls (Err (NoMemory lack)) valid h e fit o = lacks_there b ds (all_of []) before now after (state_of w) h o
-ended_by A b ds before now after w ls (Err WriteFault) valid h e fit o =
+ended_by A b ds before now after w ls (Err (NoMemory lack)) valid one same h e fit o = lacks_there b ds (all_of []) before now after (state_of w) h o
+ended_by A b ds before now after w ls (Err WriteFault) valid one same h e fit o =
     let said : ls ≡ rule_ends.end_lines h.end = e ∙ end_is_said b h.stands.steps (state_of w) h.end valid h.stands.leads h.stands.stands in
     let fits : All LineFits ls = fit (subst (All HidesNothing) (sym e) (ends_hide b ds before now (state_of w) valid h)) in
     record {
@@ -242,6 +242,6 @@ ended_by A b ds before now after w ls (Err WriteFault) valid h e fit o =
       prefix = cut_text (joined h.groups) ls o.count;
       more = some_left (text_of_lines ls) o.count o.fewer;
       written = more_written before now after (text_of_lines (joined h.groups)) (take o.count (text_of_lines ls)) h.written o.taken;
-      stands = h.stands.stands;
+      stands = (one, same, h.stands.stands);
     }
-ended_by A b ds before now after w ls (Err (Worn from to)) valid h e fit o = absurd o
+ended_by A b ds before now after w ls (Err (Worn from to)) valid one same h e fit o = absurd o

@@ -13,7 +13,7 @@ use Rattle.dm_rule.specs.Worn as rule
 use Rattle.dm_text.specs.Fits.{LineFits}
 use Rattle.dm_text.specs.Text.{text_of_lines}
 use Rattle.dm_world.specs.declared.world.World.{World}
-use Rattle.dm_world.specs.Meets.{state_of}
+use Rattle.dm_world.specs.Meets.{IsWorld, state_of}
 use Rattle.dm_mirror.specs.Run.{IsGood, joined}
 use Rattle.dm_mirror.specs.Stands.{Stands}
 use Rattle.dm_outside.specs.Outside.{RoseOrFull, appended}
@@ -29,10 +29,10 @@ abbrev pub Written : Option (List ℕ) → List ℕ → Option (List ℕ) → �
 Written old bytes new faults_before faults_after =
     (new ≡ appended old bytes) ⊎ (IsCutShort old bytes new × RoseOrFull faults_before faults_after)
 
--- there is a world, and it stands for where the lines lead
+-- there is a world: it is one of this boot file, with all its machines, and it stands for where the lines lead
 abbrev pub StandsFor : Boot → Point → Option World → Type 0
 StandsFor b end None = ⊥
-StandsFor b end (Some w) = Stands b (state_of w) end
+StandsFor b end (Some w) = IsWorld w × (w.boot ≡ b) × Stands b (state_of w) end
 
 -- no directive is left
 abbrev pub IsOver : Point → Todo → Type 0

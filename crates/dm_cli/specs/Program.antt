@@ -1,10 +1,13 @@
 -- What the status of the program says: why it comes, and what was written by then.
-use Rattle.std.specs.Prelude.{◌≡◌, ℕ, ◌⊎◌, List}
+use Rattle.std.specs.Prelude.{◌≡◌, ℕ, ◌⊎◌, List, length}
+use Rattle.std.specs.List.{All}
 use Rattle.std.specs.declared.option.Option.{Option}
 use Rattle.std.specs.declared.option.Option.TheVariants.{None}
 use Rattle.dm_onekernel.specs.declared.boot.Boot.{Boot}
+use Rattle.dm_onekernel.specs.Boot.{IsValid}
 use Rattle.dm_schedule.specs.declared.Directive.{Directive}
 use Rattle.dm_world.specs.declared.world.World.{World}
+use Rattle.dm_mirror.specs.Todo.{IsDirective}
 use Rattle.dm_outside.specs.Outside.{RoseOrFull}
 use Rattle.dm_cli.specs.declared.status.Status.{Status}
 use Rattle.dm_cli.specs.declared.status.Status.TheVariants.{Done, NoMemory, WriteFault, Worn}
@@ -32,11 +35,13 @@ RunSays b ds before after world writes_before writes_after WriteFault = IsBegun 
 RunSays b ds before after world writes_before writes_after (Worn from to) = IsWorn b ds before after from to
 RunSays b ds before after world writes_before writes_after _ = ⊥
 
--- a run of the system and the directives that the files say
+-- a run of the system and the directives that the files say: the system may start, and the directives are for its machines
 pub record Runs (o : Outside) (s : Status) : Type 0 where
   pub boot : Boot
   pub directives : List Directive
   pub accepts : Accepts o.words o.files boot directives
+  pub valid : IsValid boot
+  pub within : All (IsDirective (length boot.machines)) directives
   pub says : RunSays boot directives o.before o.after o.world o.writes_before o.writes_after s
 
 -- no run, for a reason; nothing was written, and there is no world

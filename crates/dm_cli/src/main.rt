@@ -34,6 +34,8 @@ mod tests;
 #[cfg(test)]
 mod worked;
 #[cfg(test)]
+mod worked_calls;
+#[cfg(test)]
 mod worked_chains;
 #[cfg(test)]
 mod worked_migration;

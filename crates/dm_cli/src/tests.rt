@@ -14,11 +14,11 @@ blocks = 16
 [[image]]
 name = \"a\"
 blocks = 1
-text = \".byte 1 2 0 16 1 3 0 2 20 0 0 6 20 0 0 1 104 105\"
+text = \"li r2 t\\nli r3 2\\nsys 6\\nsys 1\\nt: .byte 104 105\"
 [[image]]
 name = \"b\"
 blocks = 1
-text = \".byte 1 1 0 1 1 2 0 64 1 3 0 8 20 0 0 7 1 6 0 64 14 1 6 0 20 0 0 2 20 0 0 1\"
+text = \"li r1 1\\nli r2 64\\nli r3 8\\nsys 7\\nli r6 64\\nlb r1 r6 0\\nsys 2\\nsys 1\"
 [[process]]
 name = \"a\"
 machine = 0
@@ -35,8 +35,9 @@ slots = 0
 blocks = 0
 ";
 
-const TO_SERVER: &[u8] = b"[[machine]]
-slots = 1
+/// A process for whom there is no slot.
+const NO_ROOM: &[u8] = b"[[machine]]
+slots = 0
 blocks = 1
 [[image]]
 name = \"a\"
@@ -46,7 +47,14 @@ text = \"\"
 name = \"a\"
 machine = 0
 image = \"a\"
-links = [{ to = \"switchboard\" }]
+";
+
+const TWO: &[u8] = b"[[machine]]
+slots = 0
+blocks = 0
+[[machine]]
+slots = 0
+blocks = 0
 ";
 
 /// A process with a link to itself sends four messages; its machine may count three.
@@ -277,7 +285,7 @@ const RUNS: [Case; 13] = [
 ];
 
 /// Files that are refused.
-const REFUSALS: [Case; 4] = [
+const REFUSALS: [Case; 5] = [
     (
         &WORDS,
         b"",
@@ -302,14 +310,25 @@ const REFUSALS: [Case; 4] = [
     ),
     (
         &WORDS,
-        TO_SERVER,
-        b"turn 1",
+        TWO,
+        b"turn 0\nturn 2",
         NONE,
         0,
-        "schedule refused: line 1, why 4\n",
+        "schedule refused: line 2, why 4\n",
         7,
         b"",
         4,
+    ),
+    (
+        &WORDS,
+        NO_ROOM,
+        b"",
+        NONE,
+        0,
+        "boot refused: 17 at 0\n",
+        6,
+        b"",
+        2,
     ),
     (
         &WORDS,
@@ -433,7 +452,7 @@ fn runs_and_stops(rt: HostRuntime) -> Result<(), Fail> {
 
 #[test]
 fn refuses_files(rt: HostRuntime) -> Result<(), Fail> {
-    assert_eq!(rt; runs_as_said(rt.alloc(), &REFUSALS)?, 4);
+    assert_eq!(rt; runs_as_said(rt.alloc(), &REFUSALS)?, 5);
     Ok(())
 }
 
@@ -547,27 +566,28 @@ fn executes_instructions(rt: HostRuntime) -> Result<(), Fail> {
     Ok(())
 }
 
-/// A boot file of two machines, with a process of this image text on the first that has a link to one on the second.
+/// A boot file of two machines, with a process of this image text on the first that has a link to one on the second, which
+/// receives a message.
 fn pair(alloc: Global, text: &str) -> Result<String, Fail> {
     Ok(format!(in alloc;
-        "[[machine]]\nslots = 1\nblocks = 1\n[[machine]]\nslots = 1\nblocks = 1\n[[image]]\nname = \"a\"\nblocks = 1\ntext = \"\"\"\n{text}\n\"\"\"\n[[image]]\nname = \"b\"\nblocks = 1\ntext = \"\"\n[[process]]\nname = \"a\"\nmachine = 0\nimage = \"a\"\nlinks = [{{ to = \"b\" }}]\n[[process]]\nname = \"b\"\nmachine = 1\nimage = \"b\"\n"
+        "[[machine]]\nslots = 1\nblocks = 1\n[[machine]]\nslots = 1\nblocks = 1\n[[image]]\nname = \"a\"\nblocks = 1\ntext = \"\"\"\n{text}\n\"\"\"\n[[image]]\nname = \"b\"\nblocks = 1\ntext = \"li r1 1\\nsys 7\\nsys 1\"\n[[process]]\nname = \"a\"\nmachine = 0\nimage = \"a\"\nlinks = [{{ to = \"b\" }}]\n[[process]]\nname = \"b\"\nmachine = 1\nimage = \"b\"\n"
     )?)
 }
 
 const NINE: &str = "sys 6\nsys 6\nsys 6\nsys 6\nsys 6\nsys 6\nsys 6\nsys 6\nsys 6";
 
 /// What the sender does on a pair of machines, a schedule, and what is said there, up to the lines at the end: a packet that
-/// comes three times, two that come in the other order, a full window, and a packet that isn't there.
+/// comes three times and is received once, two that come in the other order, a full window, and a packet that isn't there.
 const NETWORKS: [(&str, &str, &str); 4] = [
     (
         "sys 6",
-        "turn 0\ndeliver 0 1 0\ndeliver 0 1 0\ndeliver 0 1 0\n",
-        "turn 0\nran 0.3 0\nsend 0.3 0.3#0\nput 0 1 0.3#0 user 1.3\npacket 0 1 0 data 0\ndeliver 0 1 0\ntaken 0 1 0\npacket 1 0 0 ack 1\ndeliver 0 1 0\nold 0 1 0\npacket 1 0 1 ack 1\ndeliver 0 1 0\nold 0 1 0\npacket 1 0 2 ack 1\nfinal\n",
+        "turn 0\ndeliver 0 1 0\ndeliver 0 1 0\ndeliver 0 1 0\ndeliver 1 0 0\nturn 1\nturn 1\nturn 1\nturn 1\n",
+        "turn 0\nran 0.3 0\nsend 0.3 0.3#0\nput 0 1 0.3#0 user 1.3\npacket 0 1 0 data 0\ndeliver 0 1 0\ntaken 0 1 0\npacket 1 0 0 ack 1\ndeliver 0 1 0\nold 0 1 0\npacket 1 0 1 ack 1\ndeliver 0 1 0\nold 0 1 0\npacket 1 0 2 ack 1\ndeliver 1 0 0\nacked 1 0 1\nturn 1\nqueued 0.3#0\nturn 1\nran 1.3 1\nwait 1.3\nturn 1\nreceive 1.3 0.3#0\nturn 1\nran 1.3 0\nend 1.3 0\nfinal\n",
     ),
     (
         "sys 6\nsys 6",
-        "turn 0\nturn 0\ndeliver 0 1 1\ndeliver 0 1 0\n",
-        "turn 0\nran 0.3 0\nsend 0.3 0.3#0\nput 0 1 0.3#0 user 1.3\npacket 0 1 0 data 0\nturn 0\nran 0.3 0\nsend 0.3 0.3#1\nput 0 1 0.3#1 user 1.3\npacket 0 1 1 data 1\ndeliver 0 1 1\nearly 0 1 1\npacket 1 0 0 ack 0\ndeliver 0 1 0\ntaken 0 1 0\ntaken 0 1 1\npacket 1 0 1 ack 2\nfinal\n",
+        "turn 0\nturn 0\ndeliver 0 1 1\ndeliver 0 1 0\ndeliver 0 1 1\n",
+        "turn 0\nran 0.3 0\nsend 0.3 0.3#0\nput 0 1 0.3#0 user 1.3\npacket 0 1 0 data 0\nturn 0\nran 0.3 0\nsend 0.3 0.3#1\nput 0 1 0.3#1 user 1.3\npacket 0 1 1 data 1\ndeliver 0 1 1\nearly 0 1 1\npacket 1 0 0 ack 0\ndeliver 0 1 0\ntaken 0 1 0\ntaken 0 1 1\npacket 1 0 1 ack 2\ndeliver 0 1 1\nold 0 1 1\npacket 1 0 2 ack 2\nfinal\n",
     ),
     (
         NINE,

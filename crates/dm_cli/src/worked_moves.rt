@@ -303,9 +303,12 @@ pub(crate) fn tells(alloc: Global, boot: &str, schedule: &str, said: &str) -> Re
         let Some((_, rest)) = text.split_at_checked(done) else {
             return Ok(false);
         };
-        let Some((_, after)) = rest.split_once(part) else {
+        let Some((before, after)) = rest.split_once(part) else {
             return Ok(false);
         };
+        if !before.is_empty() && !before.ends_with('\n') {
+            return Ok(false);
+        }
         done = text.len().saturating_sub(after.len());
     }
     Ok(ended.status == Status::Done)

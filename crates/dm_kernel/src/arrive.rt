@@ -27,7 +27,6 @@ use dm_onekernel::Boot;
 use dm_process::Process;
 use dm_room::Lacks;
 use dm_rule::line::{Line, Stage};
-use std::alloc::Global;
 
 impl Kernel {
     /// Answers a process that asks to come.
@@ -160,7 +159,7 @@ impl Kernel {
     {
         self.ring.push(pid)?;
         self.records.put(pid, Record::Here(process));
-        put_before(self.alloc, held, &mut self.inbox)
+        put_before(held, &mut self.inbox)
     }
 }
 
@@ -187,40 +186,12 @@ fn piece_line(id: MsgId, pid: Pid, wanted: Wanted) -> Line
     }
 }
 
-/// Puts messages before those of a queue.
-fn put_before(
-    alloc: Global,
-    messages: Vec<Message>,
-    queue: &mut Queue<Message>,
-) -> Result<(), NoMemory>
+/// Puts messages before those of a queue, the last of them first.
+fn put_before(mut messages: Vec<Message>, queue: &mut Queue<Message>) -> Result<(), NoMemory>
     ensures { OnOk result (queue.new ≡ messages.items ++ queue.old) }
 {
-    if messages.is_empty() {
-        return Ok(());
-    }
-    let mut all = Queue::new(alloc);
-    push_all(messages, &mut all)?;
-    move_all(queue, &mut all)?;
-    *queue = all;
-    Ok(())
-}
-
-/// Adds messages at the back of a queue.
-fn push_all(messages: Vec<Message>, queue: &mut Queue<Message>) -> Result<(), NoMemory>
-    ensures { OnOk result (queue.new ≡ queue.old ++ messages.items) }
-{
-    for message in messages {
-        queue.push(message)?;
-    }
-    Ok(())
-}
-
-/// Moves the messages of a queue to the back of another.
-fn move_all(from: &mut Queue<Message>, to: &mut Queue<Message>) -> Result<(), NoMemory>
-    ensures { OnOk result (to.new ≡ to.old ++ from.old) }
-{
-    while let Some(message) = from.pop() {
-        to.push(message)?;
+    while let Some(message) = messages.pop() {
+        queue.push_front(message)?;
     }
     Ok(())
 }

@@ -58,6 +58,17 @@ impl<T> Queue<T> {
         }
     }
 
+    /// Puts a value before the front, or leaves the queue as it was.
+    pub fn push_front(&mut self, item: T) -> Result<(), NoMemory>
+    where
+        T: Drop,
+        ensures ok { OnOk result (self.new ≡ item ∷ self.old) }
+        ensures err { OnErr result (self.new ≡ self.old) }
+    {
+        self.items.push_front(item)?;
+        Ok(())
+    }
+
     /// Takes the value at the front.
     pub fn pop(&mut self) -> Option<T>
         ensures { MatchOption result ((self.old ≡ []) × (self.new ≡ [])) (λ x. self.old ≡ x ∷ self.new) }

@@ -33,6 +33,7 @@ fn a_ring_of_five_turns(rt: HostRuntime) -> Result<(), Fail> {
         assert_eq!(rt; front, Some(n % 5));
         ring.push(n % 5)?;
     }
-    assert_eq!(rt; ring.len(), 5);
+    ring.push_front(7)?;
+    assert_eq!(rt; (ring.len(), ring.pop(), ring.pop()), (6, Some(7), Some(0)));
     Ok(())
 }

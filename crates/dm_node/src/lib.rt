@@ -19,6 +19,3 @@ pub use law::events_send_lawfully;
 pub use node::Node;
 pub use out::Out;
 pub use stop::Stop;
-
-#[cfg(test)]
-mod tests;

@@ -19,7 +19,7 @@ returns-in-Ok-clause-came g c = λ ds t n before h is e.
     ap (world_step c.args.world.now.boot (state_of c.args.world.now)) e
     ∙ (happens (state_of c.step.new.self) c.in-Ok.lines.items (world_step c.args.world.now.boot (state_of c.args.world.now) c.args.step.now) c.in-Ok.ensures.answers
     ∙ ap (λ (ls : List Line). Some (Says (record { state = state_of c.step.new.self; lines = ls }))) (sym c.as_slice.ensures.value)) in
-    came_on (Unit {0}) c.args.world.now.boot ds t n before (g.K.Sink.told c.args.out.now) (g.K.Sink.told c.offer.new.out) (state_of c.args.world.now) c.step.new.self c.as_slice.result.now c.offer.result c.requires.world.valid h is said
+    came_on (Unit {0}) c.args.world.now.boot ds t n before (g.K.Sink.told c.args.out.now) (g.K.Sink.told c.offer.new.out) (state_of c.args.world.now) c.step.new.self c.as_slice.result.now c.offer.result c.requires.world.valid c.in-Ok.ensures.world c.step.ensures.boot h is said
     (subst (λ (s : Step). AreReadBack (gave c.args.world.now.boot (state_of c.args.world.now) s)) (sym e) c.in-Ok.ensures.again)
     (subst (λ (s : Step). AreWhole (state_of c.args.world.now) s) (sym e) c.in-Ok.ensures.whole) c.offer.ensures.fits c.offer.ensures.says
 

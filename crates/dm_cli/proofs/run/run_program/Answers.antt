@@ -1,10 +1,21 @@
-use Rattle.std.proofs.Common.{List, map, sym, subst}
+use Rattle.std.proofs.Common.{List, inl, length, map, sym, subst}
 use Rattle.dm_onekernel.specs.declared.boot.Boot.{Boot}
 use Rattle.dm_schedule.specs.declared.Directive.{Directive}
 use Rattle.dm_cli.specs.Output.{Lasts, Wears}
 use Rattle.dm_cli.proofs.Endings.{completes, wears_out}
 use Rattle.dm_cli.proofs.Outcomes.{one_reason, same_inputs}
+use Rattle.dm_cli.proofs.Schedules.{are_directives}
 use Rattle.dm_cli.proofs.run.run_program.Goals as goal
+
+pub returns-in-Ok-clause-says : goal.returns-in-Ok-clause-says
+returns-in-Ok-clause-says g c = inl (record {
+  boot = c.in-Ok.inputs.boot;
+  directives = c.in-Ok.inputs.directives.items;
+  accepts = c.in-Ok.ensures.accepts;
+  valid = c.in-Ok.ensures.valid;
+  within = are_directives (length c.in-Ok.inputs.boot.machines) c.in-Ok.inputs.directives.items c.in-Ok.ensures.each;
+  says = c.run.ensures.says;
+})
 
 pub returns-in-Ok-clause-complete : goal.returns-in-Ok-clause-complete
 returns-in-Ok-clause-complete g c = λ files b ds told a lasts reads writes.

@@ -6,7 +6,7 @@ use Rattle.dm_cli.proofs.run.say_end.Goals as goal
 
 pub returns-in-Ok-clause-ended : goal.returns-in-Ok-clause-ended
 returns-in-Ok-clause-ended g c = λ ds before h.
-    ended_by (Unit {0}) c.args.world.now.boot ds before (g.K.Sink.told c.args.out.now) (g.K.Sink.told c.offer.new.out) c.args.world.now c.as_slice.result.now c.offer.result c.requires.valid.valid h (c.as_slice.ensures.value ∙ c.in-Ok.ensures) c.offer.ensures.fits c.offer.ensures.says
+    ended_by (Unit {0}) c.args.world.now.boot ds before (g.K.Sink.told c.args.out.now) (g.K.Sink.told c.offer.new.out) c.args.world.now c.as_slice.result.now c.offer.result c.requires.valid.valid c.requires.valid refl h (c.as_slice.ensures.value ∙ c.in-Ok.ensures) c.offer.ensures.fits c.offer.ensures.says
 
 pub returns-in-Err-clause-ended : goal.returns-in-Err-clause-ended
 returns-in-Err-clause-ended g c = λ ds before h.
