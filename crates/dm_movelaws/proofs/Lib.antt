@@ -7,6 +7,8 @@ pub mod TrailForwards
 pub mod TrailHears
 pub mod TrailTurns
 pub mod TrailAlways
+pub mod TrailStanding
+pub mod ListsAlways
 pub mod StagesMarks
 pub mod StagesSpares
 pub mod StagesLines

@@ -4,3 +4,5 @@ pub mod Counts
 pub mod Stages
 pub mod Ends
 pub mod Promise
+pub mod Trail
+pub mod Lists

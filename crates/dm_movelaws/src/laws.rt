@@ -3,8 +3,10 @@ ghost use Rattle.dm_rule.specs.Trails.{TrailsAlways};
 ghost use Rattle.dm_movelaws.specs.AtRest.{AtRestAlways, DropsAlways};
 ghost use Rattle.dm_movelaws.specs.Counts.{CountsKept, CountsStay};
 ghost use Rattle.dm_movelaws.specs.Ends.{EndsAlways};
+ghost use Rattle.dm_movelaws.specs.Lists.{ListsAlways};
 ghost use Rattle.dm_movelaws.specs.Promise.{PromisesAlways};
 ghost use Rattle.dm_movelaws.specs.Stages.{StepsInOrder};
+ghost use Rattle.dm_movelaws.specs.Trail.{TrailsStand, AddressesLead};
 ghost use Rattle.dm_movelaws.specs.Updates.{UpdatesAlways};
 
 /// Wherever the rule leads from a boot file, each address of a process that some machine knows names a machine where the process was,
@@ -12,6 +14,27 @@ ghost use Rattle.dm_movelaws.specs.Updates.{UpdatesAlways};
 /// process is here, leaves, comes or has ended, in fewer steps than there are machines.
 pub fn trails_always()
     ensures { TrailsAlways }
+{}
+
+/// Wherever the rule leads from a boot file, the trails that the lines lay, of each process the machines that it has been on, agree with
+/// all that is known. Each place that a link, a message, a data move, a list of a server's, an update or a forwarding address names
+/// for a process is on its trail, a kernel's or a server's is its home, the last is where the process is, leaves, comes or has ended;
+/// and from each the forwarding addresses lead on, each with a higher count, to one of these, in fewer steps than there are machines.
+pub fn trails_stand()
+    ensures { TrailsStand }
+{}
+
+/// Wherever the rule leads from a boot file, from each place that a link, a message, a data move, a list of a server's, an update or a
+/// forwarding address names for a process, the forwarding addresses lead to the process, with rising counts, in fewer steps than
+/// there are machines. A kernel is named at home.
+pub fn addresses_lead()
+    ensures { AddressesLead }
+{}
+
+/// Wherever the rule leads from a boot file, messages are queued only where a process is or leaves, or has ended, and held back only
+/// where it leaves or comes.
+pub fn lists_always()
+    ensures { ListsAlways }
 {}
 
 /// Wherever the rule leads from a boot file, the lines of each process's migrations are steps 1 to 8 in order, or 1, 2, lacks and

@@ -1,0 +1,5 @@
+use Rattle.dm_movelaws.proofs.TrailStanding.{addresses_lead}
+use Rattle.dm_movelaws.proofs.laws.addresses_lead.Goals as goal
+
+pub returns : goal.returns
+returns c = addresses_lead

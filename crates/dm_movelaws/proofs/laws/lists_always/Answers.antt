@@ -1,0 +1,5 @@
+use Rattle.dm_movelaws.proofs.ListsAlways.{lists_always}
+use Rattle.dm_movelaws.proofs.laws.lists_always.Goals as goal
+
+pub returns : goal.returns
+returns c = lists_always
