@@ -7,6 +7,7 @@ pub mod TrailForwards
 pub mod TrailHears
 pub mod TrailTurns
 pub mod TrailAlways
+pub mod TrailReal
 pub mod TrailStanding
 pub mod ListsAlways
 pub mod StagesMarks

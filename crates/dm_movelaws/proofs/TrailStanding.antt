@@ -33,7 +33,8 @@ use Rattle.dm_rulelaws.proofs.FoundReal.{made_free, server_fixed}
 use Rattle.dm_movelaws.specs.Trail.{is_made, has_it, ends_walk, IsNamed, ByHolder, ByOwn, ByRequest, ByUpdate, ByForward, IsLast, TrailStands, TrailsStand, IsLed, AddressesLead}
 use Rattle.dm_movelaws.proofs.After.{group_after}
 use Rattle.dm_movelaws.proofs.TrailAlways.{Holds, carries}
-use Rattle.dm_movelaws.proofs.TrailPlaced.{is_held, Placed}
+use Rattle.dm_movelaws.proofs.TrailPlaced.{is_held}
+use Rattle.dm_movelaws.proofs.TrailReal.{named_made}
 
 abbrev trodden : Point → Trails → Trodden
 trodden pt t = record { point = pt; trails = t }
@@ -114,10 +115,6 @@ held_it (Frozen to) e = e
 held_it (Incoming from) e = e
 held_it (Forward at moves) e = e
 held_it Ended e = e
-
-or_false : (c d : Bool) → (c || d) ≡ false → (c ≡ false) × (d ≡ false)
-or_false false d e = (refl, e)
-or_false true d e = absurd (false≢true (sym e))
 
 or_made : (s : OneKernel) (p : Pid) (c : Bool) → is_server p ≡ c → (c || is_some (s.processes p)) ≡ true → (is_server p ≡ true) ⊎ ((is_server p ≡ false) × (is_some (s.processes p) ≡ true))
 or_made s p true is e = inl is
@@ -202,18 +199,21 @@ stand_at b pt t h on = record {
 pub trails_stand : TrailsStand
 trails_stand b es ls pt valid way = let k = laid_first b es ls pt valid way in (k.trails, k.lays, stand_at b pt k.trails k.holds k.treads)
 
--- what stands on no trail but its home is named there
-home_only : (pt : Point) (t : Trails) (q : Pid) (place : Place) → TrailStands pt t → IsNamed pt q place → is_made pt.kernel q ≡ false → place ≡ unmoved q.home
-home_only pt t q place s named off =
-    let none = none_is (pt.kernel.processes q) (or_false (is_server q) (is_some (pt.kernel.processes q)) off).1 in
-    let k = only_place q.home place.moves place.at (sym (ap (λ (xs : List ℕ). slice_get xs place.moves) (s.unmade q none)) ∙ s.named q place named) in
+-- who has only been at home is named there
+home_only : (pt : Point) (t : Trails) (q : Pid) (place : Place) → TrailStands pt t → IsNamed pt q place → is_fixed q ≡ true → place ≡ unmoved q.home
+home_only pt t q place s named fixed =
+    let k = only_place q.home place.moves place.at (sym (ap (λ (xs : List ℕ). slice_get xs place.moves) (s.fixed q fixed)) ∙ s.named q place named) in
     place_is place q.home k.0 k.1
 
-led_by : (pt : Point) (t : Trails) (q : Pid) (place : Place) → TrailStands pt t → IsNamed pt q place → IsLed pt q place
-led_by pt t q place s named = record { led = λ n made machines. s.reached q place n made (s.named q place named) machines; home = λ off. home_only pt t q place s named off }
+led_by : (pt : Point) (t : Trails) (q : Pid) (place : Place) → TrailStands pt t → IsNamed pt q place → ((q.num == 0) ≡ false → is_made pt.kernel q ≡ true) → IsLed pt q place
+led_by pt t q place s named made = record {
+  led = λ n other machines. s.reached q place n (made other) (s.named q place named) machines;
+  home = λ fixed. home_only pt t q place s named fixed;
+  made = made;
+}
 
 pub addresses_lead : AddressesLead
 addresses_lead b es pt q place valid way named =
     let (ls, lines) = lines_there b es (first_point b) pt way in
     let k = laid_first b es ls pt valid lines in
-    led_by pt k.trails q place (stand_at b pt k.trails k.holds k.treads) named
+    led_by pt k.trails q place (stand_at b pt k.trails k.holds k.treads) named (λ other. named_made b es pt q place valid way other named)

@@ -1,6 +1,6 @@
 -- Trails as the printed lines lay them: each place that is named for a process is on its trail, the trail ends where the process is, and
 -- from each place of it the forwarding addresses lead there.
-use Rattle.std.specs.Prelude.{◌≡◌, ℕ, suc, ◌+◌, ◌<◌, Bool, true, false, ◌||◌, is_some, List, [], ◌∷◌, length, slice_get}
+use Rattle.std.specs.Prelude.{◌≡◌, ℕ, suc, ◌+◌, ◌<◌, ◌==◌, Bool, true, false, ◌||◌, is_some, List, [], ◌∷◌, length, slice_get}
 use Rattle.std.specs.declared.option.Option.TheVariants.{None, Some}
 use Rattle.dm_link.specs.declared.Pid.{Pid}
 use Rattle.dm_link.specs.Names.{Place}
@@ -89,12 +89,14 @@ abbrev pub TrailsStand : Type 0
 TrailsStand =
     (b : Boot) (es : List Step) (ls : List Line) (pt : Point) → IsValid b → LeadsBy b (first_point b) es ls pt → (t : Trails) × (along (first_trodden b) ls ≡ Some (record { point = pt; trails = t })) × TrailStands pt t
 
--- from a place the forwarding addresses lead to a process
+-- from a place that is named for it a process is found
 pub record IsLed (pt : Point) (q : Pid) (place : Place) : Type 0 where
-  -- to a server or a process that was made, in fewer steps than there are machines
-  pub led : (n : ℕ) → is_made pt.kernel q ≡ true → pt.kernel.machines ≡ suc n → leads pt.view q n place.moves place.at ≡ true
-  -- all else is named at home
-  pub home : is_made pt.kernel q ≡ false → place ≡ unmoved q.home
+  -- the forwarding addresses lead to it, with rising counts, in fewer steps than there are machines
+  pub led : (n : ℕ) → (q.num == 0) ≡ false → pt.kernel.machines ≡ suc n → leads pt.view q n place.moves place.at ≡ true
+  -- a kernel is named at home, and so is a server
+  pub home : is_fixed q ≡ true → place ≡ unmoved q.home
+  -- and whoever is no kernel is a server, or was made
+  pub made : (q.num == 0) ≡ false → is_made pt.kernel q ≡ true
 
 -- wherever the rule leads, from each place that a link, a message, a data move, a list of a server's, an update or a forwarding
 -- address names for a process, the forwarding addresses lead to the process, with rising counts, in fewer steps than there are machines
