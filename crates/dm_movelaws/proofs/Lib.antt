@@ -9,7 +9,9 @@ pub mod TrailTurns
 pub mod TrailAlways
 pub mod TrailReal
 pub mod TrailStanding
-pub mod ListsAlways
+pub mod ListsParts
+pub mod ListsHears
+pub mod ListsTurns
 pub mod StagesMarks
 pub mod StagesSpares
 pub mod StagesLines
@@ -31,6 +33,7 @@ pub mod AtRestBuried
 pub mod AtRestOnly
 pub mod AtRestQueues
 pub mod AtRestAlways
+pub mod ListsAlways
 pub mod CountsStay
 pub mod PromiseTrail
 pub mod PromiseSlots

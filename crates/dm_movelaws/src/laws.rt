@@ -31,8 +31,8 @@ pub fn addresses_lead()
     ensures { AddressesLead }
 {}
 
-/// Wherever the rule leads from a boot file, messages are queued only where a process is or leaves, or has ended, and held back only
-/// where it leaves or comes.
+/// Wherever the rule leads from a boot file, messages are queued only where a process is or leaves, and held back only where it leaves
+/// or comes: none waits for a process where it isn't, has ended or comes, nor for a server.
 pub fn lists_always()
     ensures { ListsAlways }
 {}
