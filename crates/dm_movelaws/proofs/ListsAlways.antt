@@ -1,5 +1,5 @@
 -- Messages wait only where a machine has a list for them.
-use Rattle.std.proofs.Common.{◌≡◌, ℕ, ◌+◌, ◌≤◌, Bool, true, false, is_some, List, [], ◌∷◌, refl, ap, ◌∙◌, sym, subst, arith}
+use Rattle.std.proofs.Common.{◌≡◌, ℕ, ◌+◌, ◌≤◌, Bool, true, false, is_some, List, [], ◌∷◌, refl, ap, ◌∙◌, subst, arith}
 use Rattle.std.proofs.lemmas.Bool.{false≢true}
 use Rattle.std.specs.Prelude.{if◌then◌else◌, slice_get}
 use Rattle.std.specs.declared.option.Option.{Option}
@@ -21,7 +21,7 @@ use Rattle.dm_rule.specs.Parts.{Part, Says, Spelled, spelled}
 use Rattle.dm_rule.specs.Point.{Point, first_point, moved, after_line}
 use Rattle.dm_rule.specs.Rule as rule
 use Rattle.dm_rule.specs.Rule.{group_of}
-use Rattle.dm_rule.specs.Spots.{Inbox, times, standing}
+use Rattle.dm_rule.specs.Spots.{Inbox, times}
 use Rattle.dm_rule.specs.View.{View, Told}
 use Rattle.dm_rule.proofs.Groups.{arrives_net, resends_net}
 use Rattle.dm_rulelaws.specs.Fits.{is_server}

@@ -29,7 +29,7 @@ use Rattle.dm_rule.specs.declared.line.Line.TheVariants as line
 use Rattle.dm_rule.specs.View.{Known, Unknown, Here, Frozen, Incoming, Forward, Ended}
 use Rattle.dm_rule.specs.Point.{Point}
 use Rattle.dm_rule.specs.Parts.{Part, Says, Routes}
-use Rattle.dm_rule.specs.Rule.{Ran, Room, says, drops, called, stops, executes, ran, completes, receives, first_awaited, first_runnable, serves_status, goes_round, has_room, free_room, creates, kernel_handles, routes, board_took, manager_took, lands, here_handles, ended_handles, process_handles, comes_to, turns, numbers_from, repeats, resends}
+use Rattle.dm_rule.specs.Rule.{Ran, Room, says, drops, called, stops, executes, ran, completes, receives, first_awaited, first_runnable, serves_status, goes_round, has_room, free_room, creates, kernel_handles, routes, board_took, manager_took, lands, here_handles, ended_handles, process_handles, comes_to, turns}
 use Rattle.dm_rule.specs.Migrating.{forwards_on}
 use Rattle.dm_laws.proofs.Steps.{bind-is}
 use Rattle.dm_rulelaws.specs.Fits.{is_server}

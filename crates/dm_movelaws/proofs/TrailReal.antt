@@ -1,5 +1,5 @@
 -- Whom a place is named for is a kernel, a server or a process that was made.
-use Rattle.std.proofs.Common.{◌≡◌, ◌⊎◌, ℕ, ◌+◌, ◌==◌, ◌&&◌, ◌||◌, Bool, true, false, not, filter, is_some, List, [], ◌∷◌, refl, ap, ◌∙◌, sym, subst, inl, inr}
+use Rattle.std.proofs.Common.{◌≡◌, ℕ, ◌+◌, ◌==◌, ◌&&◌, ◌||◌, Bool, true, false, not, filter, is_some, List, [], ◌∷◌, refl, ap, ◌∙◌, sym, subst, inl, inr}
 use Rattle.std.proofs.lemmas.Bool.{cases_Bool, false≢true}
 use Rattle.std.specs.Prelude.{if◌then◌else◌}
 use Rattle.std.specs.declared.option.Option.{Option}
@@ -8,12 +8,11 @@ use Rattle.dm_link.specs.declared.Pid.{Pid}
 use Rattle.dm_link.specs.Names.{Place}
 use Rattle.dm_message.specs.declared.MsgId.{MsgId}
 use Rattle.dm_message.specs.declared.kind.MessageKind.{MessageKind}
-use Rattle.dm_message.specs.declared.kind.MessageKind.TheVariants as kind
 use Rattle.dm_message.specs.Ids.{id_eq}
 use Rattle.dm_onekernel.specs.declared.boot.Boot.{Boot}
 use Rattle.dm_onekernel.specs.declared.label.Label.{Label}
 use Rattle.dm_onekernel.specs.declared.label.Label.TheVariants as label
-use Rattle.dm_onekernel.specs.Boot.{IsValid, manager}
+use Rattle.dm_onekernel.specs.Boot.{IsValid}
 use Rattle.dm_onekernel.specs.Kernel.{Life, OneKernel}
 use Rattle.dm_onekernel.specs.Step as kernel
 use Rattle.dm_schedule.specs.declared.Step.{Step}
@@ -39,7 +38,7 @@ use Rattle.dm_rule.proofs.Telling.{Sane}
 use Rattle.dm_rule.proofs.TrailsLabels.{label_topic}
 use Rattle.dm_rulelaws.specs.Fits.{is_server}
 use Rattle.dm_rulelaws.specs.Found.{is_fixed}
-use Rattle.dm_rulelaws.specs.KnownStands.{KnownStands, agrees, server_at}
+use Rattle.dm_rulelaws.specs.KnownStands.{KnownStands, agrees}
 use Rattle.dm_rulelaws.proofs.BasedGroups.{group_keeps}
 use Rattle.dm_rulelaws.proofs.BasedLoud.{Loud, keeps_by}
 use Rattle.dm_rulelaws.proofs.BasedSets.{set_all, killed_or}

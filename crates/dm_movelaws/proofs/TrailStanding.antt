@@ -1,9 +1,8 @@
 -- The trails that printed lines lay stand, and from each place that is named for a process the forwarding addresses lead to it.
-use Rattle.std.proofs.Common.{◌≡◌, ◌≢◌, ◌⊎◌, ℕ, zero, suc, ◌+◌, ◌≤◌, ◌<◌, ◌==◌, ◌||◌, Bool, true, false, is_some, List, [], ◌∷◌, ◌++◌, length, refl, ap, ◌∙◌, sym, subst, inl, inr, arith}
+use Rattle.std.proofs.Common.{◌≡◌, ◌≢◌, ◌⊎◌, ℕ, zero, suc, ◌-◌, ◌<◌, ◌==◌, ◌||◌, Bool, true, false, is_some, List, [], ◌∷◌, ◌++◌, length, refl, ap, ◌∙◌, sym, subst, inl, inr, arith}
 use Rattle.std.proofs.lemmas.Bool.{cases_Bool, false≢true}
-use Rattle.std.proofs.lemmas.Bool.Decides.{nat_tests}
 use Rattle.std.proofs.lemmas.Option.{slice_get_within}
-use Rattle.std.specs.Prelude.{if◌then◌else◌, slice_get}
+use Rattle.std.specs.Prelude.{slice_get}
 use Rattle.std.specs.declared.option.Option.{Option}
 use Rattle.std.specs.declared.option.Option.TheVariants.{None, Some}
 use Rattle.dm_link.specs.declared.Pid.{Pid}
@@ -18,7 +17,7 @@ use Rattle.dm_rule.specs.declared.line.Line.{Line}
 use Rattle.dm_rule.specs.Addresses.{Receiver, Sender, unmoved}
 use Rattle.dm_rule.specs.Laws.{Leads}
 use Rattle.dm_rule.specs.Point.{Point, first_point, after, after_line}
-use Rattle.dm_rule.specs.Trails.{Trails, Trail, IsOn, Trodden, first_trodden, along, trails_after, leads}
+use Rattle.dm_rule.specs.Trails.{Trails, Trail, IsOn, Trodden, first_trodden, along, trails_after}
 use Rattle.dm_rule.specs.View.{View, Known, Unknown, Here, Frozen, Incoming, Forward, Ended}
 use Rattle.dm_rule.proofs.TrailsAlong.{along_treads}
 use Rattle.dm_rule.proofs.TrailsFound.{treads_start}
@@ -30,7 +29,7 @@ use Rattle.dm_rulelaws.specs.Found.{is_fixed}
 use Rattle.dm_rulelaws.specs.KnownStands.{KnownStands, agrees, server_at}
 use Rattle.dm_rulelaws.specs.Order.{LeadsBy}
 use Rattle.dm_rulelaws.proofs.FoundReal.{made_free, server_fixed}
-use Rattle.dm_movelaws.specs.Trail.{is_made, has_it, ends_walk, IsNamed, ByHolder, ByOwn, ByRequest, ByUpdate, ByForward, IsLast, TrailStands, TrailsStand, IsLed, AddressesLead}
+use Rattle.dm_movelaws.specs.Trail.{is_made, has_it, ends_walk, IsNamed, ByHolder, ByOwn, ByRequest, ByUpdate, ByForward, Reaches, IsLast, TrailStands, TrailsStand, IsLed, AddressesLead}
 use Rattle.dm_movelaws.proofs.After.{group_after}
 use Rattle.dm_movelaws.proofs.TrailAlways.{Holds, carries}
 use Rattle.dm_movelaws.proofs.TrailPlaced.{is_held}
@@ -78,7 +77,7 @@ laid_first : (b : Boot) (es : List Step) (ls : List Line) (pt : Point) → IsVal
 laid_first b es ls pt valid way = laid_by b es ls (first_point b) pt (first_trodden b).trails way (carries.start b valid) (treads_start b valid)
 
 -- whatever leads somewhere leads by lines
-lines_there : (b : Boot) (es : List Step) (pt end : Point) → Leads b pt es end → (ls : List Line) × LeadsBy b pt es ls end
+pub lines_there : (b : Boot) (es : List Step) (pt end : Point) → Leads b pt es end → (ls : List Line) × LeadsBy b pt es ls end
 lines_there b [] pt end way = ([], (refl, way))
 lines_there b (e ∷ es) pt end (w, fit, is, more) = let (ls, rest) = lines_there b es w.point end more in (w.lines ++ ls, (w, ls, fit, is, refl, rest))
 
@@ -175,10 +174,15 @@ no_further v t p place m c trail is e =
     let long = is.long in
     omega (arith, rises, less, long)
 
-reached_from : (b : Boot) (pt : Point) (t : Trails) (p : Pid) (place : Place) (n : ℕ) → Holds b (trodden pt t) → Treads pt t → is_made pt.kernel p ≡ true → IsOn t p place → pt.kernel.machines ≡ suc n → leads pt.view p n place.moves place.at ≡ true
-reached_from b pt t p place n h on made is machines =
+some_machines : (n k : ℕ) → k < n → n ≡ suc (n - 1)
+some_machines n k less = omega (arith, less)
+
+reaches : (b : Boot) (pt : Point) (t : Trails) (p : Pid) (place : Place) → Holds b (trodden pt t) → Treads pt t → is_made pt.kernel p ≡ true → IsOn t p place → Reaches pt p place
+reaches b pt t p place h on made is =
+    let n = pt.kernel.machines - 1 in
     let known = at_home pt.kernel pt.view p h.both.run.based.known made in
-    let within : Within (suc n) pt.view = subst (λ (k : ℕ). Within k pt.view) machines (carries.within b (trodden pt t) h) in
+    let all : Within pt.kernel.machines pt.view = carries.within b (trodden pt t) h in
+    let within : Within (suc n) pt.view = subst (λ (k : ℕ). Within k pt.view) (some_machines pt.kernel.machines pt.view.acting all.acting) all in
     trail_leads pt.view t p n p.home place (on.trail p) known (trail_within (suc n) pt.view t p p.home within (on.trail p) known) is
 
 -- what holds of the trails so far
@@ -193,7 +197,7 @@ stand_at b pt t h on = record {
   ends = λ p place made is.
       walk_ends (pt.view.known place.at p) ((on.trail p).kept place.at p.home place.moves (at_home pt.kernel pt.view p h.both.run.based.known made) is.on) (λ m c e. no_further pt.view t p place m c (on.trail p) is e);
   within = λ p place made is. trail_within pt.kernel.machines pt.view t p p.home (carries.within b (trodden pt t) h) (on.trail p) (at_home pt.kernel pt.view p h.both.run.based.known made) place.moves place.at is;
-  reached = λ p place n made is machines. reached_from b pt t p place n h on made is machines;
+  reached = λ p place made is. reaches b pt t p place h on made is;
 }
 
 pub trails_stand : TrailsStand
@@ -207,7 +211,7 @@ home_only pt t q place s named fixed =
 
 led_by : (pt : Point) (t : Trails) (q : Pid) (place : Place) → TrailStands pt t → IsNamed pt q place → ((q.num == 0) ≡ false → is_made pt.kernel q ≡ true) → IsLed pt q place
 led_by pt t q place s named made = record {
-  led = λ n other machines. s.reached q place n (made other) (s.named q place named) machines;
+  led = λ other. s.reached q place (made other) (s.named q place named);
   home = λ fixed. home_only pt t q place s named fixed;
   made = made;
 }

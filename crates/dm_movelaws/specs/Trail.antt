@@ -1,6 +1,6 @@
 -- Trails as the printed lines lay them: each place that is named for a process is on its trail, the trail ends where the process is, and
 -- from each place of it the forwarding addresses lead there.
-use Rattle.std.specs.Prelude.{◌≡◌, ℕ, suc, ◌+◌, ◌<◌, ◌==◌, Bool, true, false, ◌||◌, is_some, List, [], ◌∷◌, length, slice_get}
+use Rattle.std.specs.Prelude.{◌≡◌, ℕ, ◌+◌, ◌-◌, ◌<◌, ◌==◌, Bool, true, false, ◌||◌, is_some, List, [], ◌∷◌, length}
 use Rattle.std.specs.declared.option.Option.TheVariants.{None, Some}
 use Rattle.dm_link.specs.declared.Pid.{Pid}
 use Rattle.dm_link.specs.Names.{Place}
@@ -57,6 +57,11 @@ pub data IsNamed (pt : Point) (q : Pid) (place : Place) : Type 0 where
   -- by a forwarding address
   ByForward : (m : ℕ) → pt.view.known m q ≡ Forward place.at place.moves → IsNamed pt q place
 
+-- from a place the forwarding addresses lead, each with a higher count and in fewer steps than there are machines, to a machine that
+-- has the process, holds it while it leaves, waits until it comes, or had it when it ended
+abbrev pub Reaches : Point → Pid → Place → Type 0
+Reaches pt p place = leads pt.view p (pt.kernel.machines - 1) place.moves place.at ≡ true
+
 -- a place is the last of the trail of a process
 pub record IsLast (t : Trails) (p : Pid) (place : Place) : Type 0 where
   pub on : IsOn t p place
@@ -80,9 +85,8 @@ pub record TrailStands (pt : Point) (t : Trails) : Type 0 where
   pub ends : (p : Pid) (place : Place) → is_made pt.kernel p ≡ true → IsLast t p place → ends_walk (pt.view.known place.at p) ≡ true
   -- each machine of a trail is one that there is
   pub within : (p : Pid) (place : Place) → is_made pt.kernel p ≡ true → IsOn t p place → place.at < pt.kernel.machines
-  -- from each place of a trail the forwarding addresses lead, with rising counts and in fewer steps than there are machines, to one
-  -- that has the process, holds it, waits for it, or had it when it ended
-  pub reached : (p : Pid) (place : Place) (n : ℕ) → is_made pt.kernel p ≡ true → IsOn t p place → pt.kernel.machines ≡ suc n → leads pt.view p n place.moves place.at ≡ true
+  -- and from each the forwarding addresses lead to the process
+  pub reached : (p : Pid) (place : Place) → is_made pt.kernel p ≡ true → IsOn t p place → Reaches pt p place
 
 -- wherever the rule leads, the trails that the lines lay stand
 abbrev pub TrailsStand : Type 0
@@ -91,8 +95,8 @@ TrailsStand =
 
 -- from a place that is named for it a process is found
 pub record IsLed (pt : Point) (q : Pid) (place : Place) : Type 0 where
-  -- the forwarding addresses lead to it, with rising counts, in fewer steps than there are machines
-  pub led : (n : ℕ) → (q.num == 0) ≡ false → pt.kernel.machines ≡ suc n → leads pt.view q n place.moves place.at ≡ true
+  -- the forwarding addresses lead to it, if it is no kernel
+  pub led : (q.num == 0) ≡ false → Reaches pt q place
   -- a kernel is named at home, and so is a server
   pub home : is_fixed q ≡ true → place ≡ unmoved q.home
   -- and whoever is no kernel is a server, or was made

@@ -16,17 +16,17 @@ pub fn trails_always()
     ensures { TrailsAlways }
 {}
 
-/// Wherever the rule leads from a boot file, the trails that the lines lay, of each process the machines that it has been on, agree with
-/// all that is known. Each place that a link, a message, a data move, a list of a server's, an update or a forwarding address names
-/// for a process is on its trail, a kernel's or a server's is its home, the last is where the process is, leaves, comes or has ended;
-/// and from each the forwarding addresses lead on, each with a higher count, to one of these, in fewer steps than there are machines.
+/// Wherever the rule leads from a boot file, the lines lay a trail for each process: the machines that it has been on, in order. Each
+/// place that a link, a message, a data move, a list of a server's, an update or a forwarding address names for a process is on its
+/// trail, which begins at home, where a kernel or a server stays, and ends where the process is, leaves, comes or has ended. From each
+/// place of it the forwarding addresses lead there, each with a higher count, in fewer steps than there are machines.
 pub fn trails_stand()
     ensures { TrailsStand }
 {}
 
 /// Wherever the rule leads from a boot file, from each place that a link, a message, a data move, a list of a server's, an update or a
-/// forwarding address names for a process, the forwarding addresses lead to the process, with rising counts, in fewer steps than
-/// there are machines. A kernel is named at home.
+/// forwarding address names for a process, the forwarding addresses lead to the process, each with a higher count, in fewer steps
+/// than there are machines. Whoever is named is a kernel or a server, at home, or a process that was made.
 pub fn addresses_lead()
     ensures { AddressesLead }
 {}
