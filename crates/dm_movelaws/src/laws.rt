@@ -32,7 +32,7 @@ pub fn addresses_lead()
 {}
 
 /// Wherever the rule leads from a boot file, messages are queued only where a process is or leaves, and held back only where it leaves
-/// or comes: none waits for a process where it isn't, has ended or comes, nor for a server.
+/// or comes: none waits where a process has ended or isn't, and none for a server.
 pub fn lists_always()
     ensures { ListsAlways }
 {}
