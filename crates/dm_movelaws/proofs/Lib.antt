@@ -65,3 +65,4 @@ pub mod EndsSources
 pub mod EndsQuiet
 pub mod EndsAlways
 pub mod Worked
+pub mod OpenMoves

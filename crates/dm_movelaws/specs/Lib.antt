@@ -6,3 +6,4 @@ pub mod Ends
 pub mod Promise
 pub mod Trail
 pub mod Lists
+pub mod Open

@@ -4,6 +4,7 @@ ghost use Rattle.dm_movelaws.specs.AtRest.{AtRestAlways, DropsAlways};
 ghost use Rattle.dm_movelaws.specs.Counts.{CountsKept, CountsStay};
 ghost use Rattle.dm_movelaws.specs.Ends.{EndsAlways};
 ghost use Rattle.dm_movelaws.specs.Lists.{ListsAlways};
+ghost use Rattle.dm_movelaws.specs.Open.{OpenMoves};
 ghost use Rattle.dm_movelaws.specs.Promise.{PromisesAlways};
 ghost use Rattle.dm_movelaws.specs.Stages.{StepsInOrder};
 ghost use Rattle.dm_movelaws.specs.Trail.{TrailsStand, AddressesLead};
@@ -87,4 +88,10 @@ pub fn counts_kept()
 /// filled since names the machine where that process is.
 pub fn promises_always()
     ensures { PromisesAlways }
+{}
+
+/// Wherever the rule leads from a boot file, the lines so far say of each process whether it moves: its last mark is open exactly
+/// while one message of its migration is under way, and says of which kind that is.
+pub fn open_moves()
+    ensures { OpenMoves }
 {}

@@ -1,0 +1,5 @@
+use Rattle.dm_movelaws.proofs.OpenMoves.{open_moves}
+use Rattle.dm_movelaws.proofs.laws.open_moves.Goals as goal
+
+pub returns : goal.returns
+returns c = open_moves

@@ -1,0 +1,67 @@
+-- What a process that moves is spared, by the printed lines: from its line of step 1 on, until step 8 or `stays` is said of it.
+use Rattle.std.specs.Prelude.{◌≡◌, Bool, false, is_some, List, [], ◌∷◌}
+use Rattle.std.specs.declared.option.Option.{Option}
+use Rattle.std.specs.declared.option.Option.TheVariants.{None, Some}
+use Rattle.dm_link.specs.declared.Pid.{Pid}
+use Rattle.dm_message.specs.declared.kind.MessageKind.{MessageKind}
+use Rattle.dm_message.specs.declared.kind.MessageKind.TheVariants as kind
+use Rattle.dm_onekernel.specs.declared.boot.Boot.{Boot}
+use Rattle.dm_onekernel.specs.Boot.{IsValid}
+use Rattle.dm_schedule.specs.declared.Step.{Step}
+use Rattle.dm_rule.specs.declared.line.Line.{Line}
+use Rattle.dm_rule.specs.Phases.{Phase, Nowhere, Rests, Over, Moves, is_due, IsIn}
+use Rattle.dm_rule.specs.Point.{Point, first_point}
+use Rattle.dm_rulelaws.specs.Order.{LeadsBy}
+use Rattle.dm_movelaws.specs.Stages.{Mark, Reached, Lacking, marks, left_open}
+
+-- the last of these marks, if its migration isn't over: step 8 ends it, and so does staying
+abbrev pub open_mark : Option Mark → List Mark → Option Mark
+open_mark last [] = last
+open_mark last (m ∷ ms) = open_mark (left_open m) ms
+
+-- by these lines a migration of the process has begun that isn't over
+abbrev pub is_open : Pid → List Line → Bool
+is_open p ls = is_some (open_mark None (marks p ls))
+
+-- the last mark while the one message about a migration that is under way is of this kind; other kinds are of none
+abbrev pub mark_by : MessageKind → Option Mark
+mark_by kind.Ask = Some (Reached 2)
+mark_by kind.Refuse = Some Lacking
+mark_by kind.PullState = Some (Reached 3)
+mark_by kind.State = Some (Reached 3)
+mark_by kind.PullBlock = Some (Reached 4)
+mark_by kind.Memory = Some (Reached 4)
+mark_by kind.AllTaken = Some (Reached 5)
+mark_by kind.Restart = Some (Reached 7)
+mark_by kind.User = None
+mark_by kind.Stop = None
+mark_by kind.Resume = None
+mark_by kind.Kill = None
+mark_by kind.Read = None
+mark_by kind.Write = None
+mark_by kind.Block = None
+mark_by kind.Written = None
+mark_by kind.Gone = None
+mark_by kind.Create = None
+mark_by kind.Created = None
+mark_by kind.NoRoom = None
+mark_by kind.Migrate = None
+mark_by kind.Update = None
+mark_by kind.Move = None
+mark_by kind.Moved = None
+mark_by kind.CallOff = None
+mark_by kind.Bury = None
+
+-- a process that doesn't move has no open mark
+abbrev pub mark_while : Phase → Option Mark
+mark_while Nowhere = None
+mark_while (Rests at) = None
+mark_while (Over at) = None
+mark_while (Moves k source destination id) = mark_by k
+
+-- wherever the rule leads, each process is in a phase, and the open mark among the lines so far says which message of its
+-- migration is under way, or that it doesn't move
+abbrev pub OpenMoves : Type 0
+OpenMoves =
+    (b : Boot) (es : List Step) (ls : List Line) (pt : Point) (p : Pid) → IsValid b → LeadsBy b (first_point b) es ls pt
+    → (phase : Phase) × IsIn pt.view p phase × (is_due phase ≡ false) × (open_mark None (marks p ls) ≡ mark_while phase)
