@@ -66,3 +66,4 @@ pub mod EndsQuiet
 pub mod EndsAlways
 pub mod Worked
 pub mod OpenMoves
+pub mod OpenSpares

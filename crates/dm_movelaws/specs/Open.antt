@@ -1,16 +1,23 @@
 -- What a process that moves is spared, by the printed lines: from its line of step 1 on, until step 8 or `stays` is said of it.
-use Rattle.std.specs.Prelude.{◌≡◌, Bool, false, is_some, List, [], ◌∷◌}
+use Rattle.std.specs.Prelude.{◌≡◌, ◌≢◌, Bool, true, false, is_some, List, [], ◌∷◌, ◌++◌}
 use Rattle.std.specs.declared.option.Option.{Option}
 use Rattle.std.specs.declared.option.Option.TheVariants.{None, Some}
 use Rattle.dm_link.specs.declared.Pid.{Pid}
+use Rattle.dm_message.specs.declared.MsgId.{MsgId}
 use Rattle.dm_message.specs.declared.kind.MessageKind.{MessageKind}
 use Rattle.dm_message.specs.declared.kind.MessageKind.TheVariants as kind
+use Rattle.dm_message.specs.Plain.{PlainMessage}
 use Rattle.dm_onekernel.specs.declared.boot.Boot.{Boot}
+use Rattle.dm_onekernel.specs.declared.label.Label.TheVariants as label
 use Rattle.dm_onekernel.specs.Boot.{IsValid}
 use Rattle.dm_schedule.specs.declared.Step.{Step}
 use Rattle.dm_rule.specs.declared.line.Line.{Line}
+use Rattle.dm_rule.specs.declared.line.Line.TheVariants as line
+use Rattle.dm_rule.specs.Apart.{AllSpare}
+use Rattle.dm_rule.specs.Parts.{Spelled}
 use Rattle.dm_rule.specs.Phases.{Phase, Nowhere, Rests, Over, Moves, is_due, IsIn}
-use Rattle.dm_rule.specs.Point.{Point, first_point}
+use Rattle.dm_rule.specs.Point.{Point, first_point, after}
+use Rattle.dm_rule.specs.Rule.{group_of}
 use Rattle.dm_rulelaws.specs.Order.{LeadsBy}
 use Rattle.dm_movelaws.specs.Stages.{Mark, Reached, Lacking, marks, left_open}
 
@@ -65,3 +72,17 @@ abbrev pub OpenMoves : Type 0
 OpenMoves =
     (b : Boot) (es : List Step) (ls : List Line) (pt : Point) (p : Pid) → IsValid b → LeadsBy b (first_point b) es ls pt
     → (phase : Phase) × IsIn pt.view p phase × (is_due phase ≡ false) × (open_mark None (marks p ls) ≡ mark_while phase)
+
+-- a group leaves a process alone
+pub record IsSpared (pt : Point) (w : Spelled) (p : Pid) : Type 0 where
+  -- no ran, call, send, wait, out, end, receive or refuse is the process's, and no message for it is served
+  pub others : AllSpare pt.kernel p w.lines
+  -- no message for it is dropped: none that is in the bag before such a line
+  pub kept : (earlier later : List Line) (before : Point) (id : MsgId) (m : PlainMessage) → w.lines ≡ earlier ++ line.Label (label.Dropped id) ∷ later → after pt earlier ≡ Some before → before.kernel.bag id ≡ Some m → m.to ≢ p
+  -- its plain value stays
+  pub same : w.point.kernel.processes p ≡ pt.kernel.processes p
+
+-- wherever the rule leads: as long as by the lines so far a migration of a process is open, the next group leaves it alone
+abbrev pub OpenSpares : Type 0
+OpenSpares =
+    (b : Boot) (es : List Step) (ls : List Line) (pt : Point) (d : Step) (w : Spelled) (p : Pid) → IsValid b → LeadsBy b (first_point b) es ls pt → is_open p ls ≡ true → group_of b pt d ≡ Some w → IsSpared pt w p

@@ -5,6 +5,7 @@ ghost use Rattle.dm_movelaws.specs.Counts.{CountsKept, CountsStay};
 ghost use Rattle.dm_movelaws.specs.Ends.{EndsAlways};
 ghost use Rattle.dm_movelaws.specs.Lists.{ListsAlways};
 ghost use Rattle.dm_movelaws.specs.Open.{OpenMoves};
+ghost use Rattle.dm_movelaws.specs.Open.{OpenMoves, OpenSpares};
 ghost use Rattle.dm_movelaws.specs.Promise.{PromisesAlways};
 ghost use Rattle.dm_movelaws.specs.Stages.{StepsInOrder};
 ghost use Rattle.dm_movelaws.specs.Trail.{TrailsStand, AddressesLead};
@@ -94,4 +95,11 @@ pub fn promises_always()
 /// while one message of its migration is under way, and says of which kind that is.
 pub fn open_moves()
     ensures { OpenMoves }
+{}
+
+/// Wherever the rule leads from a boot file: as long as a process's line of step 1 is followed by no step 8 and no `stays` of it,
+/// no ran, call, send, wait, out, end, receive, refuse or served of the next group is that process's, no message for it is
+/// dropped, and its plain value stays.
+pub fn open_spares()
+    ensures { OpenSpares }
 {}

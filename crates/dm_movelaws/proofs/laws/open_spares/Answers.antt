@@ -1,0 +1,5 @@
+use Rattle.dm_movelaws.proofs.OpenSpares.{open_spares}
+use Rattle.dm_movelaws.proofs.laws.open_spares.Goals as goal
+
+pub returns : goal.returns
+returns c = open_spares
