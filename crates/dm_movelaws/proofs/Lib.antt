@@ -67,3 +67,4 @@ pub mod EndsAlways
 pub mod Worked
 pub mod OpenMoves
 pub mod OpenSpares
+pub mod NumbersAlways

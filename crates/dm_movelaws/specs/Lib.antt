@@ -7,3 +7,4 @@ pub mod Promise
 pub mod Trail
 pub mod Lists
 pub mod Open
+pub mod Numbers

@@ -5,6 +5,7 @@ ghost use Rattle.dm_movelaws.specs.Counts.{CountsKept, CountsStay};
 ghost use Rattle.dm_movelaws.specs.Ends.{EndsAlways};
 ghost use Rattle.dm_movelaws.specs.Lists.{ListsAlways};
 ghost use Rattle.dm_movelaws.specs.Open.{OpenMoves};
+ghost use Rattle.dm_movelaws.specs.Numbers.{NumbersAlways};
 ghost use Rattle.dm_movelaws.specs.Open.{OpenMoves, OpenSpares};
 ghost use Rattle.dm_movelaws.specs.Promise.{PromisesAlways};
 ghost use Rattle.dm_movelaws.specs.Stages.{StepsInOrder};
@@ -102,4 +103,10 @@ pub fn open_moves()
 /// dropped, and its plain value stays.
 pub fn open_spares()
     ensures { OpenSpares }
+{}
+
+/// Wherever the rule leads from a boot file: the number in the name of each message that is in the bag or was ever put is below the
+/// count of its sender, be it a living process, a server or a kernel.
+pub fn numbers_always()
+    ensures { NumbersAlways }
 {}

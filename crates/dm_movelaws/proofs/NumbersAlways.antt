@@ -1,0 +1,76 @@
+-- The numbers in names of messages are below the counts of their senders.
+use Rattle.std.proofs.Common.{◌≡◌, ◌⊎◌, ℕ, zero, suc, ◌<◌, ◌≤◌, Bool, true, false, nat_lt, refl, ap, ◌∙◌, sym, inl, inr, arith}
+use Rattle.std.specs.Prelude.{if◌then◌else◌}
+use Rattle.std.specs.declared.option.Option.TheVariants.{None, Some}
+use Rattle.std.proofs.lemmas.Bool.{cases_Bool}
+use Rattle.std.proofs.lemmas.Bool.Decides.{nat_tests}
+use Rattle.dm_link.specs.declared.Pid.{Pid}
+use Rattle.dm_link.specs.Names.{pid_of, pid_eq}
+use Rattle.dm_message.specs.declared.MsgId.{MsgId}
+use Rattle.dm_message.specs.Ids.{id_of}
+use Rattle.dm_message.specs.Plain.{PlainMessage}
+use Rattle.dm_onekernel.specs.Boot.{switchboard, manager}
+use Rattle.dm_onekernel.specs.Kernel.{OneKernel}
+use Rattle.dm_laws.specs.Laws.{in_bag}
+use Rattle.dm_laws.proofs.Entered.{is_counted, counts}
+use Rattle.dm_laws.proofs.Equal.{pid_eq-same}
+use Rattle.dm_laws.proofs.Sound.{Sound, not_server, counts_process}
+use Rattle.dm_rule.specs.Point.{Point}
+use Rattle.dm_rule.specs.View.{Told, is_kernels}
+use Rattle.dm_rule.proofs.Telling.{Sane}
+use Rattle.dm_rulelaws.proofs.RunsAlways.{run_always}
+use Rattle.dm_movelaws.specs.Numbers.{IsBelow, NumbersAlways}
+
+-- what has entered is counted
+below : (r e : MsgId → ℕ) (s : OneKernel) (i : MsgId) → Sound r e s → counts s i ≡ true → IsBelow s i
+below r e s i h c = record {
+  of_process = λ x alive.
+      let k : nat_lt i.n x.sent ≡ true = sym (counts_process s i.from i refl (not_server s i.from x alive h.made) ∙ ap (is_counted i.n) alive) ∙ c in
+      grind (arith, nat_tests);
+  of_switchboard = λ is.
+      let same : pid_eq i.from switchboard ≡ true = ap (λ (q : Pid). pid_eq q switchboard) is ∙ pid_eq-same switchboard in
+      let k : nat_lt i.n s.switchboard.sent ≡ true = sym (ap (λ (t : Bool). if t then nat_lt i.n s.switchboard.sent else if pid_eq i.from manager then nat_lt i.n s.manager.sent else is_counted i.n (s.processes i.from)) same) ∙ c in
+      grind (arith, nat_tests);
+  of_manager = λ is.
+      let off : pid_eq i.from switchboard ≡ false = ap (λ (q : Pid). pid_eq q switchboard) is in
+      let same : pid_eq i.from manager ≡ true = ap (λ (q : Pid). pid_eq q manager) is ∙ pid_eq-same manager in
+      let k : nat_lt i.n s.manager.sent ≡ true =
+      sym (ap (λ (t : Bool). if t then nat_lt i.n s.switchboard.sent else if pid_eq i.from manager then nat_lt i.n s.manager.sent else is_counted i.n (s.processes i.from)) off
+      ∙ ap (λ (t : Bool). if t then nat_lt i.n s.manager.sent else is_counted i.n (s.processes i.from)) same) ∙ c in
+      grind (arith, nat_tests);
+}
+
+pub bag_counted : (r e : MsgId → ℕ) (s : OneKernel) (i : MsgId) (m : PlainMessage) → Sound r e s → s.bag i ≡ Some m → counts s i ≡ true
+bag_counted r e s i m h there = h.entered.counted i (let f = h.entered.fewer i in let g : in_bag (s.bag i) ≡ 1 = ap in_bag there in omega (arith, f, g))
+
+zero_or : (n : ℕ) → (n ≡ 0) ⊎ (1 ≤ n)
+zero_or zero = inl refl
+zero_or (suc n) = inr (omega arith)
+
+pub told_counted : (pt : Point) (i : MsgId) (t : Told) → (h : Sane pt) → pt.view.told i ≡ Some t → is_kernels i ≡ false → counts pt.kernel i ≡ true
+told_counted pt i t h told other = elim (zero_or (h.e i)) [
+  | inl none ↦ absurd (let f : None ≡ Some t = sym (h.untold i none other) ∙ told in cc)
+  | inr some ↦ h.sound.entered.counted i some
+]
+
+-- a kernel's own message is named by its machine
+pub own_name : (i : MsgId) → is_kernels i ≡ true → id_of (pid_of i.from.home 0) i.n ≡ i
+own_name i e = grind (arith, nat_tests)
+
+own_below : (pt : Point) (i : MsgId) (t : Told) → Sane pt → pt.view.told i ≡ Some t → is_kernels i ≡ true → i.n < pt.view.count i.from.home
+own_below pt i t h told own = elim (cases_Bool (nat_lt i.n (pt.view.count i.from.home))) [
+  | inl less ↦ grind (arith, nat_tests)
+  | inr more ↦
+      let le : pt.view.count i.from.home ≤ i.n = grind (arith, nat_tests) in
+      absurd (let f : None ≡ Some t = sym (h.numbered i.from.home i.n le) ∙ ap pt.view.told (own_name i own) ∙ told in cc)
+]
+
+-- wherever the rule leads
+pub numbers_always : NumbersAlways
+numbers_always b es pt valid leads =
+    let sane = (run_always b es pt valid leads).run.based.phased.sane in
+    record {
+      bag = λ i m there. below sane.r sane.e pt.kernel i sane.sound (bag_counted sane.r sane.e pt.kernel i m sane.sound there);
+      told = λ i t told other. below sane.r sane.e pt.kernel i sane.sound (told_counted pt i t sane told other);
+      own = λ i t told own. own_below pt i t sane told own;
+    }
