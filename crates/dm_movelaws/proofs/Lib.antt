@@ -68,3 +68,6 @@ pub mod Worked
 pub mod OpenMoves
 pub mod OpenSpares
 pub mod NumbersAlways
+pub mod RealRows
+pub mod RealLines
+pub mod RealAlways

@@ -8,3 +8,4 @@ pub mod Trail
 pub mod Lists
 pub mod Open
 pub mod Numbers
+pub mod Real

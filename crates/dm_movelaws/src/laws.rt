@@ -8,6 +8,7 @@ ghost use Rattle.dm_movelaws.specs.Open.{OpenMoves};
 ghost use Rattle.dm_movelaws.specs.Numbers.{NumbersAlways};
 ghost use Rattle.dm_movelaws.specs.Open.{OpenMoves, OpenSpares};
 ghost use Rattle.dm_movelaws.specs.Promise.{PromisesAlways};
+ghost use Rattle.dm_movelaws.specs.Real.{RealAlways};
 ghost use Rattle.dm_movelaws.specs.Stages.{StepsInOrder};
 ghost use Rattle.dm_movelaws.specs.Trail.{TrailsStand, AddressesLead};
 ghost use Rattle.dm_movelaws.specs.Updates.{UpdatesAlways};
@@ -109,4 +110,11 @@ pub fn open_spares()
 /// count of its sender, be it a living process, a server or a kernel.
 pub fn numbers_always()
     ensures { NumbersAlways }
+{}
+
+/// Wherever the rule leads from a boot file: whoever is named by an address, in the name of a message, as its receiver, in an update
+/// or another of the kernels' own messages, as a child, or in what a machine knows is a kernel of a machine that there is, a server,
+/// or a process that was made.
+pub fn real_always()
+    ensures { RealAlways }
 {}

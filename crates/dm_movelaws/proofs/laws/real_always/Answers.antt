@@ -1,0 +1,5 @@
+use Rattle.dm_movelaws.proofs.RealAlways.{real_always}
+use Rattle.dm_movelaws.proofs.laws.real_always.Goals as goal
+
+pub returns : goal.returns
+returns c = real_always
