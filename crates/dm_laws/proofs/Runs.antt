@@ -1,5 +1,5 @@
 -- What holds of every run of the kernel without machines.
-use Rattle.std.proofs.Common.{◌≡◌, ℕ, ◌+◌, ◌≤◌, List, [], ◌∷◌, refl, ap, ◌∙◌, subst, arith}
+use Rattle.std.proofs.Common.{◌≡◌, ℕ, ◌+◌, ◌≤◌, List, [], ◌∷◌, refl, ap, ◌∙◌, sym, subst, ◌⊎◌, inl, inr, arith}
 use Rattle.std.specs.declared.option.Option.{Option}
 use Rattle.std.specs.declared.option.Option.TheVariants.{None, Some}
 use Rattle.dm_message.specs.declared.MsgId.{MsgId}
@@ -18,7 +18,7 @@ use Rattle.dm_onekernel.specs.Pieces.{answer_id}
 use Rattle.dm_onekernel.specs.Start.{start}
 use Rattle.dm_onekernel.specs.Step as kernel
 use Rattle.dm_onekernel.specs.Step.{replay}
-use Rattle.dm_laws.specs.Laws.{ReceivesOnce, EntersOnce, EndedStays, CountsOnlyRise, MoverHasOne, Leads, reception, receptions, entry, entries, entries_on, in_bag}
+use Rattle.dm_laws.specs.Laws.{ReceivesOnce, EntersOnce, StaysOrLeaves, EndedStays, CountsOnlyRise, MoverHasOne, Leads, reception, receptions, entry, entries, entries_on, in_bag}
 use Rattle.dm_laws.proofs.Counted.{pending_of}
 use Rattle.dm_laws.proofs.Movers.{One}
 use Rattle.dm_laws.proofs.Grown.{Grown, Grown-same, Grown-trans, LifeGrows, AliveGrows}
@@ -87,6 +87,17 @@ entries_few (l ∷ ls) r e s id h =
 
 pub entered_once : EntersOnce
 entered_once b ls id valid = let k = entries_few ls (λ i. 0) (λ i. 0) (start b) id (start-sound b valid) in omega (arith, k)
+
+stays_or_leaves_of : (o : Option PlainMessage) (m : PlainMessage) → ((x : PlainMessage) → o ≡ Some x → m ≡ x) → (o ≡ None) ⊎ (o ≡ Some m)
+stays_or_leaves_of None m only = inl refl
+stays_or_leaves_of (Some x) m only = inr (ap Some (sym (only x refl)))
+
+-- new messages come under new names, so whatever stands under an old one was there before
+pub stays_or_leaves : StaysOrLeaves
+stays_or_leaves b ls s t l id m valid is next there =
+    let first = reached (λ i. 0) (λ i. 0) (start b) s ls is (start-sound b valid) in
+    let a = after_step (λ i. 0 + receptions i ls) first.e' s t l next first.sound in
+    stays_or_leaves_of (t.bag id) m (λ x then_. a.only id m x there then_)
 
 ended_stays_of : (l m : Option Life) (y : Why) → LifeGrows l m → l ≡ Some (Ended y) → m ≡ Some (Ended y)
 ended_stays_of None m y g e = cc

@@ -1,11 +1,12 @@
 -- What holds of every run of the kernel without machines, whatever its steps are.
-use Rattle.std.specs.Prelude.{◌≡◌, ℕ, ◌+◌, ◌≤◌, ◌&&◌, is_some, if◌then◌else◌, List, [], ◌∷◌, length}
+use Rattle.std.specs.Prelude.{◌≡◌, ◌⊎◌, ℕ, ◌+◌, ◌≤◌, ◌&&◌, is_some, if◌then◌else◌, List, [], ◌∷◌, length}
 use Rattle.std.specs.declared.option.Option.{Option}
 use Rattle.std.specs.declared.option.Option.TheVariants.{None, Some}
 use Rattle.std.specs.Option.{is_none}
 use Rattle.dm_link.specs.declared.Pid.{Pid}
 use Rattle.dm_message.specs.declared.MsgId.{MsgId}
 use Rattle.dm_message.specs.Ids.{id_eq, id_of}
+use Rattle.dm_message.specs.Plain.{PlainMessage}
 use Rattle.dm_process.specs.declared.process.Direction.{Direction}
 use Rattle.dm_onekernel.specs.declared.boot.Boot.{Boot}
 use Rattle.dm_onekernel.specs.declared.label.Label.{Label}
@@ -21,8 +22,21 @@ use Rattle.dm_onekernel.specs.Step.{step, replay}
 -- 1 for a step that receives the message
 abbrev pub reception : MsgId → Label → ℕ
 reception id (label.Receive p j) = if id_eq id j then 1 else 0
-reception id l = 0
+reception id (label.Ran p k) = 0
+reception id (label.Call p n c) = 0
+reception id (label.Send p j) = 0
+reception id (label.Wait p) = 0
+reception id (label.Out p w) = 0
+reception id (label.End p y) = 0
+reception id (label.Refuse p j c) = 0
+reception id (label.Dropped j) = 0
+reception id (label.Served j) = 0
+reception id (label.Gone j) = 0
+reception id (label.Took j) = 0
+reception id (label.Created j child) = 0
+reception id (label.NoSpace j slots blocks) = 0
 
+-- how many of these steps receive the message
 abbrev pub receptions : MsgId → List Label → ℕ
 receptions id [] = 0
 receptions id (l ∷ ls) = reception id l + receptions id ls
@@ -47,6 +61,12 @@ entries id s (l ∷ ls) = entries_on id s (step s l) (λ t. entries id t ls)
 -- no message enters the bag twice: a name is given once
 abbrev pub EntersOnce : Type 0
 EntersOnce = (b : Boot) (ls : List Label) (id : MsgId) → IsValid b → entries id (start b) ls ≤ 1
+
+-- a message of the bag is never overwritten: a step leaves it as it is, or takes it out
+abbrev pub StaysOrLeaves : Type 0
+StaysOrLeaves =
+    (b : Boot) (ls : List Label) (s t : OneKernel) (l : Label) (id : MsgId) (m : PlainMessage) →
+    IsValid b → replay (start b) ls ≡ Some s → step s l ≡ Some t → s.bag id ≡ Some m → (t.bag id ≡ None) ⊎ (t.bag id ≡ Some m)
 
 -- a run of a boot file up to s, and from there to t
 abbrev pub Leads : Boot → List Label → OneKernel → List Label → OneKernel → Type 0

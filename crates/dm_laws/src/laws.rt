@@ -1,5 +1,5 @@
 //! What holds of every run of the kernel without machines, whatever the boot file and the steps.
-ghost use Rattle.dm_laws.specs.Laws.{CountsOnlyRise, EndedStays, EntersOnce, MoverHasOne, ReceivesOnce};
+ghost use Rattle.dm_laws.specs.Laws.{CountsOnlyRise, EndedStays, EntersOnce, MoverHasOne, ReceivesOnce, StaysOrLeaves};
 
 /// No message is received twice.
 pub fn received_once()
@@ -9,6 +9,11 @@ pub fn received_once()
 /// No message enters the bag twice: a name is given to one message.
 pub fn entered_once()
     ensures { EntersOnce }
+{}
+
+/// A message of the bag is never overwritten: a step leaves it as it is, or takes it out.
+pub fn stays_or_leaves()
+    ensures { StaysOrLeaves }
 {}
 
 /// A process that has ended stays so, for the same reason.
