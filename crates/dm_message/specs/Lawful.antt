@@ -20,7 +20,26 @@ is_answer kind.Gone = true
 is_answer kind.Created = true
 is_answer kind.NoRoom = true
 is_answer kind.Moved = true
-is_answer _ = false
+is_answer kind.User = false
+is_answer kind.Stop = false
+is_answer kind.Resume = false
+is_answer kind.Kill = false
+is_answer kind.Read = false
+is_answer kind.Write = false
+is_answer kind.Create = false
+is_answer kind.Migrate = false
+is_answer kind.Update = false
+is_answer kind.Ask = false
+is_answer kind.Refuse = false
+is_answer kind.PullState = false
+is_answer kind.State = false
+is_answer kind.PullBlock = false
+is_answer kind.Memory = false
+is_answer kind.AllTaken = false
+is_answer kind.Restart = false
+is_answer kind.Move = false
+is_answer kind.CallOff = false
+is_answer kind.Bury = false
 
 -- the switchboard and the manager have no memory of their own
 abbrev pub IsServer : Pid → Type 0

@@ -56,6 +56,7 @@ plain_what (what.Restart pid) = None
 plain_what (what.CallOff pid) = None
 plain_what (what.Bury pid) = None
 
+-- a message: its name, who is to get it, who sent it, and what it says
 pub record PlainMessage : Type 0 where
   pub id : MsgId
   pub to : Pid
@@ -67,5 +68,6 @@ abbrev pub with_what : Message → Option PlainWhat → Option PlainMessage
 with_what m None = None
 with_what m (Some w) = Some (record { id = m.id; to = m.to.pid; sender = m.sender.pid; what = w })
 
+-- a message of the program without places, if it is one that the kernel without machines has
 abbrev pub plain_message : Message → Option PlainMessage
 plain_message m = with_what m (plain_what m.what)

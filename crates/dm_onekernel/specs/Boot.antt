@@ -34,11 +34,12 @@ abbrev pub starting_at : ℕ → List BootProcess → ℕ
 starting_at m [] = 0
 starting_at m (p ∷ ps) = (if p.pid.home == m then 1 else 0) + starting_at m ps
 
--- the blocks that they take there
+-- the blocks of an image, if there is one
 abbrev pub blocks_of_image : Option BootImage → ℕ
 blocks_of_image None = 0
 blocks_of_image (Some i) = i.blocks
 
+-- the blocks that they take there
 abbrev pub blocks_at : ℕ → List BootImage → List BootProcess → ℕ
 blocks_at m images [] = 0
 blocks_at m images (p ∷ ps) = (if p.pid.home == m then blocks_of_image (slice_get images p.image) else 0) + blocks_at m images ps

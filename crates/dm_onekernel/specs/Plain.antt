@@ -6,11 +6,13 @@ use Rattle.dm_process.specs.declared.process.Status.{Status}
 use Rattle.dm_process.specs.declared.process.Status.TheVariants as status
 use Rattle.dm_onekernel.specs.PlainProcess.{PlainProcess, PlainStatus, Ready, Waiting, Moving}
 
+-- whose area it moves data to or from, but not where that process is
 abbrev pub plain_status : Status → PlainStatus
 plain_status status.Ready = Ready
 plain_status (status.Waiting mask base cap) = Waiting mask base cap
 plain_status (status.Moving dir owner base own left pending) = Moving dir owner.pid base own left pending
 
+-- a process of the program, but for its queue and for where its links lead
 abbrev pub plain_process : Process → PlainProcess
 plain_process p =
     record {

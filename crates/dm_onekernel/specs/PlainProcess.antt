@@ -12,6 +12,8 @@ pub data PlainStatus : Type 0 where
   Waiting : (mask : ℕ) → (base : ℕ) → (cap : ℕ) → PlainStatus
   Moving : (dir : Direction) → (owner : Pid) → (base : ℕ) → (own : ℕ) → (left : ℕ) → (pending : ℕ) → PlainStatus
 
+-- a living process: registers and program counter, memory, links by slot, what it does, whether it was stopped, and how many
+-- messages it has sent
 pub record PlainProcess : Type 0 where
   pub regs : Regs
   pub memory : List ℕ

@@ -46,6 +46,7 @@ abbrev pub life_at : Boot → List BootProcess → Pid → Option Life
 life_at b [] q = None
 life_at b (p ∷ ps) q = if pid_eq p.pid q then first_life b p else life_at b ps q
 
+-- before the first step: the processes of the boot file, all the manager's children, and no message
 abbrev pub start : Boot → OneKernel
 start b =
     record {

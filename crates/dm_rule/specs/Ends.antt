@@ -181,6 +181,7 @@ server_lines pt =
     ++ child_lines pt.addresses 1 pt.kernel.manager.children
     ++ pending_lines pt.kernel.manager.pending
 
+-- all that a run leaves behind, in the order in which it is printed
 abbrev pub end_lines : Point → List Line
 end_lines pt =
     says end.Final

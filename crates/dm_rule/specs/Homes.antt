@@ -74,6 +74,7 @@ abbrev pub ascends : ℕ → List Pending → ℕ → Bool
 ascends from [] to = nat_le from to
 ascends from (r ∷ rs) to = nat_le from r.n && ascends (r.n + 1) rs to
 
+-- no process has moved: each address, and whatever waits on a machine, is of a process whose home that is
 pub record Homes (pt : Point) : Type 0 where
   pub home : (h : Holder) (q : Pid) → names pt.kernel h ≡ Some q → pt.addresses h ≡ unmoved q.home
   pub moves : (p : Pid) → pt.view.moves p ≡ 0

@@ -50,14 +50,16 @@ lines_of pt (Again id b) = bind (pt.view.told id) (λ t. Some (puts pt.view b id
 lines_of pt (Owns k q b) = Some (puts pt.view b (own_id pt.view) k q)
 lines_of pt (Transmits a b l) = Some (packet_line pt.view a b l ∷ [])
 
--- the lines of parts, one part after the other, and where they lead
+-- lines, and the point that they lead to
 pub record Spelled : Type 0 where
   pub lines : List Line
   pub point : Point
 
+-- what follows lines, with these before it
 abbrev pub behind : List Line → Spelled → Spelled
 behind ls w = record { lines = ls ++ w.lines; point = w.point }
 
+-- the lines of parts, one part after the other, and where they lead
 abbrev pub spelled : Point → List Part → Option Spelled
 spelled pt [] = Some (record { lines = []; point = pt })
 spelled pt (p ∷ ps) = bind (lines_of pt p) (λ ls. bind (after pt ls) (λ next. bind (spelled next ps) (λ rest. Some (behind ls rest))))

@@ -45,7 +45,28 @@ is_of_source kind.Ask = true
 is_of_source kind.State = true
 is_of_source kind.Memory = true
 is_of_source kind.Restart = true
-is_of_source _ = false
+is_of_source kind.User = false
+is_of_source kind.Stop = false
+is_of_source kind.Resume = false
+is_of_source kind.Kill = false
+is_of_source kind.Read = false
+is_of_source kind.Write = false
+is_of_source kind.Block = false
+is_of_source kind.Written = false
+is_of_source kind.Gone = false
+is_of_source kind.Create = false
+is_of_source kind.Created = false
+is_of_source kind.NoRoom = false
+is_of_source kind.Migrate = false
+is_of_source kind.Update = false
+is_of_source kind.Refuse = false
+is_of_source kind.PullState = false
+is_of_source kind.PullBlock = false
+is_of_source kind.AllTaken = false
+is_of_source kind.Move = false
+is_of_source kind.Moved = false
+is_of_source kind.CallOff = false
+is_of_source kind.Bury = false
 
 -- a process was never made, rests on a machine, has ended on one, or moves: the kind of the message that is under way, and its
 -- name once it was put
@@ -55,6 +76,7 @@ pub data Phase : Type 0 where
   Over : (at : ℕ) → Phase
   Moves : (kind : MessageKind) → (source : ℕ) → (destination : ℕ) → (id : Option MsgId) → Phase
 
+-- a machine that has nothing of a process, or forwards
 abbrev pub is_away : Known → Bool
 is_away Unknown = true
 is_away Here = false
@@ -63,27 +85,90 @@ is_away (Incoming from) = false
 is_away (Forward at moves) = true
 is_away Ended = false
 
+-- a machine that knows nothing of a process
 abbrev pub is_unknown : Known → Bool
 is_unknown Unknown = true
-is_unknown _ = false
+is_unknown Here = false
+is_unknown (Frozen to) = false
+is_unknown (Incoming from) = false
+is_unknown (Forward at moves) = false
+is_unknown Ended = false
 
+-- a machine where a process is
 abbrev pub is_here : Known → Bool
+is_here Unknown = false
 is_here Here = true
-is_here _ = false
+is_here (Frozen to) = false
+is_here (Incoming from) = false
+is_here (Forward at moves) = false
+is_here Ended = false
 
+-- a machine where a process has ended
 abbrev pub is_over : Known → Bool
+is_over Unknown = false
+is_over Here = false
+is_over (Frozen to) = false
+is_over (Incoming from) = false
+is_over (Forward at moves) = false
 is_over Ended = true
-is_over _ = false
 
+-- the destination may restart the process
 abbrev pub is_restart : MessageKind → Bool
 is_restart kind.Restart = true
-is_restart _ = false
+is_restart kind.User = false
+is_restart kind.Stop = false
+is_restart kind.Resume = false
+is_restart kind.Kill = false
+is_restart kind.Read = false
+is_restart kind.Write = false
+is_restart kind.Block = false
+is_restart kind.Written = false
+is_restart kind.Gone = false
+is_restart kind.Create = false
+is_restart kind.Created = false
+is_restart kind.NoRoom = false
+is_restart kind.Migrate = false
+is_restart kind.Update = false
+is_restart kind.Ask = false
+is_restart kind.Refuse = false
+is_restart kind.PullState = false
+is_restart kind.State = false
+is_restart kind.PullBlock = false
+is_restart kind.Memory = false
+is_restart kind.AllTaken = false
+is_restart kind.Move = false
+is_restart kind.Moved = false
+is_restart kind.CallOff = false
+is_restart kind.Bury = false
 
 -- the destination hasn't accepted
 abbrev pub is_early : MessageKind → Bool
 is_early kind.Ask = true
 is_early kind.Refuse = true
-is_early _ = false
+is_early kind.User = false
+is_early kind.Stop = false
+is_early kind.Resume = false
+is_early kind.Kill = false
+is_early kind.Read = false
+is_early kind.Write = false
+is_early kind.Block = false
+is_early kind.Written = false
+is_early kind.Gone = false
+is_early kind.Create = false
+is_early kind.Created = false
+is_early kind.NoRoom = false
+is_early kind.Migrate = false
+is_early kind.Update = false
+is_early kind.PullState = false
+is_early kind.State = false
+is_early kind.PullBlock = false
+is_early kind.Memory = false
+is_early kind.AllTaken = false
+is_early kind.Restart = false
+is_early kind.Move = false
+is_early kind.Moved = false
+is_early kind.CallOff = false
+is_early kind.Bury = false
 
 -- the source holds the process until the destination may restart it, and then forwards
 abbrev pub leaves : MessageKind → ℕ → Known → Bool

@@ -47,7 +47,19 @@ says l = Says (line.Label l)
 -- a user message on a channel of the mask
 abbrev pub what_is_awaited : ℕ → PlainWhat → Bool
 what_is_awaited mask (what.User code channel body links) = on_mask mask channel
-what_is_awaited mask w = false
+what_is_awaited mask what.Stop = false
+what_is_awaited mask what.Resume = false
+what_is_awaited mask what.Kill = false
+what_is_awaited mask (what.Read base len) = false
+what_is_awaited mask (what.Write base bytes) = false
+what_is_awaited mask (what.Block bytes) = false
+what_is_awaited mask what.Written = false
+what_is_awaited mask what.Gone = false
+what_is_awaited mask (what.Create image links) = false
+what_is_awaited mask (what.Created pid) = false
+what_is_awaited mask what.NoRoom = false
+what_is_awaited mask (what.Move machine) = false
+what_is_awaited mask (what.Moved outcome) = false
 
 abbrev pub is_awaited : ℕ → Option PlainMessage → Bool
 is_awaited mask None = false
@@ -131,7 +143,7 @@ goes_round b pt m None = Some (Says (line.Idle m) ∷ [])
 goes_round b pt m (Some p) =
     bind (kernel.alive (pt.kernel.processes p)) (λ x. serves_status b.quantum pt.kernel p (pt.view.queue m p) x x.status)
 
--- what is free of a machine: what it has, less what its processes take that are here, leaving or coming
+-- a process that is here, leaves or comes takes a slot
 abbrev pub takes_room : Known → ℕ
 takes_room Unknown = 0
 takes_room Here = 1
@@ -144,11 +156,12 @@ abbrev pub blocks_of : Option PlainProcess → ℕ
 blocks_of None = 0
 blocks_of (Some x) = length x.memory / 256
 
+-- slots for processes, and blocks of memory
 pub record Room : Type 0 where
   pub slots : ℕ
   pub blocks : ℕ
 
--- the slots and blocks that the first n processes of a home take on a machine
+-- what one process takes on a machine
 abbrev pub taken_by : Point → ℕ → Pid → Room
 taken_by pt m p =
     record {
@@ -159,10 +172,12 @@ taken_by pt m p =
 abbrev pub and : Room → Room → Room
 and r t = record { slots = r.slots + t.slots; blocks = r.blocks + t.blocks }
 
+-- the slots and blocks that the first n processes of a home take on a machine
 abbrev pub taken_of_home : Point → ℕ → ℕ → ℕ → Room
 taken_of_home pt m home zero = record { slots = 0; blocks = 0 }
 taken_of_home pt m home (suc n) = and (taken_of_home pt m home n) (taken_by pt m (pid_of home (first_number + n)))
 
+-- what the processes of the first homes take there
 abbrev pub taken_at : Point → ℕ → ℕ → Room
 taken_at pt m zero = record { slots = 0; blocks = 0 }
 taken_at pt m (suc home) = and (taken_at pt m home) (taken_of_home pt m home (pt.kernel.made home))
@@ -171,6 +186,7 @@ abbrev pub free_of : Option BootMachine → Room → Room
 free_of None t = record { slots = 0; blocks = 0 }
 free_of (Some r) t = record { slots = r.slots - t.slots; blocks = r.blocks - t.blocks }
 
+-- what is free of a machine: what it has, less what its processes take that are here, leaving or coming
 abbrev pub free_room : Boot → Point → ℕ → Room
 free_room b pt m = free_of (slice_get b.machines m) (taken_at pt m pt.kernel.machines)
 
@@ -200,12 +216,13 @@ abbrev pub manager_took : MsgId → Option manage.Took → Option (List Part)
 manager_took id None = None
 manager_took id (Some t) = Some (says (label.Took id) ∷ routes t.message)
 
--- what a process's kernel does with a message for it, a row a kind
+-- an answer comes to a data move: its next request goes out, or it is done
 abbrev pub lands : MsgId → Option pieces.Landed → Option (List Part)
 lands id None = None
 lands id (Some (pieces.Next request x)) = Some (says (label.Served id) ∷ Routes request.id ∷ [])
 lands id (Some (pieces.Done reply x)) = Some (says (label.Served id) ∷ [])
 
+-- what a process's kernel does with a message for it, a row a kind
 abbrev pub here_handles : Point → ℕ → MsgId → PlainMessage → PlainProcess → PlainWhat → Option (List Part)
 here_handles pt m id msg x (what.User code channel body links) = Some (Says (line.Queued id) ∷ [])
 here_handles pt m id msg x what.Stop = Some (says (label.Served id) ∷ [])
@@ -256,10 +273,11 @@ handles b pt m id msg =
     else if pid_eq msg.to manager then manager_took id (manage.takes pt.kernel.manager pt.kernel.machines (length pt.kernel.images) msg msg.what)
     else process_handles pt m id msg (pt.view.known m msg.to)
 
--- what a kernel's own message says of a process to another kernel
+-- whether so many blocks and a slot are free, and what is
 abbrev pub fits : Room → ℕ → Bool × ℕ × ℕ
 fits r blocks = (has_room r blocks, r.slots, r.blocks)
 
+-- what a kernel's own message says of a process to another kernel
 abbrev pub kernel_hears : Boot → Point → ℕ → MsgId → MessageKind → About → Option (List Part)
 kernel_hears b pt m id k NothingElse = None
 kernel_hears b pt m id k (Target to) = None
@@ -348,10 +366,11 @@ outcome b pt (step.Tick m) = Some (Says (line.Resent m (outstanding pt.view m pt
 outcome b pt (step.Deliver a c k) = Some (arrives a c (pt.view.pair a c) (pt.view.pair c a) (slice_get (pt.view.pair a c).wire k))
 outcome b pt (step.Migrate p m) = Some (migrates pt p)
 
--- the group of a directive, and where it leads: its head, then what follows
+-- lines behind a head
 abbrev pub headed : Line → Spelled → Spelled
 headed l w = record { lines = l ∷ w.lines; point = w.point }
 
+-- the group of a directive, and where it leads: its head, then what follows
 abbrev pub group_of : Boot → Point → Step → Option Spelled
 group_of b pt e =
     bind (outcome b pt e) (λ parts. bind (after_line pt (line.Head e)) (λ begun. bind (spelled begun parts) (λ w. Some (headed (line.Head e) w))))

@@ -44,11 +44,12 @@ abbrev pub StandsAsBag : {M : Type 0} → Option M → (Spot → ℕ) → Type 0
 StandsAsBag None f = StandsNowhere f
 StandsAsBag (Some m) f = StandsOnce f
 
--- a message of the bag stands in one place; one that isn't in the bag stands nowhere, but a kernel's own in at most one place
+-- a message that isn't in the bag, by whether it is a kernel's own
 abbrev pub StandsOutside : Bool → (Spot → ℕ) → Type 0
 StandsOutside true f = StandsNowhere f ⊎ StandsOnce f
 StandsOutside false f = StandsNowhere f
 
+-- a message of the bag stands in one place; one that isn't in the bag stands nowhere, but a kernel's own in at most one place
 abbrev pub StandsRight : {M : Type 0} → MsgId → Option M → (Spot → ℕ) → Type 0
 StandsRight id None f = StandsOutside (is_kernels id) f
 StandsRight id (Some m) f = StandsOnce f

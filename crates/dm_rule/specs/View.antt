@@ -60,6 +60,8 @@ pub record Told : Type 0 where
   pub receiver : Pid
   pub about : About
 
+-- what the lines so far say of the machines: which one acts, their pairs and wires, inboxes, rings, queues and held messages,
+-- and what each knows of each process
 pub record View : Type 0 where
   -- the machine of the last head
   pub acting : ℕ
@@ -128,9 +130,35 @@ serving v p = with_ring v (moved_back p (v.ring v.acting))
 abbrev pub ended : View → Pid → View
 ended v p = with_ring (knowing v p Ended) (without p (v.ring v.acting))
 
+-- of the messages that a kernel serves, only a kill ends the receiver; a row a kind
 abbrev pub kills : MessageKind → View → Option Pid → View
 kills kind.Kill v (Some p) = ended v p
-kills k v p = v
+kills kind.Kill v None = v
+kills kind.User v p = v
+kills kind.Stop v p = v
+kills kind.Resume v p = v
+kills kind.Read v p = v
+kills kind.Write v p = v
+kills kind.Block v p = v
+kills kind.Written v p = v
+kills kind.Gone v p = v
+kills kind.Create v p = v
+kills kind.Created v p = v
+kills kind.NoRoom v p = v
+kills kind.Migrate v p = v
+kills kind.Update v p = v
+kills kind.Ask v p = v
+kills kind.Refuse v p = v
+kills kind.PullState v p = v
+kills kind.State v p = v
+kills kind.PullBlock v p = v
+kills kind.Memory v p = v
+kills kind.AllTaken v p = v
+kills kind.Restart v p = v
+kills kind.Move v p = v
+kills kind.Moved v p = v
+kills kind.CallOff v p = v
+kills kind.Bury v p = v
 
 abbrev pub served_told : View → Option Told → View
 served_told v None = v
@@ -212,10 +240,11 @@ after_early v a b n =
     let p = v.pair a b in
     with_pair v a b (record p { kept = n ∷ filter (λ k. not (k == n)) p.kept })
 
--- an acknowledgement from A is of the stream that leads to A
+-- the greater of two numbers
 abbrev pub at_least : ℕ → ℕ → ℕ
 at_least m n = if nat_le n m then m else n
 
+-- an acknowledgement from A is of the stream that leads to A
 abbrev pub after_acked : View → ℕ → ℕ → ℕ → View
 after_acked v a b n = with_pair v b a (record (v.pair b a) { acked = at_least (v.pair b a).acked n })
 

@@ -22,6 +22,8 @@ machine_of (Untaken a b) = b
 abbrev pub is_fixed : Pid → Bool
 is_fixed q = (q.num == 0) || is_server q
 
+-- each message stands where its address leads and its receiver is known, or was; and addresses and what machines know name
+-- machines that there are
 pub record Found (pt : Point) : Type 0 where
   -- whatever stands somewhere was told of
   pub told : (i : MsgId) (z : Spot) → 1 ≤ standing pt.view i z → is_some (pt.view.told i) ≡ true

@@ -62,6 +62,7 @@ link_words l =
     ∷ codes "code" ∷ decimal l.code ∷ codes "channel" ∷ decimal l.channel
     ∷ codes "area" ∷ decimal l.area.base ∷ decimal l.area.len ∷ rights_word l.area.read l.area.write ∷ []
 
+-- the words of each line at the end of a run, a row a line
 abbrev pub end_words : EndLine → List (List ℕ)
 end_words end.Final = codes "final" ∷ []
 end_words (end.Ended p y) = codes "process" ∷ pid_word p ∷ codes "ended" ∷ decimal (why_code y) ∷ []

@@ -27,6 +27,7 @@ stage_word stage.MemoryTaken = codes "5"
 stage_word stage.Left = codes "7"
 stage_word stage.Restarted = codes "8"
 
+-- the words of a line, a row a line: first what it is, then what it names and counts
 abbrev pub words : Line → List (List ℕ)
 words (line.Head s) = head_words s
 words (line.Idle m) = codes "idle" ∷ decimal m ∷ []
@@ -64,6 +65,7 @@ abbrev pub spelled : List (List ℕ) → List ℕ
 spelled [] = codes "\n"
 spelled (w ∷ ws) = w ++ spaced ws ++ codes "\n"
 
+-- a line as it is printed
 abbrev pub text : Line → List ℕ
 text l = spelled (words l)
 

@@ -163,7 +163,7 @@ untaken w a c = drop (((w.nodes c).receivers a).count - ((w.nodes a).senders c).
 abbrev pub stream_line : WorldState → ℕ → ℕ → List Line
 stream_line w a c = if a == c then [] else list_line (end.Stream a c) (names_of (untaken w a c))
 
--- with so many machines
+-- all that a run of so many machines leaves behind, in the order in which it is printed
 abbrev pub end_lines : ℕ → WorldState → List Line
 end_lines machines w =
     says end.Final
