@@ -39,7 +39,7 @@ pub record Manager : Type 0 where
   pub pending : List Pending
   pub sent : ℕ
 
--- the whole system as if on one machine: processes, the messages that are on their way, and the two servers
+-- the whole system, wherever its parts are: processes by name, the bag of messages that nobody has got yet, and the two servers
 pub record OneKernel : Type 0 where
   pub format : Format
   -- how many machines have a kernel of their own name

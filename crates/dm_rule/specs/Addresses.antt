@@ -174,7 +174,7 @@ abbrev pub enclosed_from : Addresses → MsgId → ℕ → List PlainLink → Li
 enclosed_from a id k [] = []
 enclosed_from a id k (l ∷ ls) = a (Enclosed id k) ∷ enclosed_from a id (k + 1) ls
 
--- a process asks for a piece of a data move: over its link in slot r1, whose place its move keeps for the next pieces
+-- a process asks for the first piece of a data move: over its link in slot r1, whose place is then the owner's too
 abbrev pub requests : View → Addresses → Pid → PlainProcess → MsgId → List Gets
 requests v a p x id =
     gets (Receiver id) (a (Slot p (reg x.regs 1))) ∷ gets (Sender id) (here v p) ∷ gets (Owner p) (a (Slot p (reg x.regs 1))) ∷ []
@@ -417,12 +417,12 @@ abbrev pub manager_sends : View → Addresses → MsgId → ℕ → Option Plain
 manager_sends v a id code None = []
 manager_sends v a id code (Some sent) = manager_tells v a id code sent sent.what
 
--- what it answers, for a kernel, to whoever asked for a process: over the link kept with request n
+-- a kernel's answer is passed on to whoever asked for the process: over the link that was kept with request n
 abbrev pub manager_answers : View → Addresses → ℕ → Option PlainMessage → List Gets
 manager_answers v a n None = []
 manager_answers v a n (Some sent) = gets (Receiver sent.id) (a (Answer n)) ∷ gets (Sender sent.id) (unmoved v.acting) ∷ gets (Enclosed sent.id 0) (unmoved v.acting) ∷ []
 
--- the manager takes a message: a user's, or a kernel's answer to a request of its own, a row a kind
+-- the manager takes a message, a row a kind: a user's, or a kernel's answer to a request of its own
 abbrev pub manager_takes : OneKernel → View → Addresses → PlainMessage → PlainWhat → Option manage.Took → List Gets
 manager_takes s v a m w None = []
 manager_takes s v a m (what.User code channel body links) (Some t) = manager_sends v a m.id code t.message

@@ -76,7 +76,7 @@ pub data Phase : Type 0 where
   Over : (at : ℕ) → Phase
   Moves : (kind : MessageKind) → (source : ℕ) → (destination : ℕ) → (id : Option MsgId) → Phase
 
--- a machine that has nothing of a process, or forwards
+-- a process isn't on this machine: it knows nothing of it, or only where it went
 abbrev pub is_away : Known → Bool
 is_away Unknown = true
 is_away Here = false
@@ -85,7 +85,7 @@ is_away (Incoming from) = false
 is_away (Forward at moves) = true
 is_away Ended = false
 
--- a machine that knows nothing of a process
+-- nor did it ever come there
 abbrev pub is_unknown : Known → Bool
 is_unknown Unknown = true
 is_unknown Here = false
@@ -94,7 +94,7 @@ is_unknown (Incoming from) = false
 is_unknown (Forward at moves) = false
 is_unknown Ended = false
 
--- a machine where a process is
+-- it is here
 abbrev pub is_here : Known → Bool
 is_here Unknown = false
 is_here Here = true
@@ -103,7 +103,7 @@ is_here (Incoming from) = false
 is_here (Forward at moves) = false
 is_here Ended = false
 
--- a machine where a process has ended
+-- it has ended here
 abbrev pub is_over : Known → Bool
 is_over Unknown = false
 is_over Here = false
@@ -112,7 +112,7 @@ is_over (Incoming from) = false
 is_over (Forward at moves) = false
 is_over Ended = true
 
--- the destination may restart the process
+-- the message that lets the destination restart the process
 abbrev pub is_restart : MessageKind → Bool
 is_restart kind.Restart = true
 is_restart kind.User = false

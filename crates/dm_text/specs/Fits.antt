@@ -88,7 +88,7 @@ EndFits (end.Inbox m ids) = (m < 2 ^ 8) × All IdFits ids
 EndFits (end.Stream a b ids) = (a < 2 ^ 8) × (b < 2 ^ 8) × All IdFits ids
 EndFits (end.Groups g) = g < 2 ^ 128
 
--- each number of a line fits its field, so that its text is read back as this line
+-- each number of a line is within its type, a row a line
 abbrev pub LineFits : Line → Type 0
 LineFits (line.Head s) = StepFits s
 LineFits (line.Idle m) = m < 2 ^ 8
