@@ -4,7 +4,6 @@ ghost use Rattle.dm_movelaws.specs.AtRest.{AtRestAlways, DropsAlways};
 ghost use Rattle.dm_movelaws.specs.Counts.{CountsKept, CountsStay};
 ghost use Rattle.dm_movelaws.specs.Ends.{EndsAlways};
 ghost use Rattle.dm_movelaws.specs.Lists.{ListsAlways};
-ghost use Rattle.dm_movelaws.specs.Open.{OpenMoves};
 ghost use Rattle.dm_movelaws.specs.Numbers.{NumbersAlways};
 ghost use Rattle.dm_movelaws.specs.Open.{OpenMoves, OpenSpares};
 ghost use Rattle.dm_movelaws.specs.Promise.{PromisesAlways};
@@ -67,8 +66,9 @@ pub fn at_rest_always()
     ensures { AtRestAlways }
 {}
 
-/// Wherever the rule leads from a boot file, each directive to move a process has at most one end, and exactly one where nothing is
-/// on its way between machines: the manager has no such child, it is a server, it was there already, had ended, moved, or stays.
+/// Wherever the rule leads from a boot file, directives to move a process have come to no more ends than there were directives, and
+/// to as many where nothing is on its way between machines: the manager has no such child, it is a server, it was there already, had
+/// ended, moved, or stays.
 pub fn ends_always()
     ensures { EndsAlways }
 {}
