@@ -64,6 +64,8 @@ pub mod EndsGroups
 pub mod EndsSources
 pub mod EndsQuiet
 pub mod EndsAlways
+pub mod ForwardsRows
+pub mod ForwardsTold
 pub mod Worked
 pub mod OpenMoves
 pub mod OpenSpares

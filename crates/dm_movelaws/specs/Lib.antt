@@ -9,3 +9,4 @@ pub mod Lists
 pub mod Open
 pub mod Numbers
 pub mod Real
+pub mod Forwards

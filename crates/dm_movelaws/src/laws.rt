@@ -6,6 +6,7 @@ ghost use Rattle.dm_movelaws.specs.Ends.{EndsAlways};
 ghost use Rattle.dm_movelaws.specs.Lists.{ListsAlways};
 ghost use Rattle.dm_movelaws.specs.Numbers.{NumbersAlways};
 ghost use Rattle.dm_movelaws.specs.Open.{OpenMoves, OpenSpares};
+ghost use Rattle.dm_movelaws.specs.Forwards.{ForwardsTell};
 ghost use Rattle.dm_movelaws.specs.Promise.{PromisesAlways};
 ghost use Rattle.dm_movelaws.specs.Real.{RealAlways};
 ghost use Rattle.dm_movelaws.specs.Stages.{StepsInOrder};
@@ -117,4 +118,9 @@ pub fn numbers_always()
 /// or a process that was made.
 pub fn real_always()
     ensures { RealAlways }
+/// Wherever the rule leads from a boot file, a group that says that a message goes on to another machine, of a kind whose sender is
+/// told, goes by the forwarding address of the machine that acts; and behind it a new update is under way that tells the sender this
+/// address.
+pub fn forwards_tell()
+    ensures { ForwardsTell }
 {}
