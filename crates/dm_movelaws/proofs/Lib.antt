@@ -66,6 +66,7 @@ pub mod EndsQuiet
 pub mod EndsAlways
 pub mod ForwardsRows
 pub mod ForwardsTold
+pub mod ForwardsLinks
 pub mod Worked
 pub mod OpenMoves
 pub mod OpenSpares

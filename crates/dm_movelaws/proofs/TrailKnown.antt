@@ -1,8 +1,8 @@
 -- Wherever the rule leads there are trails that all addresses are on; where a process doesn't move, its trail ends where it is.
-use Rattle.std.proofs.Common.{◌≡◌, ℕ, ◌+◌, ◌==◌, not, Bool, true, false, List, [], ◌∷◌, length, refl, ap, ◌∙◌, sym, subst, arith}
+use Rattle.std.proofs.Common.{◌≡◌, ◌≢◌, ℕ, ◌+◌, ◌==◌, not, Bool, true, false, List, [], ◌∷◌, length, refl, ap, ◌∙◌, sym, subst, inl, inr, arith}
 use Rattle.std.proofs.lemmas.Bool.{false≢true}
 use Rattle.std.proofs.lemmas.Bool.Decides.{nat_tests}
-use Rattle.std.specs.Prelude.{if◌then◌else◌}
+use Rattle.std.specs.Prelude.{if◌then◌else◌, slice_get}
 use Rattle.std.specs.declared.option.Option.{Option}
 use Rattle.std.specs.declared.option.Option.TheVariants.{Some}
 use Rattle.dm_link.specs.declared.Pid.{Pid}
@@ -23,6 +23,7 @@ use Rattle.dm_rule.proofs.TrailsAlong.{along_treads}
 use Rattle.dm_rule.proofs.TrailsFound.{treads_start}
 use Rattle.dm_rule.proofs.TrailsTreads.{Treads}
 use Rattle.dm_movelaws.specs.AtRest.{is_moving}
+use Rattle.dm_movelaws.specs.Links.{IsThere}
 use Rattle.dm_movelaws.proofs.After.{group_after}
 use Rattle.dm_movelaws.proofs.PromiseTrail.{TrailKnown}
 use Rattle.dm_movelaws.proofs.StagesSpares.{restart_late}
@@ -125,6 +126,36 @@ long_in v t p (Rests at) h on still = on.long at (here_held (v.known at p) (at_s
 long_in v t p (Over at) h on still = on.long at (over_held (v.known at p) (at_self at (is_over (v.known at p)) (is_away (v.known at p)) (h.known at)))
 long_in v t p (Moves k s d o) h on still = absurd (never_moves v p k s d o h still)
 
+-- and it is there
+here_is : (x : Known) → is_here x ≡ true → x ≡ Here
+here_is Here e = refl
+here_is Unknown e = absurd (false≢true e)
+here_is (Frozen to) e = absurd (false≢true e)
+here_is (Incoming from) e = absurd (false≢true e)
+here_is (Forward at moves) e = absurd (false≢true e)
+here_is Ended e = absurd (false≢true e)
+
+over_is : (x : Known) → is_over x ≡ true → x ≡ Ended
+over_is Ended e = refl
+over_is Unknown e = absurd (false≢true e)
+over_is Here e = absurd (false≢true e)
+over_is (Frozen to) e = absurd (false≢true e)
+over_is (Incoming from) e = absurd (false≢true e)
+over_is (Forward at moves) e = absurd (false≢true e)
+
+away_at : (x y c : Bool) → c ≡ false → (if c then x else y) ≡ true → y ≡ true
+away_at x y c off e = sym (ap (λ (d : Bool). if d then x else y) off) ∙ e
+
+there_in : (v : View) (t : Trails) (p : Pid) (phase : Phase) (n : ℕ) → IsIn v p phase → Placed v t p → ((m : ℕ) → is_moving (v.known m p) ≡ false) → v.known n p ≢ Unknown → (m : ℕ) × (slice_get (t p) (v.moves p) ≡ Some m) × IsThere v p m
+there_in v t p Nowhere n h on still some = absurd (some (unknown_is (v.known n p) (h.known n)))
+there_in v t p (Rests at) n h on still some =
+    let here = at_self at (is_here (v.known at p)) (is_away (v.known at p)) (h.known at) in
+    (at, on.now at (here_held (v.known at p) here), record { now = inl (here_is (v.known at p) here); away = λ m off. away_at (is_here (v.known m p)) (is_away (v.known m p)) (at == m) off (h.known m) })
+there_in v t p (Over at) n h on still some =
+    let over = at_self at (is_over (v.known at p)) (is_away (v.known at p)) (h.known at) in
+    (at, on.now at (over_held (v.known at p) over), record { now = inr (over_is (v.known at p) over); away = λ m off. away_at (is_over (v.known m p)) (is_away (v.known m p)) (at == m) off (h.known m) })
+there_in v t p (Moves k s d o) n h on still some = absurd (never_moves v p k s d o h still)
+
 -- wherever the rule leads
 pub trail_known : TrailKnown
 trail_known b es pt valid leads =
@@ -136,5 +167,6 @@ trail_known b es pt valid leads =
         addresses = h.treads.links;
         about = h.treads.own.about;
         long = λ p still. long_in pt.view h.trails p (phases.of p) (phases.each p) (h.holds.places p) still;
+        there = λ p n still some. there_in pt.view h.trails p (phases.of p) n (phases.each p) (h.holds.places p) still some;
       },
     )

@@ -10,3 +10,4 @@ pub mod Open
 pub mod Numbers
 pub mod Real
 pub mod Forwards
+pub mod Links

@@ -7,6 +7,7 @@ ghost use Rattle.dm_movelaws.specs.Lists.{ListsAlways};
 ghost use Rattle.dm_movelaws.specs.Numbers.{NumbersAlways};
 ghost use Rattle.dm_movelaws.specs.Open.{OpenMoves, OpenSpares};
 ghost use Rattle.dm_movelaws.specs.Forwards.{ForwardsTell};
+ghost use Rattle.dm_movelaws.specs.Links.{CountsPromise};
 ghost use Rattle.dm_movelaws.specs.Promise.{PromisesAlways};
 ghost use Rattle.dm_movelaws.specs.Real.{RealAlways};
 ghost use Rattle.dm_movelaws.specs.Stages.{StepsInOrder};
@@ -123,4 +124,11 @@ pub fn real_always()
 /// address.
 pub fn forwards_tell()
     ensures { ForwardsTell }
+{}
+
+/// Wherever the rule leads from a boot file and beyond: where all is at rest, a process that sent along a stale link and was told of
+/// it has, in the slots it hasn't filled since, links that name where the other now is. The update of the forward was handled by then;
+/// and the other is at the place that it told, or has ended there, or has moved more often since.
+pub fn counts_promise()
+    ensures { CountsPromise }
 {}
