@@ -67,6 +67,7 @@ pub mod EndsAlways
 pub mod ForwardsRows
 pub mod ForwardsTold
 pub mod ForwardsLinks
+pub mod PendingOrder
 pub mod Worked
 pub mod OpenMoves
 pub mod OpenSpares

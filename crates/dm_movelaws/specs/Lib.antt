@@ -11,3 +11,4 @@ pub mod Numbers
 pub mod Real
 pub mod Forwards
 pub mod Links
+pub mod Pending

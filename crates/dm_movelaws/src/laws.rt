@@ -8,6 +8,7 @@ ghost use Rattle.dm_movelaws.specs.Numbers.{NumbersAlways};
 ghost use Rattle.dm_movelaws.specs.Open.{OpenMoves, OpenSpares};
 ghost use Rattle.dm_movelaws.specs.Forwards.{ForwardsTell};
 ghost use Rattle.dm_movelaws.specs.Links.{CountsPromise};
+ghost use Rattle.dm_movelaws.specs.Pending.{PendingAscends};
 ghost use Rattle.dm_movelaws.specs.Promise.{PromisesAlways};
 ghost use Rattle.dm_movelaws.specs.Real.{RealAlways};
 ghost use Rattle.dm_movelaws.specs.Stages.{StepsInOrder};
@@ -131,4 +132,10 @@ pub fn forwards_tell()
 /// and the other is at the place that it told, or has ended there, or has moved more often since.
 pub fn counts_promise()
     ensures { CountsPromise }
+{}
+
+/// Wherever the rule leads from a boot file, the manager's pending requests to make processes ascend by their numbers, below the
+/// count of the messages that it has sent: each stands there once, in the order in which they were sent.
+pub fn pending_ascends()
+    ensures { PendingAscends }
 {}

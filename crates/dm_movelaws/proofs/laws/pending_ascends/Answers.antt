@@ -1,0 +1,5 @@
+use Rattle.dm_movelaws.proofs.PendingOrder.{pending_ascends}
+use Rattle.dm_movelaws.proofs.laws.pending_ascends.Goals as goal
+
+pub returns : goal.returns
+returns c = pending_ascends
