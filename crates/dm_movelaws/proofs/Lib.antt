@@ -68,6 +68,9 @@ pub mod ForwardsRows
 pub mod ForwardsTold
 pub mod ForwardsLinks
 pub mod PendingOrder
+pub mod PendingPairs
+pub mod PendingSteps
+pub mod PendingAlways
 pub mod Worked
 pub mod OpenMoves
 pub mod OpenSpares

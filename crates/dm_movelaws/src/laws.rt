@@ -8,7 +8,7 @@ ghost use Rattle.dm_movelaws.specs.Numbers.{NumbersAlways};
 ghost use Rattle.dm_movelaws.specs.Open.{OpenMoves, OpenSpares};
 ghost use Rattle.dm_movelaws.specs.Forwards.{ForwardsTell};
 ghost use Rattle.dm_movelaws.specs.Links.{CountsPromise};
-ghost use Rattle.dm_movelaws.specs.Pending.{PendingAscends};
+ghost use Rattle.dm_movelaws.specs.Pending.{PendingAscends, PendingHasOne};
 ghost use Rattle.dm_movelaws.specs.Promise.{PromisesAlways};
 ghost use Rattle.dm_movelaws.specs.Real.{RealAlways};
 ghost use Rattle.dm_movelaws.specs.Stages.{StepsInOrder};
@@ -138,4 +138,10 @@ pub fn counts_promise()
 /// count of the messages that it has sent: each stands there once, in the order in which they were sent.
 pub fn pending_ascends()
     ensures { PendingAscends }
+{}
+
+/// Wherever the rule leads from a boot file, each pending request of the manager's has exactly one message in the bag under its
+/// number, the request or the answer to it; and each such message is of a pending request.
+pub fn pending_has_one()
+    ensures { PendingHasOne }
 {}

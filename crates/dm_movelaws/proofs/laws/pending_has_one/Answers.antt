@@ -1,0 +1,5 @@
+use Rattle.dm_movelaws.proofs.PendingAlways.{pending_has_one}
+use Rattle.dm_movelaws.proofs.laws.pending_has_one.Goals as goal
+
+pub returns : goal.returns
+returns c = pending_has_one
