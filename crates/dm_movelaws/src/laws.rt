@@ -120,6 +120,8 @@ pub fn numbers_always()
 /// or a process that was made.
 pub fn real_always()
     ensures { RealAlways }
+{}
+
 /// Wherever the rule leads from a boot file, a group that says that a message goes on to another machine, of a kind whose sender is
 /// told, goes by the forwarding address of the machine that acts; and behind it a new update is under way that tells the sender this
 /// address.
