@@ -78,3 +78,7 @@ pub mod NumbersAlways
 pub mod RealRows
 pub mod RealLines
 pub mod RealAlways
+pub mod OpenQuiet
+pub mod OpenApart
+pub mod OpenStays
+pub mod OpenWorked

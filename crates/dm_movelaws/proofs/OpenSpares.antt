@@ -61,7 +61,7 @@ coming_not k s view.Ended y e r a = false≢true e
 same_eq : (n : ℕ) → (n == n) ≡ true
 same_eq n = grind (arith, nat_tests)
 
-source_knows : (k : MessageKind) (s d : ℕ) (id : Option MsgId) (n : Known) → knows (Moves k s d id) s n ≡ true → leaves k d n ≡ true
+pub source_knows : (k : MessageKind) (s d : ℕ) (id : Option MsgId) (n : Known) → knows (Moves k s d id) s n ≡ true → leaves k d n ≡ true
 source_knows k s d id n e = sym (ap (λ (c : Bool). if c then leaves k d n else if d == s then comes k s n else is_away n) (same_eq s)) ∙ e
 
 apart_is : (b : Bool) (s d : ℕ) → (b && not (s == d)) ≡ true → (s == d) ≡ false

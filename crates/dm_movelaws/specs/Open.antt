@@ -1,5 +1,5 @@
 -- What a process that moves is spared, by the printed lines: from its line of step 1 on, until step 8 or `stays` is said of it.
-use Rattle.std.specs.Prelude.{◌≡◌, ◌≢◌, Bool, true, false, is_some, List, [], ◌∷◌, ◌++◌}
+use Rattle.std.specs.Prelude.{◌≡◌, ◌≢◌, ⊤, Bool, true, false, is_some, List, [], ◌∷◌, ◌++◌}
 use Rattle.std.specs.declared.option.Option.{Option}
 use Rattle.std.specs.declared.option.Option.TheVariants.{None, Some}
 use Rattle.dm_link.specs.declared.Pid.{Pid}
@@ -8,15 +8,19 @@ use Rattle.dm_message.specs.declared.kind.MessageKind.{MessageKind}
 use Rattle.dm_message.specs.declared.kind.MessageKind.TheVariants as kind
 use Rattle.dm_message.specs.Plain.{PlainMessage}
 use Rattle.dm_onekernel.specs.declared.boot.Boot.{Boot}
+use Rattle.dm_onekernel.specs.declared.label.Label.{Label}
 use Rattle.dm_onekernel.specs.declared.label.Label.TheVariants as label
 use Rattle.dm_onekernel.specs.Boot.{IsValid}
+use Rattle.dm_onekernel.specs.Kernel.{OneKernel}
+use Rattle.dm_onekernel.specs.Start.{start}
+use Rattle.dm_onekernel.specs.Step.{replay}
 use Rattle.dm_schedule.specs.declared.Step.{Step}
 use Rattle.dm_rule.specs.declared.line.Line.{Line}
 use Rattle.dm_rule.specs.declared.line.Line.TheVariants as line
 use Rattle.dm_rule.specs.Apart.{AllSpare}
 use Rattle.dm_rule.specs.Parts.{Spelled}
 use Rattle.dm_rule.specs.Phases.{Phase, Nowhere, Rests, Over, Moves, is_due, IsIn}
-use Rattle.dm_rule.specs.Point.{Point, first_point, after}
+use Rattle.dm_rule.specs.Point.{Point, label_of, labels, kernel_after, first_point, after}
 use Rattle.dm_rule.specs.Rule.{group_of}
 use Rattle.dm_rulelaws.specs.Order.{LeadsBy}
 use Rattle.dm_movelaws.specs.Stages.{Mark, Reached, Lacking, marks, left_open}
@@ -86,3 +90,44 @@ pub record IsSpared (pt : Point) (w : Spelled) (p : Pid) : Type 0 where
 abbrev pub OpenSpares : Type 0
 OpenSpares =
     (b : Boot) (es : List Step) (ls : List Line) (pt : Point) (d : Step) (w : Spelled) (p : Pid) → IsValid b → LeadsBy b (first_point b) es ls pt → is_open p ls ≡ true → group_of b pt d ≡ Some w → IsSpared pt w p
+
+-- the message of this name isn't for the process
+abbrev pub IsNotFor : OneKernel → Pid → MsgId → Type 0
+IsNotFor s p id = (m : PlainMessage) → s.bag id ≡ Some m → m.to ≢ p
+
+-- a step of the kernel without machines is another's: it isn't the process's, and the message that it is about isn't for the
+-- process; a row a label
+abbrev pub IsAnothers : OneKernel → Pid → Label → Type 0
+IsAnothers s p (label.Ran q k) = q ≢ p
+IsAnothers s p (label.Call q n c) = q ≢ p
+IsAnothers s p (label.Send q id) = q ≢ p
+IsAnothers s p (label.Wait q) = q ≢ p
+IsAnothers s p (label.Out q w) = q ≢ p
+IsAnothers s p (label.End q y) = q ≢ p
+IsAnothers s p (label.Receive q id) = q ≢ p
+IsAnothers s p (label.Refuse q id c) = q ≢ p
+IsAnothers s p (label.Dropped id) = IsNotFor s p id
+IsAnothers s p (label.Served id) = IsNotFor s p id
+IsAnothers s p (label.Gone id) = IsNotFor s p id
+IsAnothers s p (label.Took id) = IsNotFor s p id
+IsAnothers s p (label.Created id q) = (q ≢ p) × IsNotFor s p id
+IsAnothers s p (label.NoSpace id a b) = IsNotFor s p id
+
+-- the step that a line is, if it is one
+abbrev pub IsAnothersIf : OneKernel → Pid → Option Label → Type 0
+IsAnothersIf s p None = ⊤
+IsAnothersIf s p (Some l) = IsAnothers s p l
+
+-- a line behind others: where their labels lead, it is another's, and leaves the process's plain value
+pub record StaysAt (b : Boot) (earlier : List Line) (l : Line) (p : Pid) : Type 0 where
+  pub before : OneKernel
+  pub comes : replay (start b) (labels earlier) ≡ Some before
+  pub behind : OneKernel
+  pub goes : kernel_after before (label_of l) ≡ Some behind
+  pub anothers : IsAnothersIf before p (label_of l)
+  pub same : behind.processes p ≡ before.processes p
+
+-- each line between a process's step 1 and its step 8 or `stays` is another's, and leaves its plain value
+abbrev pub OpenStays : Type 0
+OpenStays =
+    (b : Boot) (es : List Step) (ls earlier later : List Line) (l : Line) (pt : Point) (p : Pid) → IsValid b → LeadsBy b (first_point b) es ls pt → ls ≡ earlier ++ l ∷ later → is_open p earlier ≡ true → StaysAt b earlier l p
