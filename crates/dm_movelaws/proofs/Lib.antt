@@ -81,4 +81,5 @@ pub mod RealAlways
 pub mod OpenQuiet
 pub mod OpenApart
 pub mod OpenStays
+pub mod OpenKeeps
 pub mod OpenWorked

@@ -131,3 +131,14 @@ pub record StaysAt (b : Boot) (earlier : List Line) (l : Line) (p : Pid) : Type 
 abbrev pub OpenStays : Type 0
 OpenStays =
     (b : Boot) (es : List Step) (ls earlier later : List Line) (l : Line) (pt : Point) (p : Pid) → IsValid b → LeadsBy b (first_point b) es ls pt → ls ≡ earlier ++ l ∷ later → is_open p earlier ≡ true → StaysAt b earlier l p
+
+-- each of these lines is said while a migration of the process is open
+abbrev pub AllOpen : Pid → List Line → List Line → Type 0
+AllOpen p earlier [] = ⊤
+AllOpen p earlier (l ∷ ls) = (is_open p earlier ≡ true) × AllOpen p (earlier ++ l ∷ []) ls
+
+-- so between a process's step 1 and its step 8 or `stays` its plain value is the same behind all lines
+abbrev pub OpenKeeps : Type 0
+OpenKeeps =
+    (b : Boot) (es : List Step) (ls earlier between later : List Line) (pt : Point) (p : Pid) (s t : OneKernel) → IsValid b → LeadsBy b (first_point b) es ls pt → ls ≡ earlier ++ (between ++ later) → AllOpen p earlier between
+    → replay (start b) (labels earlier) ≡ Some s → replay s (labels between) ≡ Some t → t.processes p ≡ s.processes p

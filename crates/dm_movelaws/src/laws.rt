@@ -10,6 +10,7 @@ ghost use Rattle.dm_movelaws.specs.Forwards.{ForwardsTell};
 ghost use Rattle.dm_movelaws.specs.Links.{CountsPromise};
 ghost use Rattle.dm_movelaws.specs.Pending.{PendingAscends, PendingHasOne};
 ghost use Rattle.dm_movelaws.specs.Open.{OpenMoves, OpenSpares, OpenStays};
+ghost use Rattle.dm_movelaws.specs.Open.{OpenMoves, OpenSpares, OpenStays, OpenKeeps};
 ghost use Rattle.dm_movelaws.specs.Promise.{PromisesAlways};
 ghost use Rattle.dm_movelaws.specs.Real.{RealAlways};
 ghost use Rattle.dm_movelaws.specs.Stages.{StepsInOrder};
@@ -152,4 +153,10 @@ pub fn pending_has_one()
 /// doesn't change.
 pub fn open_stays()
     ensures { OpenStays }
+{}
+
+/// Wherever the rule leads from a boot file: between the line of step 1 of a process and its step 8 or `stays`, its plain value is
+/// the same behind all lines.
+pub fn open_keeps()
+    ensures { OpenKeeps }
 {}
