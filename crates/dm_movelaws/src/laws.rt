@@ -5,11 +5,9 @@ ghost use Rattle.dm_movelaws.specs.Counts.{CountsKept, CountsStay};
 ghost use Rattle.dm_movelaws.specs.Ends.{EndsAlways};
 ghost use Rattle.dm_movelaws.specs.Lists.{ListsAlways};
 ghost use Rattle.dm_movelaws.specs.Numbers.{NumbersAlways};
-ghost use Rattle.dm_movelaws.specs.Open.{OpenMoves, OpenSpares};
 ghost use Rattle.dm_movelaws.specs.Forwards.{ForwardsTell};
 ghost use Rattle.dm_movelaws.specs.Links.{CountsPromise};
 ghost use Rattle.dm_movelaws.specs.Pending.{PendingAscends, PendingHasOne};
-ghost use Rattle.dm_movelaws.specs.Open.{OpenMoves, OpenSpares, OpenStays};
 ghost use Rattle.dm_movelaws.specs.Open.{OpenMoves, OpenSpares, OpenStays, OpenKeeps};
 ghost use Rattle.dm_movelaws.specs.Promise.{PromisesAlways};
 ghost use Rattle.dm_movelaws.specs.Real.{RealAlways};
@@ -148,6 +146,8 @@ pub fn pending_ascends()
 /// number, the request or the answer to it; and each such message is of a pending request.
 pub fn pending_has_one()
     ensures { PendingHasOne }
+{}
+
 /// Wherever the rule leads from a boot file: between the line of step 1 of a process and its step 8 or `stays`, no line is a ran,
 /// call, send, wait, out, end, receive or refuse of that process, no message for it is served, dropped or gone, and its plain value
 /// doesn't change.
