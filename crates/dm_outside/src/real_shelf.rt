@@ -2,7 +2,7 @@
 //! name stands in none.
 ghost use Rattle.std.specs.Prelude.{◌≡◌, ◌<◌, ◌≤◌, ◌+◌, ◌==◌, ◌&&◌, length, ⊤, None, IfOk, OnOk, OnErr, IfSome};
 ghost use Rattle.std.specs.Str.{bytes_eq};
-ghost use Rattle.dm_outside.specs.Outside.{RoseOrFull};
+ghost use Rattle.dm_outside.specs.Outside.{RoseOrFull, counted};
 ghost use Rattle.dm_outside.specs.Real.{GoesOn, ReadsReal};
 
 use crate::{Failed, Shelf};
@@ -88,6 +88,7 @@ impl<R: Files> Shelf for RealShelf<R> {
         ensures failed { OnErr result (RoseOrFull self.old.faults self.new.faults) }
         ensures steady { OnOk result (self.new.faults ≡ self.old.faults) }
         ensures counts { self.old.faults ≤ self.new.faults }
+        ensures one_more { OnErr result (self.new.faults ≡ counted self.old.faults) }
         ensures asks { ⊤ }
         ensures reads { IfOk result (λ n. ReadsReal R.File R.File.remaining self.old.opened self.new.opened name.now from n into.new) }
         ensures closes { OnErr result (self.new.opened ≡ None) }

@@ -1,7 +1,7 @@
 //! The sink over a writer, as standard output is one: what the writer tells of its bytes stands in the contract.
 ghost use Rattle.std.specs.Prelude.{◌≡◌, ◌<◌, ◌≤◌, length, take, IfOk, OnOk, OnErr};
 ghost use Rattle.std.specs.Io.KnownBytes.{Appends, Keeps};
-ghost use Rattle.dm_outside.specs.Outside.{RoseOrFull};
+ghost use Rattle.dm_outside.specs.Outside.{RoseOrFull, counted};
 
 use crate::{Failed, Sink};
 use std::io::Write;
@@ -51,6 +51,7 @@ impl<W: Write> Sink for RealSink<W> {
         ensures failed { OnErr result (RoseOrFull self.old.faults self.new.faults) }
         ensures steady { OnOk result (self.new.faults ≡ self.old.faults) }
         ensures counts { self.old.faults ≤ self.new.faults }
+        ensures one_more { OnErr result (self.new.faults ≡ counted self.old.faults) }
         ensures appends { IfOk result (λ n. Appends (W.contents self.old.to) (W.contents self.new.to) (take n from.now)) }
         ensures keeps { OnErr result (Keeps (W.contents self.old.to) (W.contents self.new.to)) }
     {

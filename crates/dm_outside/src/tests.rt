@@ -141,6 +141,18 @@ fn reads_real_files_on(rt: HostRuntime) -> Result<(), Fail> {
     );
     assert_eq!(rt; done, 11);
     assert_eq!(rt; shelf.faults(), 5);
+    // The first file under a name of some 3,800 bytes.
+    let mut long = format!(in rt.alloc(); "{}", dir.display())?;
+    for _ in 0..1_900 {
+        long.push_str("/.")?;
+    }
+    long.push_str("/real_file_")?;
+    let number = format!(in rt.alloc(); "{id}")?;
+    long.push_str(number.as_str())?;
+    assert_eq!(rt;
+        reads_so(&mut shelf, &[(long.as_str(), 0, Ok(4), b"abcd")]),
+        1
+    );
     fs::remove_file(&rt, first.as_str())?;
     fs::remove_file(&rt, second.as_str())?;
     Ok(())
