@@ -1,5 +1,6 @@
 //! Room by worked numbers.
 use crate::{Lacks, Room};
+use std::test::Fail;
 
 /// One slot and one block: two blocks are lacking, one is there, and then not even a process without blocks fits.
 #[test]
@@ -40,4 +41,16 @@ fn released_room_is_free(rt: HostRuntime) {
     assert_eq!(rt; room.free(), (1, 0));
     room.release(3);
     assert_eq!(rt; room.free(), (2, 3));
+}
+
+/// A refusal in words.
+#[test]
+fn what_is_free_in_words(rt: HostRuntime) -> Result<(), Fail> {
+    let lacks = Lacks {
+        free_slots: 1,
+        free_blocks: 20,
+    };
+    let words = format!(in rt.alloc(); "{lacks}")?;
+    assert!(rt; words.as_str() == "1 slots and 20 blocks are free");
+    Ok(())
 }
