@@ -137,3 +137,27 @@ fn each_kind_read_and_written(rt: HostRuntime) -> Result<(), Fail> {
     }
     Ok(())
 }
+
+/// What is said of bytes that break a rule.
+#[test]
+fn the_rules_in_words(rt: HostRuntime) -> Result<(), Fail> {
+    let rows = [
+        (Bad::Missing, "bytes are missing"),
+        (Bad::Version, "the version isn't 4"),
+        (Bad::PacketKind, "neither data nor an acknowledgement"),
+        (Bad::Machine, "no such machine, or the sender's own"),
+        (Bad::MessageKind, "no such kind of message"),
+        (Bad::Answer, "not the answer byte of the message's kind"),
+        (
+            Bad::Flags,
+            "flags that no enclosed link has, or a yes or no that is neither",
+        ),
+        (Bad::Limit, "a number outside its limits"),
+        (Bad::Trailing, "bytes stand after the end"),
+    ];
+    for (bad, words) in rows {
+        let said = format!(in rt.alloc(); "{bad}")?;
+        assert!(rt; said.as_str() == words);
+    }
+    Ok(())
+}
