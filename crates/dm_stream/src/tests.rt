@@ -1,6 +1,6 @@
 //! Streams by worked numbers.
-use crate::{Arrived, GiveNo, Receiver, Sender};
-use std::alloc::Global;
+use crate::{Arrived, GiveNo, NoMemory, Receiver, Sender};
+use std::alloc::{AllocError, Global};
 use std::process::Abort;
 use std::test::Fail;
 
@@ -116,4 +116,21 @@ fn worn(rt: HostRuntime) {
     assert!(rt; sender.give(12).is_ok());
     assert!(rt; matches!(sender.give(13), Err(GiveNo::Worn(13))));
     assert_eq!(rt; sender.given(), 3);
+}
+
+/// Both refusals in words.
+#[test]
+fn refusals_in_words(rt: HostRuntime) -> Result<(), Fail> {
+    let rows = [
+        (GiveNo::Worn(13u8), "all numbers of the stream are used"),
+        (
+            GiveNo::NoMemory(13, NoMemory::from(AllocError)),
+            "out of memory",
+        ),
+    ];
+    for (no, words) in rows {
+        let said = format!(in rt.alloc(); "{no}")?;
+        assert!(rt; said.as_str() == words);
+    }
+    Ok(())
 }
