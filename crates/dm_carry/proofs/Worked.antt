@@ -2,7 +2,7 @@
 use Rattle.std.proofs.Common.{◌≡◌, ℕ, true, false, List, [], ◌∷◌, ◌++◌, replicate, slice_set, Option, None, Some, Result, Ok, Err, refl}
 use Rattle.dm_link.specs.declared.Kind.TheVariants.{General, Reply}
 use Rattle.dm_process.specs.declared.process.Direction.TheVariants.{IntoArea}
-use Rattle.dm_process.specs.declared.process.Status.TheVariants.{Ready, Moving}
+use Rattle.dm_process.specs.declared.process.Status.TheVariants.{Ready, Waiting, Moving}
 use Rattle.dm_carry.specs.declared.CarryBad.{CarryBad}
 use Rattle.dm_carry.specs.declared.CarryBad.TheVariants as carry
 use Rattle.dm_carry.specs.declared.Shell.{Shell}
@@ -105,3 +105,28 @@ pub moving_with_a_byte_changed :
     ≡ None ∷ Some carry.Flags ∷ Some carry.Machine ∷ Some carry.Machine ∷ Some carry.Limit ∷ Some carry.Limit ∷ Some carry.Limit ∷ Some carry.Limit ∷ Some carry.Flags ∷ Some carry.Flags ∷ Some carry.Limit ∷ Some carry.Limit ∷ []
 unfolding registers shell_of_bytes
 moving_with_a_byte_changed = refl
+
+-- the fresh process where it waits for a message on one of five channels, into the last 184 bytes of its block
+abbrev waiting : Shell
+waiting = record fresh { status = Waiting 16909060 72 184 }
+
+abbrev waiting_bytes : List ℕ
+waiting_bytes = (3 ∷ 0 ∷ 0 ∷ 0 ∷ 0 ∷ 3 ∷ 0 ∷ 1 ∷ 0 ∷ 1 ∷ 1 ∷ 2 ∷ 3 ∷ 4 ∷ 0 ∷ 0 ∷ 0 ∷ 72 ∷ 0 ∷ 0 ∷ 0 ∷ 184 ∷ []) ++ replicate 92 0
+
+pub waiting_is_spelled : spelling waiting ≡ waiting_bytes
+unfolding registers spelling
+waiting_is_spelled = refl
+
+pub waiting_is_read : shell_of_bytes waiting_bytes 32 ≡ Ok waiting
+unfolding registers shell_of_bytes
+waiting_is_read = refl
+
+-- the buffer's beginning and its size
+pub waiting_with_a_byte_changed :
+    (broken_with waiting_bytes 10 255
+    ∷ broken_with waiting_bytes 17 73
+    ∷ broken_with waiting_bytes 21 185
+    ∷ broken_with waiting_bytes 21 183 ∷ [])
+    ≡ None ∷ Some carry.Limit ∷ Some carry.Limit ∷ None ∷ []
+unfolding registers shell_of_bytes
+waiting_with_a_byte_changed = refl

@@ -95,3 +95,24 @@ fn a_process_that_moves_data(rt: HostRuntime) -> Result<(), Fail> {
     assert!(rt; packed_again(rt.alloc(), &bytes)?.as_slice() == bytes.as_slice());
     Ok(())
 }
+
+#[test]
+fn each_rule_has_a_number_and_a_text(rt: HostRuntime) -> Result<(), Fail> {
+    let rows = [
+        (CarryBad::Missing, 1, "bytes are missing"),
+        (CarryBad::Version, 2, "the version isn't 3"),
+        (CarryBad::Machine, 3, "no such machine"),
+        (
+            CarryBad::Flags,
+            4,
+            "a byte that stands for nothing, or flags that no link of a process has",
+        ),
+        (CarryBad::Limit, 5, "a number outside its limits"),
+        (CarryBad::Trailing, 6, "bytes stand after the end"),
+    ];
+    for (rule, number, text) in rows {
+        assert!(rt; rule.number() == number);
+        assert!(rt; format!(in rt.alloc(); "{rule}")?.as_str() == text);
+    }
+    Ok(())
+}
