@@ -51,6 +51,35 @@ fn each_form(rt: HostRuntime) {
     assert!(rt; gives(rt.alloc(), "bltu r1 r2 l\nl:", &[19, 1, 2, 0]));
 }
 
+/// Every instruction: its number, and where its operands stand.
+#[test]
+fn each_instruction(rt: HostRuntime) {
+    for (text, bytes) in [
+        ("li r1 258", [1, 1, 1, 2]),
+        ("lih r2 772", [2, 2, 3, 4]),
+        ("mov r3 r4", [3, 3, 4, 0]),
+        ("add r1 r2 r3", [4, 1, 2, 3]),
+        ("sub r2 r3 r4", [5, 2, 3, 4]),
+        ("mul r3 r4 r5", [6, 3, 4, 5]),
+        ("and r4 r5 r6", [7, 4, 5, 6]),
+        ("or r5 r6 r7", [8, 5, 6, 7]),
+        ("xor r6 r7 r8", [9, 6, 7, 8]),
+        ("shl r7 r8 r9", [10, 7, 8, 9]),
+        ("shr r8 r9 r10", [11, 8, 9, 10]),
+        ("lw r9 r10 11", [12, 9, 10, 11]),
+        ("sw r10 r11 12", [13, 10, 11, 12]),
+        ("lb r11 r12 13", [14, 11, 12, 13]),
+        ("sb r12 r13 14", [15, 12, 13, 14]),
+        ("jmp 515", [16, 0, 2, 3]),
+        ("l: beq r1 r2 l", [17, 1, 2, 255]),
+        ("l: bne r2 r3 l", [18, 2, 3, 255]),
+        ("bltu r3 r4 l\nl:", [19, 3, 4, 0]),
+        ("sys 8", [20, 0, 0, 8]),
+    ] {
+        assert!(rt; gives(rt.alloc(), text, &bytes), "{text}");
+    }
+}
+
 /// The first image of the smallest run: its words, and behind them the body at label t.
 #[test]
 fn the_first_text_of_the_smallest_run(rt: HostRuntime) {
