@@ -1,6 +1,7 @@
 //! Schedules worked out by hand, for two machines.
-use crate::{Directive, SchedNo, Step, read_schedule};
+use crate::{Directive, LineFault, SchedNo, Step, read_schedule};
 use dm_link::Pid;
+use dm_memory::NoMemory;
 use std::alloc::{AllocError, Global};
 use std::test::Fail;
 
@@ -138,5 +139,28 @@ fn directives_in_order(rt: HostRuntime) -> Result<(), Fail> {
     assert_eq!(rt; directives.as_slice(), wanted.as_slice());
     assert_eq!(rt; read_schedule(rt.alloc(), b"", 0)?.len(), 0);
     assert_eq!(rt; read_schedule(rt.alloc(), b"turn 254", 255)?.len(), 1);
+    Ok(())
+}
+
+#[test]
+fn each_fault_is_said(rt: HostRuntime) -> Result<(), Fail> {
+    let table = [
+        (LineFault::UnknownWord, "unknown word"),
+        (LineFault::WrongCount, "wrong number of operands"),
+        (
+            LineFault::NotANumber,
+            "not a number, or not the name of a process",
+        ),
+        (LineFault::OutOfRange, "out of range"),
+        (LineFault::SameMachine, "the two machines are one"),
+    ];
+    for (fault, text) in table {
+        assert_eq!(rt; format!(in rt.alloc(); "{fault}")?.as_str(), text);
+        let no = SchedNo::Refused { line: 7, fault };
+        let wanted = format!(in rt.alloc(); "line 7: {text}")?;
+        assert_eq!(rt; format!(in rt.alloc(); "{no}")?.as_str(), wanted.as_str());
+    }
+    let none = SchedNo::from(NoMemory::from(AllocError));
+    assert_eq!(rt; format!(in rt.alloc(); "{none}")?.as_str(), "no memory");
     Ok(())
 }
