@@ -1,8 +1,8 @@
 //! Process 0.3 has moved to machine 1, and then to machine 2.
-use crate::{apply, notice};
+use crate::{apply, has_update, notice};
 use dm_link::{Addr, Link, Pid};
 use dm_linktable::Table;
-use dm_message::{Message, MsgId, What};
+use dm_message::{Message, MessageKind, MsgId, What};
 use dm_process::{Direction, Process, Status};
 use std::test::Fail;
 
@@ -55,6 +55,45 @@ fn the_sender_is_told(rt: HostRuntime) {
             },
             None => assert!(rt; !told),
         }
+    }
+}
+
+/// Eight kinds go along links or addresses that their senders keep; the others answer, update, or are the kernels' own.
+#[test]
+fn the_kinds_of_which_senders_are_told(rt: HostRuntime) {
+    for kind in [
+        MessageKind::User,
+        MessageKind::Stop,
+        MessageKind::Resume,
+        MessageKind::Kill,
+        MessageKind::Read,
+        MessageKind::Write,
+        MessageKind::Migrate,
+        MessageKind::Move,
+    ] {
+        assert!(rt; has_update(kind), "{kind:?}");
+    }
+    for kind in [
+        MessageKind::Block,
+        MessageKind::Written,
+        MessageKind::Gone,
+        MessageKind::Create,
+        MessageKind::Created,
+        MessageKind::NoRoom,
+        MessageKind::Update,
+        MessageKind::Ask,
+        MessageKind::Refuse,
+        MessageKind::PullState,
+        MessageKind::State,
+        MessageKind::PullBlock,
+        MessageKind::Memory,
+        MessageKind::AllTaken,
+        MessageKind::Restart,
+        MessageKind::Moved,
+        MessageKind::CallOff,
+        MessageKind::Bury,
+    ] {
+        assert!(rt; !has_update(kind), "{kind:?}");
     }
 }
 
