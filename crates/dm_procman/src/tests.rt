@@ -144,6 +144,8 @@ fn a_child_is_asked_for_and_controlled(rt: HostRuntime) -> Result<(), Fail> {
         (0, &[1, 1, 0, 0][..], kernel(1), MessageKind::Create, None),
         (0, &[1, 2, 0, 0], address(3), MessageKind::User, Some(2)),
         (1, &[2], address(3), MessageKind::Stop, None),
+        (1, &[3], address(3), MessageKind::Resume, None),
+        (1, &[4], address(3), MessageKind::Kill, None),
         (2, &[2], address(3), MessageKind::User, Some(2)),
         (0, &[1, 1, 0, 0], kernel(1), MessageKind::Create, None),
     ] {
@@ -197,6 +199,17 @@ fn children_alone_are_told_to_move(rt: HostRuntime) -> Result<(), Fail> {
             },
             Err(refusal) => assert_eq!(rt; no, Some(refusal)),
         }
+    }
+    Ok(())
+}
+
+#[test]
+fn each_refusal_is_said(rt: HostRuntime) -> Result<(), Fail> {
+    for (no, text) in [
+        (MoveNo::Unknown, "it is no child of the manager"),
+        (MoveNo::Pinned, "servers don't move"),
+    ] {
+        assert_eq!(rt; format!(in rt.alloc(); "{no}")?.as_str(), text);
     }
     Ok(())
 }
