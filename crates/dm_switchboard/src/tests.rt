@@ -50,27 +50,40 @@ fn request(bytes: &[u8], links: &[Link]) -> Message
     }
 }
 
+/// The one byte that an answer says.
+fn byte_of(answer: &Option<Message>) -> Option<u8> {
+    match &answer.as_ref()?.what {
+        What::User { body, .. } => match body.as_slice() {
+            [byte] => Some(*byte),
+            _ => None,
+        },
+        _ => None,
+    }
+}
+
 #[test]
 fn a_name_is_registered_once(rt: HostRuntime) -> Result<(), Fail> {
     let back = link(3, Kind::Reply);
     let kept = link(4, Kind::General);
     let mut board = Switchboard::new(rt.alloc());
-    for (bytes, others, reply) in [
-        (&[2, 120][..], &[back][..], Some(Reply::Unknown)),
-        (&[1, 120], &[back, kept], Some(Reply::Registered)),
+    for (bytes, others, reply, byte) in [
+        (&[2, 120][..], &[back][..], Some(Reply::Unknown), Some(2)),
+        (&[1, 120], &[back, kept], Some(Reply::Registered), Some(0)),
         (
             &[1, 120],
             &[back, link(5, Kind::General)],
             Some(Reply::Taken),
+            Some(3),
         ),
-        (&[1, 121], &[back, back], Some(Reply::BadLink)),
-        (&[], &[back], Some(Reply::BadRequest)),
-        (&[2, 120], &[], None),
-        (&[2, 120], &[back], Some(Reply::Found(kept))),
+        (&[1, 121], &[back, back], Some(Reply::BadLink), Some(4)),
+        (&[], &[back], Some(Reply::BadRequest), Some(5)),
+        (&[2, 120], &[], None, None),
+        (&[2, 120], &[back], Some(Reply::Found(kept)), Some(1)),
     ] {
         assert!(rt; board.sent() < 9);
         let took = board.take(&request(bytes, others))?;
         assert_eq!(rt; took.reply, reply);
+        assert_eq!(rt; byte_of(&took.answer), byte);
     }
     assert_eq!(rt; board.sent(), 6);
     assert_eq!(rt; board.len(), 1);
