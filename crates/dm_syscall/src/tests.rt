@@ -142,6 +142,36 @@ fn reply_of(called: &Called) -> Option<Reply> {
     }
 }
 
+/// The calls that give no reply of their own, and numbers that are no call's.
+#[test]
+fn calls_without_a_refusal(rt: HostRuntime) -> Result<(), Fail> {
+    for (number, why) in [
+        (0, Why::UnknownCall),
+        (1, Why::Exit),
+        (9, Why::UnknownCall),
+        (255, Why::UnknownCall),
+    ] {
+        let mut caller = process(rt.alloc(), &[], 0)?;
+        match call_with(&mut caller, number, [0; 6]) {
+            Called::Ended(ended) => assert_eq!(rt; ended, why, "call {number}"),
+            _ => return Err(Fail::new("the process ends")),
+        }
+    }
+    let mut caller = process(rt.alloc(), &[], 0)?;
+    let called = call_with(&mut caller, 2, [5, 77, 0, 0, 0, 0]);
+    assert!(rt; matches!(called, Called::Out(77)));
+    assert_eq!(rt; caller.regs.r[0], 0);
+    let called = call_with(&mut caller, 7, [5, 1, 8, 504, 0, 0]);
+    assert!(rt; matches!(called, Called::Waits));
+    let waits = Status::Waiting {
+        mask: 1,
+        base: 8,
+        cap: 504,
+    };
+    assert_eq!(rt; caller.status, waits);
+    Ok(())
+}
+
 /// Each by a process that has a link to 0.4 in slot 0, and one to itself, a reply link, in slot 1.
 #[test]
 fn refusals_in_order(rt: HostRuntime) -> Result<(), Fail> {
@@ -149,20 +179,29 @@ fn refusals_in_order(rt: HostRuntime) -> Result<(), Fail> {
         (3, [0, 9, 0, 1, 0, 0], Some(Reply::Done)),
         (3, [0, 9, 32, 8, 0, 0], Some(Reply::BadKind)),
         (3, [0, 9, 0, 0, 512, 1], Some(Reply::BadRange)),
+        (3, [0, 9, 32, 0, 0, 0], Some(Reply::BadRange)),
+        (4, [0, 0, 0, 0, 0, 0], Some(Reply::Done)),
         (4, [0, 1, 0, 0, 0, 0], Some(Reply::NotCopyable)),
         (4, [0, 32, 0, 0, 0, 0], Some(Reply::NoLink)),
+        (5, [0, 1, 0, 0, 0, 0], Some(Reply::Done)),
+        (5, [0, 2, 0, 0, 0, 0], Some(Reply::NoLink)),
         (6, [0, 2, 0, 65, 0, 0], Some(Reply::NoLink)),
         (6, [0, 0, 512, 65, 0, 0], Some(Reply::TooLong)),
+        (6, [0, 0, 0, 0, 5, 512], Some(Reply::TooLong)),
         (6, [0, 0, 449, 64, 1, 0], Some(Reply::BadRange)),
+        (6, [0, 0, 0, 0, 2, 511], Some(Reply::BadRange)),
+        (6, [0, 1, 0, 0, 3, 0], Some(Reply::NoLink)),
         (6, [0, 1, 0, 0, 1, 0], Some(Reply::BadKind)),
         (6, [0, 0, 0, 0, 1, 0], None),
+        (7, [0, 1, 1, 512, 0, 0], Some(Reply::BadRange)),
+        (8, [0, 2, 2, 0, 0, 0], Some(Reply::NoLink)),
         (8, [0, 0, 2, 0, 0, 501], Some(Reply::BadKind)),
         (8, [0, 0, 1, 0, 0, 501], Some(Reply::NoRight)),
         (8, [0, 0, 0, 0, 0, 501], Some(Reply::BadRange)),
         (8, [0, 0, 0, 500, 512, 0], Some(Reply::Done)),
     ];
     for (number, regs, reply) in table {
-        let mut caller = process(rt.alloc(), &[1], 1)?;
+        let mut caller = process(rt.alloc(), &[1, 0, 9], 1)?;
         call_with(&mut caller, 3, [0, 9, 0, 1, 0, 0]);
         let called = call_with(&mut caller, number, regs);
         assert_eq!(rt; reply_of(&called), reply, "call {number}");
