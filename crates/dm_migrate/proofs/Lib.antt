@@ -3,3 +3,4 @@ pub mod Coming
 pub mod Messages
 pub mod Way
 pub mod Begun
+pub mod Worked

@@ -1,5 +1,6 @@
 //! A process that comes to a machine, piece by piece.
-ghost use Rattle.std.specs.Prelude.{◌≡◌, ◌⊎◌, ◌+◌, ◌*◌, ◌<◌, ◌≤◌, ◌++◌, ◌∷◌, [], IfErr, IfOk, OnErr, OnOk, Some, length, map, take, drop};
+ghost use Rattle.std.specs.Prelude.{◌≡◌, ◌⊎◌, ◌+◌, ◌*◌, ◌<◌, ◌≤◌, ◌++◌, ◌∷◌, [], IfErr, IfOk, Ok, OnErr, OnOk, Some, length, map, take, drop};
+ghost use Rattle.dm_carry.specs.Shell.{shell_of_bytes};
 ghost use Rattle.dm_process.specs.Lawful.{IsLawfulProcess};
 ghost use Rattle.dm_migrate.specs.Arrival.{IsNextChunk, IsNextPiece, after_block, after_chunk, expected, pull, restarted, revived, with_block, with_chunk, with_held, with_piece};
 
@@ -127,7 +128,8 @@ impl Arriving {
     /// All of it but for its memory and its queue, where all has come. It takes no memory.
     pub fn shell(&self) -> Shell
         requires { self.now.wanted ≡ Wanted.Nothing }
-        ensures { restarted self.now ≡ Some (revived result self.now.memory) }
+        ensures exact { shell_of_bytes self.now.state self.now.cap ≡ Ok result }
+        ensures process { restarted self.now ≡ Some (revived result self.now.memory) }
     {
         match unpack(&self.state, self.cap) {
             Ok(shell) => shell,
