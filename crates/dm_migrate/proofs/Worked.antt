@@ -1,6 +1,5 @@
 -- The pieces of a process, computed.
-use Rattle.std.proofs.Common.{◌≡◌, ℕ, true, false, Bool, List, [], ◌∷◌, ◌++◌, replicate, length, map, refl}
-use Rattle.dm_migrate.specs.declared.arriving.Wanted.{Wanted}
+use Rattle.std.proofs.Common.{◌≡◌, ℕ, true, false, List, [], ◌∷◌, ◌++◌, replicate, refl}
 use Rattle.dm_migrate.specs.declared.arriving.Wanted.TheVariants.{Chunk, Block, Nothing}
 use Rattle.dm_migrate.specs.Arrival.{after_block, after_chunk}
 use Rattle.dm_migrate.specs.Pieces.{block_bytes, chunk_bytes, is_last}

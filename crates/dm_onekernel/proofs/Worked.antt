@@ -1,5 +1,5 @@
 -- The definitions' tables, computed row by row.
-use Rattle.std.proofs.Common.{◌≡◌, ℕ, Bool, true, false, List, [], ◌∷◌, Option, None, Some, map, refl}
+use Rattle.std.proofs.Common.{◌≡◌, true, false, List, [], ◌∷◌, None, Some, map, refl}
 use Rattle.dm_link.specs.Names.{pid_of}
 use Rattle.dm_message.specs.Plain as what
 use Rattle.dm_message.specs.Plain.{PlainWhat}
@@ -9,7 +9,7 @@ use Rattle.dm_onekernel.specs.declared.boot.Format.TheVariants.{One, Two}
 use Rattle.dm_onekernel.specs.declared.label.Reply.TheVariants as reply
 use Rattle.dm_onekernel.specs.declared.label.Why.TheVariants as why
 use Rattle.dm_onekernel.specs.Boot.{body_of, slots_of}
-use Rattle.dm_onekernel.specs.Calls.{CallNumber, Exit, Out, Make, Copy, Drop, Send, Receive, Move, Unknown, call_number}
+use Rattle.dm_onekernel.specs.Calls.{Exit, Out, Make, Copy, Drop, Send, Receive, Move, Unknown, call_number}
 use Rattle.dm_onekernel.specs.Codes.{reply_code, why_code}
 use Rattle.dm_onekernel.specs.Manager.{control_of}
 use Rattle.dm_onekernel.specs.Pieces.{piece_of}
