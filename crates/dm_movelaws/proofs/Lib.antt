@@ -83,3 +83,7 @@ pub mod OpenApart
 pub mod OpenStays
 pub mod OpenKeeps
 pub mod OpenWorked
+pub mod MoversSays
+pub mod MoversRows
+pub mod MoversGone
+pub mod MoversAlways

@@ -12,3 +12,4 @@ pub mod Real
 pub mod Forwards
 pub mod Links
 pub mod Pending
+pub mod Movers

@@ -7,6 +7,7 @@ ghost use Rattle.dm_movelaws.specs.Lists.{ListsAlways};
 ghost use Rattle.dm_movelaws.specs.Numbers.{NumbersAlways};
 ghost use Rattle.dm_movelaws.specs.Forwards.{ForwardsTell};
 ghost use Rattle.dm_movelaws.specs.Links.{CountsPromise};
+ghost use Rattle.dm_movelaws.specs.Movers.{MoversHavePieces};
 ghost use Rattle.dm_movelaws.specs.Pending.{PendingAscends, PendingHasOne};
 ghost use Rattle.dm_movelaws.specs.Open.{OpenMoves, OpenSpares, OpenStays, OpenKeeps};
 ghost use Rattle.dm_movelaws.specs.Promise.{PromisesAlways};
@@ -159,4 +160,12 @@ pub fn open_stays()
 /// the same behind all lines.
 pub fn open_keeps()
     ensures { OpenKeeps }
+{}
+
+/// Wherever the rule leads from a boot file, each living process that moves data has exactly one message in the bag under the number
+/// that it waits for: its request to the owner of the area for the next piece, which begins where its status says and has 256 bytes,
+/// or what is left, or the owner's answer to it, the bytes of the piece, that they were written, or, rightly, that the owner has ended.
+/// No other request for a piece is a living process's, and no other answer is for one.
+pub fn movers_have_pieces()
+    ensures { MoversHavePieces }
 {}
