@@ -247,11 +247,24 @@ pub record GoesOn (o : Point) (d : Step) (ps : List Part) : Type 0 where
   pub known : o.view.known machine message.to ≡ Forward to moves
   pub are : ps ≡ forwards_on o.addresses id (plain_kind message.what) message.sender to
 
+-- a turn sends on a message of a kernel's own
+pub record GoesOnOwn (o : Point) (d : Step) (ps : List Part) : Type 0 where
+  pub machine : ℕ
+  pub acts : d ≡ step.Turn machine
+  pub id : MsgId
+  pub outside : o.kernel.bag id ≡ None
+  pub told : Told
+  pub told_is : o.view.told id ≡ Some told
+  pub to : ℕ
+  pub moves : ℕ
+  pub known : o.view.known machine told.receiver ≡ Forward to moves
+  pub are : ps ≡ forwards_on o.addresses id told.kind manager to
+
 -- the parts of a group send nothing on, a message of the bag, or one of a kernel's own
 pub data Form (o : Point) (d : Step) (ps : List Part) : Type 0 where
   Nothing : (none : forwards_of ps ≡ []) → Form o d ps
   Plain : (goes : GoesOn o d ps) → Form o d ps
-  Own : (id : MsgId) → (to : ℕ) → (outside : o.kernel.bag id ≡ None) → (one : forwards_of ps ≡ (id, to) ∷ []) → Form o d ps
+  Own : (goes : GoesOnOwn o d ps) → Form o d ps
 
 abbrev pub FormOf : Point → Step → Option (List Part) → Type 0
 FormOf o d None = ⊤
@@ -286,27 +299,27 @@ handles_form b o m id is msg box there =
     (form_if o d (pid_eq msg.to manager) to_manager to_process (form_none o d to_manager (manager_none id (manage.takes o.kernel.manager o.kernel.machines (length o.kernel.images) msg msg.what)))
     (process_form o m id is msg (o.view.known m msg.to) box there refl)))
 
-process_told_form : (o : Point) (m : ℕ) (id : MsgId) (t : Told) (k : Known) → o.kernel.bag id ≡ None → FormOf o (step.Turn m) (process_told o m id t k)
-process_told_form o m id t Here none = form_none o (step.Turn m) (here_told o m id t t.kind) (here_told_none o m id t t.kind)
-process_told_form o m id t (Forward to moves) none = Own id to none (goes_on o.addresses id t.kind manager to)
-process_told_form o m id t Ended none = form_none o (step.Turn m) (ended_told id t.kind) (ended_told_none id t.kind)
-process_told_form o m id t Unknown none = tt
-process_told_form o m id t (Frozen to) none = Nothing refl
-process_told_form o m id t (Incoming from) none = Nothing refl
+process_told_form : (o : Point) (m : ℕ) (id : MsgId) (t : Told) (k : Known) → o.kernel.bag id ≡ None → o.view.told id ≡ Some t → o.view.known m t.receiver ≡ k → FormOf o (step.Turn m) (process_told o m id t k)
+process_told_form o m id t Here none told e = form_none o (step.Turn m) (here_told o m id t t.kind) (here_told_none o m id t t.kind)
+process_told_form o m id t (Forward to moves) none told e = Own (record { machine = m; acts = refl; id = id; outside = none; told = t; told_is = told; to = to; moves = moves; known = e; are = refl })
+process_told_form o m id t Ended none told e = form_none o (step.Turn m) (ended_told id t.kind) (ended_told_none id t.kind)
+process_told_form o m id t Unknown none told e = tt
+process_told_form o m id t (Frozen to) none told e = Nothing refl
+process_told_form o m id t (Incoming from) none told e = Nothing refl
 
-hears_form : (b : Boot) (o : Point) (m : ℕ) (id : MsgId) (q : Option Told) → o.kernel.bag id ≡ None → FormOf o (step.Turn m) (rule.hears b o m id q)
-hears_form b o m id None none = tt
-hears_form b o m id (Some t) none =
+hears_form : (b : Boot) (o : Point) (m : ℕ) (id : MsgId) (q : Option Told) → o.kernel.bag id ≡ None → o.view.told id ≡ q → FormOf o (step.Turn m) (rule.hears b o m id q)
+hears_form b o m id None none told = tt
+hears_form b o m id (Some t) none told =
     let d = step.Turn m in
     let to_kernel = rule.kernel_hears b o m id t.kind t.about in
     let to_server = server_told o id t t.kind in
     let to_process = process_told o m id t (o.view.known m t.receiver) in
     form_if o d (t.receiver.num == 0) to_kernel (if pid_eq t.receiver switchboard then to_server else if pid_eq t.receiver manager then to_server else to_process) (form_none o d to_kernel (hears_none b o m id t.kind t.about))
     (form_if o d (pid_eq t.receiver switchboard) to_server (if pid_eq t.receiver manager then to_server else to_process) (form_none o d to_server (server_none o id t t.kind))
-    (form_if o d (pid_eq t.receiver manager) to_server to_process (form_none o d to_server (server_none o id t t.kind)) (process_told_form o m id t (o.view.known m t.receiver) none)))
+    (form_if o d (pid_eq t.receiver manager) to_server to_process (form_none o d to_server (server_none o id t t.kind)) (process_told_form o m id t (o.view.known m t.receiver) none told refl)))
 
 comes_form : (b : Boot) (o : Point) (m : ℕ) (id : MsgId) (is : List MsgId) (q : Option PlainMessage) → o.kernel.bag id ≡ q → o.view.inbox m ≡ id ∷ is → FormOf o (step.Turn m) (rule.comes_to b o m id q)
-comes_form b o m id is None none box = hears_form b o m id (o.view.told id) none
+comes_form b o m id is None none box = hears_form b o m id (o.view.told id) none refl
 comes_form b o m id is (Some msg) there box = handles_form b o m id is msg box there
 
 turns_form : (b : Boot) (o : Point) (m : ℕ) (is : List MsgId) → o.view.inbox m ≡ is → FormOf o (step.Turn m) (rule.turns b o m is)

@@ -9,8 +9,10 @@ use Rattle.dm_message.specs.declared.MsgId.{MsgId}
 use Rattle.dm_message.specs.declared.kind.MessageKind.{MessageKind}
 use Rattle.dm_message.specs.declared.kind.MessageKind.TheVariants as kind
 use Rattle.dm_message.specs.Kinds.{plain_kind}
-use Rattle.dm_message.specs.Plain.{PlainMessage}
+use Rattle.dm_message.specs.Plain as what
+use Rattle.dm_message.specs.Plain.{PlainMessage, PlainWhat}
 use Rattle.dm_onekernel.specs.declared.boot.Boot.{Boot}
+use Rattle.dm_onekernel.specs.Boot.{manager}
 use Rattle.dm_onekernel.specs.Options.{bind}
 use Rattle.dm_laws.proofs.Steps.{bind-is}
 use Rattle.dm_schedule.specs.declared.Step.{Step}
@@ -36,11 +38,11 @@ use Rattle.dm_rulelaws.proofs.BasedNeeds.{Steps, begun, begun_sane, said_by, aga
 use Rattle.dm_rulelaws.proofs.FoundParts.{again_same, own_fresh}
 use Rattle.dm_rulelaws.proofs.GoesAlways.{front}
 use Rattle.dm_rulelaws.proofs.Runs.{Run}
-use Rattle.dm_movelaws.specs.Forwards.{Tells, ForwardsTell}
+use Rattle.dm_movelaws.specs.Forwards.{Tells, ForwardsTell, RequestsTell}
 use Rattle.dm_movelaws.specs.Promise.{update_of, IsUnderWay}
 use Rattle.dm_rulelaws.proofs.RunsAlways.{run_always}
 use Rattle.dm_movelaws.proofs.EndsSends.{puts_lead}
-use Rattle.dm_movelaws.proofs.ForwardsRows.{Onward, with_forward, part_forwards, forwards_of, goes_on, GoesOn, Form, Nothing, Plain, Own, FormOf, outcome_form}
+use Rattle.dm_movelaws.proofs.ForwardsRows.{Onward, with_forward, part_forwards, forwards_of, goes_on, GoesOn, GoesOnOwn, Form, Nothing, Plain, Own, FormOf, outcome_form}
 use Rattle.dm_movelaws.proofs.PromiseParts.{next_of}
 use Rattle.dm_movelaws.proofs.PromiseSpots.{Stands}
 use Rattle.dm_movelaws.proofs.PromiseStands.{put_this, packet_stands}
@@ -138,12 +140,33 @@ same_to f g e = ap (λ (h : Onward). h.1) e
 
 sent_by : (b : Boot) (o : Point) (d : Step) (w : Spelled) (g : Grouped b o d w) (id : MsgId) (message : PlainMessage) (to : ℕ) (xs ys : List Line) → o.kernel.bag id ≡ Some message → w.lines ≡ xs ++ line.Forwarded id to ∷ ys → Form o d g.parts → Sent b o d w id to
 sent_by b o d w g id message to xs ys there says (Nothing none) = absurd (none_there (sent_on xs) (sent_on ys) (id, to) (there_in b o d w g id to xs ys says ∙ none))
-sent_by b o d w g id message to xs ys there says (Own i m outside one) =
-    let same = one_there (sent_on xs) (sent_on ys) (id, to) (i, m) (there_in b o d w g id to xs ys says ∙ one) in
-    let f : Some message ≡ None = sym there ∙ ap o.kernel.bag (same_id (id, to) (i, m) same) ∙ outside in
+sent_by b o d w g id message to xs ys there says (Own h) =
+    let same = one_there (sent_on xs) (sent_on ys) (id, to) (h.id, h.to) (there_in b o d w g id to xs ys says ∙ ap forwards_of h.are ∙ goes_on o.addresses h.id h.told.kind manager h.to) in
+    let f : Some message ≡ None = sym there ∙ ap o.kernel.bag (same_id (id, to) (h.id, h.to) same) ∙ h.outside in
     cc
 sent_by b o d w g id message to xs ys there says (Plain h) =
     let same = one_there (sent_on xs) (sent_on ys) (id, to) (h.id, h.to) (there_in b o d w g id to xs ys says ∙ ap forwards_of h.are ∙ goes_on o.addresses h.id (plain_kind h.message.what) h.message.sender h.to) in
+    record { group = g; goes = h; id_is = sym (same_id (id, to) (h.id, h.to) same); to_is = sym (same_to (id, to) (h.id, h.to) same) }
+
+-- a group that says that a request to move a process is sent on
+record SentOwn (b : Boot) (o : Point) (d : Step) (w : Spelled) (id : MsgId) (to : ℕ) : Type 0 where
+  group : Grouped b o d w
+  goes : GoesOnOwn o d group.parts
+  id_is : goes.id ≡ id
+  to_is : goes.to ≡ to
+
+no_request : (w : PlainWhat) → plain_kind w ≡ kind.Migrate → ⊥
+no_request (what.User code channel body links) e = cc
+no_request w e = cc
+
+own_by : (b : Boot) (o : Point) (d : Step) (w : Spelled) (g : Grouped b o d w) (id : MsgId) (t : Told) (to : ℕ) (xs ys : List Line) → Sane o → o.view.told id ≡ Some t → t.kind ≡ kind.Migrate → w.lines ≡ xs ++ line.Forwarded id to ∷ ys → Form o d g.parts → SentOwn b o d w id to
+own_by b o d w g id t to xs ys sane told request says (Nothing none) = absurd (none_there (sent_on xs) (sent_on ys) (id, to) (there_in b o d w g id to xs ys says ∙ none))
+own_by b o d w g id t to xs ys sane told request says (Plain h) =
+    let same = one_there (sent_on xs) (sent_on ys) (id, to) (h.id, h.to) (there_in b o d w g id to xs ys says ∙ ap forwards_of h.are ∙ goes_on o.addresses h.id (plain_kind h.message.what) h.message.sender h.to) in
+    let was : o.view.told h.id ≡ Some t = sym (ap o.view.told (same_id (id, to) (h.id, h.to) same)) ∙ told in
+    absurd (no_request h.message.what (sym (sane.tells.kind h.id h.message t h.there was) ∙ request))
+own_by b o d w g id t to xs ys sane told request says (Own h) =
+    let same = one_there (sent_on xs) (sent_on ys) (id, to) (h.id, h.to) (there_in b o d w g id to xs ys says ∙ ap forwards_of h.are ∙ goes_on o.addresses h.id h.told.kind manager h.to) in
     record { group = g; goes = h; id_is = sym (same_id (id, to) (h.id, h.to) same); to_is = sym (same_to (id, to) (h.id, h.to) same) }
 
 -- what the update is about
@@ -277,3 +300,41 @@ forwards_tell b es pt d w p q to valid leads f =
     subst (λ (n : ℕ). Tells d pt w.point p q n) s.to_is
     (subst (λ (r : Pid). Tells d pt w.point r q h.to) sender
     (subst (λ (r : Pid). Tells d pt w.point h.message.sender r h.to) receiver t))
+
+-- a request to move goes on, and the manager is told
+own_parts : (o : Point) (d : Step) (ps : List Part) (h : GoesOnOwn o d ps) → is_told_back h.told.kind ≡ true → ps ≡ Says (line.Forwarded h.id h.to) ∷ Again h.id h.to ∷ Owns kind.Update manager (o.addresses (Sender h.id)).at ∷ []
+own_parts o d ps h back = h.are ∙ ap (λ (c : Bool). Says (line.Forwarded h.id h.to) ∷ Again h.id h.to ∷ (if c then Owns kind.Update manager (o.addresses (Sender h.id)).at ∷ [] else [])) back
+
+own_tells : (b : Boot) (o : Point) (d : Step) (w : Spelled) (g : Grouped b o d w) (h : GoesOnOwn o d g.parts) → Run b o → is_told_back h.told.kind ≡ true → Tells d o w.point manager h.told.receiver h.to
+own_tells b o d w g h run back =
+    let q = h.told.receiver in
+    let place : Place = record { at = h.to; moves = h.moves } in
+    let sane = run.based.phased.sane in
+    let begins : (begun o d).view ≡ view.after_head o.view (step.Turn h.machine) = ap (λ (e : Step). view.after_head o.view e) h.acts in
+    let known : (begun o d).view.known (begun o d).view.acting q ≡ Forward h.to h.moves = ap (λ (v : View). v.known v.acting q) begins ∙ h.known in
+    let told : (begun o d).view.told h.id ≡ Some h.told = ap (λ (v : View). v.told h.id) begins ∙ h.told_is in
+    let fit : PairsFit (begun o d).view = subst PairsFit (sym begins) (turn_fits o.view h.machine (fits o.view run.based.phased.pairs)) in
+    let said = sym (ap (spelled (begun o d)) (own_parts o d g.parts h back)) ∙ g.said in
+    let t = tells (begun o d) g.rest h.id manager place (o.addresses (Sender h.id)).at h.told q (begun_sane o d sane) fit told refl known said in
+    record {
+      turn = h.acts ∙ ap (λ (e : Step). step.Turn (actor e)) (sym h.acts);
+      moves = h.moves;
+      known = ap (λ (e : Step). o.view.known (actor e) q) h.acts ∙ h.known;
+      update = t.update;
+      new = ap (λ (v : View). v.told t.update) (sym begins) ∙ t.new;
+      way = subst (λ (x : Spelled). IsUnderWay x.point.view t.update manager q place) g.whole t.way;
+    }
+
+-- wherever the rule leads
+pub requests_tell : RequestsTell
+requests_tell b es pt d w q to valid leads f =
+    let run = (run_always b es pt valid leads).run in
+    let g = grouped b pt d w f.is in
+    let s = own_by b pt d w g f.id f.told to f.earlier f.later run.based.phased.sane f.there f.request f.says (subst (FormOf pt d) g.is (outcome_form b pt d)) in
+    let h = s.goes in
+    let same : Some h.told ≡ Some f.told = sym h.told_is ∙ ap pt.view.told s.id_is ∙ f.there in
+    let told : h.told ≡ f.told = cc in
+    let back : is_told_back h.told.kind ≡ true = ap (λ (t : Told). is_told_back t.kind) told ∙ ap is_told_back f.request in
+    let t = own_tells b pt d w s.group h run back in
+    let receiver : h.told.receiver ≡ q = ap (λ (x : Told). x.receiver) told ∙ f.receiver in
+    subst (λ (n : ℕ). Tells d pt w.point manager q n) s.to_is (subst (λ (r : Pid). Tells d pt w.point manager r h.to) receiver t)

@@ -3,10 +3,11 @@ use Rattle.std.specs.Prelude.{◌≡◌, ℕ, true, List, ◌∷◌, ◌++◌}
 use Rattle.std.specs.declared.option.Option.TheVariants.{None, Some}
 use Rattle.dm_link.specs.declared.Pid.{Pid}
 use Rattle.dm_message.specs.declared.MsgId.{MsgId}
+use Rattle.dm_message.specs.declared.kind.MessageKind.TheVariants as kind
 use Rattle.dm_message.specs.Kinds.{plain_kind}
 use Rattle.dm_message.specs.Plain.{PlainMessage}
 use Rattle.dm_onekernel.specs.declared.boot.Boot.{Boot}
-use Rattle.dm_onekernel.specs.Boot.{IsValid}
+use Rattle.dm_onekernel.specs.Boot.{IsValid, manager}
 use Rattle.dm_schedule.specs.declared.Step.{Step}
 use Rattle.dm_schedule.specs.declared.Step.TheVariants as step
 use Rattle.dm_rule.specs.declared.line.Line.{Line}
@@ -16,7 +17,7 @@ use Rattle.dm_rule.specs.Laws.{Leads}
 use Rattle.dm_rule.specs.Parts.{Spelled}
 use Rattle.dm_rule.specs.Point.{Point, first_point}
 use Rattle.dm_rule.specs.Rule.{group_of}
-use Rattle.dm_rule.specs.View.{Forward, actor}
+use Rattle.dm_rule.specs.View.{Told, Forward, actor}
 use Rattle.dm_movelaws.specs.Promise.{IsUnderWay}
 
 -- a group says that a message of p to q, of a kind whose sender is told, goes on to another machine
@@ -45,3 +46,20 @@ pub record Tells (d : Step) (pt next : Point) (p q : Pid) (to : ℕ) : Type 0 wh
 abbrev pub ForwardsTell : Type 0
 ForwardsTell =
     (b : Boot) (es : List Step) (pt : Point) (d : Step) (group : Spelled) (p q : Pid) (to : ℕ) → IsValid b → Leads b (first_point b) es pt → Forwards b pt d group p q to → Tells d pt group.point p q to
+
+-- a group says that a request to move q, a kernel's own message in the manager's name, goes on to another machine
+pub record ForwardsRequest (b : Boot) (pt : Point) (d : Step) (group : Spelled) (q : Pid) (to : ℕ) : Type 0 where
+  pub is : group_of b pt d ≡ Some group
+  pub id : MsgId
+  pub told : Told
+  pub there : pt.view.told id ≡ Some told
+  pub request : told.kind ≡ kind.Migrate
+  pub receiver : told.receiver ≡ q
+  pub earlier : List Line
+  pub later : List Line
+  pub says : group.lines ≡ earlier ++ line.Forwarded id to ∷ later
+
+-- wherever the rule leads, a group that sends a request to move on tells the manager where the process went
+abbrev pub RequestsTell : Type 0
+RequestsTell =
+    (b : Boot) (es : List Step) (pt : Point) (d : Step) (group : Spelled) (q : Pid) (to : ℕ) → IsValid b → Leads b (first_point b) es pt → ForwardsRequest b pt d group q to → Tells d pt group.point manager q to

@@ -5,7 +5,7 @@ ghost use Rattle.dm_movelaws.specs.Counts.{CountsKept, CountsStay};
 ghost use Rattle.dm_movelaws.specs.Ends.{EndsAlways};
 ghost use Rattle.dm_movelaws.specs.Lists.{ListsAlways};
 ghost use Rattle.dm_movelaws.specs.Numbers.{NumbersAlways};
-ghost use Rattle.dm_movelaws.specs.Forwards.{ForwardsTell};
+ghost use Rattle.dm_movelaws.specs.Forwards.{ForwardsTell, RequestsTell};
 ghost use Rattle.dm_movelaws.specs.Links.{CountsPromise};
 ghost use Rattle.dm_movelaws.specs.Movers.{MoversHavePieces};
 ghost use Rattle.dm_movelaws.specs.Pending.{PendingAscends, PendingHasOne};
@@ -168,4 +168,10 @@ pub fn open_keeps()
 /// No other request for a piece is a living process's, and no other answer is for one.
 pub fn movers_have_pieces()
     ensures { MoversHavePieces }
+{}
+
+/// Wherever the rule leads from a boot file, a group that says that a request to move a process goes on to another machine goes by the
+/// forwarding address of the machine that acts; and behind it a new update is under way that tells the manager this address.
+pub fn requests_tell()
+    ensures { RequestsTell }
 {}

@@ -1,0 +1,5 @@
+use Rattle.dm_movelaws.proofs.ForwardsTold.{requests_tell}
+use Rattle.dm_movelaws.proofs.laws.requests_tell.Goals as goal
+
+pub returns : goal.returns
+returns c = requests_tell
