@@ -1,5 +1,5 @@
 //! What can be read of a kernel, and how a message comes to it.
-ghost use Rattle.std.specs.Prelude.{◌≡◌, ◌∷◌, ◌++◌, [], OnOk};
+ghost use Rattle.std.specs.Prelude.{◌≡◌, ◌∷◌, ◌++◌, [], OnErr, OnOk};
 ghost use Rattle.std.specs.Option.{option_copied};
 
 use crate::kernel::{Kernel, Servers};
@@ -51,7 +51,8 @@ impl Kernel {
 
     /// A message comes, and waits behind the others.
     pub fn enters(&mut self, message: Message) -> Result<(), NoMemory>
-        ensures { OnOk result (self.new ≡ record self.old { inbox = self.old.inbox ++ message ∷ [] }) }
+        ensures ok { OnOk result (self.new ≡ record self.old { inbox = self.old.inbox ++ message ∷ [] }) }
+        ensures err { OnErr result (self.new ≡ self.old) }
     {
         self.inbox.push(message)?;
         Ok(())

@@ -16,7 +16,7 @@ use dm_stream::{Arrived, GiveNo};
 
 impl Node {
     /// Whether all messages to machine `to` have gone out.
-    pub fn none_waits(&self, to: u8) -> bool
+    pub(crate) fn none_waits(&self, to: u8) -> bool
         requires streams { HasStreams self.now }
         requires to { to < 16 }
         ensures { result ≡ none_waits ((state_of self.now).senders to) }
@@ -25,7 +25,7 @@ impl Node {
     }
 
     /// Gives a message to the stream to machine `to`.
-    pub fn give(&mut self, to: u8, message: Message) -> Result<(), Stop>
+    pub(crate) fn give(&mut self, to: u8, message: Message) -> Result<(), Stop>
         requires streams { HasStreams self.old }
         requires to { to < 16 }
         ensures { Gives result self.new (state_of self.old) to message }
@@ -41,7 +41,7 @@ impl Node {
     }
 
     /// The packet that is due to machine `to`.
-    pub fn due(&self, to: u8) -> Option<Packet>
+    pub(crate) fn due(&self, to: u8) -> Option<Packet>
         requires streams { HasStreams self.now }
         requires to { to < 16 }
         ensures { result ≡ numbered self.now.kernel.here to (due ((state_of self.now).senders to)) }
@@ -50,7 +50,7 @@ impl Node {
     }
 
     /// The packet that is due to machine `to` has gone out.
-    pub fn sent_due(&mut self, to: u8)
+    pub(crate) fn sent_due(&mut self, to: u8)
         requires streams { HasStreams self.old }
         requires to { to < 16 }
         requires due { IsSome (due ((state_of self.old).senders to)) }
@@ -61,7 +61,7 @@ impl Node {
     }
 
     /// The packet at a place, from 0 on, among those that are out to machine `to`.
-    pub fn outstanding(&self, to: u8, place: usize) -> Option<Packet>
+    pub(crate) fn outstanding(&self, to: u8, place: usize) -> Option<Packet>
         requires streams { HasStreams self.now }
         requires to { to < 16 }
         ensures { result ≡ numbered self.now.kernel.here to (outstanding ((state_of self.now).senders to) place) }
@@ -70,7 +70,7 @@ impl Node {
     }
 
     /// How many packets are out to machine `to` and not acknowledged, 0 to 8.
-    pub fn count_out(&self, to: u8) -> u32
+    pub(crate) fn count_out(&self, to: u8) -> u32
         requires streams { HasStreams self.now }
         requires to { to < 16 }
         ensures count { result ≡ count_out ((state_of self.now).senders to) }
@@ -80,7 +80,7 @@ impl Node {
     }
 
     /// Machine `to` has taken the first `count` messages.
-    pub fn acked(&mut self, to: u8, count: u32)
+    pub(crate) fn acked(&mut self, to: u8, count: u32)
         requires streams { HasStreams self.old }
         requires to { to < 16 }
         requires gone { count ≤ ((state_of self.old).senders to).gone }
@@ -100,7 +100,7 @@ impl Node {
     }
 
     /// A message with its number has come from machine `from`.
-    pub fn receive(&mut self, from: u8, seq: u32, message: Message) -> Arrived<Message>
+    pub(crate) fn receive(&mut self, from: u8, seq: u32, message: Message) -> Arrived<Message>
         requires streams { HasStreams self.old }
         requires from { from < 16 }
         requires in_window { seq < ((state_of self.old).receivers from).count + 8 }
@@ -113,7 +113,7 @@ impl Node {
     }
 
     /// Takes the message of machine `from` that came early and is the next now.
-    pub fn next_kept(&mut self, from: u8) -> Option<Message>
+    pub(crate) fn next_kept(&mut self, from: u8) -> Option<Message>
         requires streams { HasStreams self.old }
         requires from { from < 16 }
         ensures value { result ≡ next ((state_of self.old).receivers from) }

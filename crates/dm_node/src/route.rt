@@ -14,7 +14,7 @@ use dm_rule::line::Line;
 
 impl Node {
     /// Routes a message to the machine that its receiver's address names.
-    pub fn route(&mut self, message: Message, outs: &mut Vec<Out>) -> Result<(), Stop>
+    pub(crate) fn route(&mut self, message: Message, outs: &mut Vec<Out>) -> Result<(), Stop>
         requires streams { HasStreams self.old }
         requires to { message.to.at < 16 }
         requires home { self.old.home ≤ self.old.numbers }
@@ -81,7 +81,7 @@ impl Node {
     }
 
     /// Sends the packet that is due to machine `to`, if there is one; whether there was.
-    pub fn send_due(&mut self, to: u8, outs: &mut Vec<Out>) -> Result<bool, NoMemory>
+    pub(crate) fn send_due(&mut self, to: u8, outs: &mut Vec<Out>) -> Result<bool, NoMemory>
         requires streams { HasStreams self.old }
         requires to { to < 16 }
         ensures gave { OnOk result (Gave self.new outs.old.items outs.new.items (sends_due (state_of self.old) to (due ((state_of self.old).senders to)))) }
@@ -99,7 +99,7 @@ impl Node {
 }
 
 /// Puts one more at the end.
-pub fn push(outs: &mut Vec<Out>, out: Out) -> Result<(), NoMemory>
+pub(crate) fn push(outs: &mut Vec<Out>, out: Out) -> Result<(), NoMemory>
     ensures ok { OnOk result (outs.new.items ≡ outs.old.items ++ out ∷ []) }
 {
     outs.push(out)?;

@@ -31,7 +31,7 @@ loop-round-preserved c =
       rest = λ after new g.
           l.invariant.rest after new
           (one_taken l._round n mid after from m l.outs.items c.push.new.outs.items new h (sym c.next_kept.ensures.value ∙ c.in-Some.is)
-          (ap (λ k. record next { kernel = kernel.state_of k }) c.in_ok-enters-in-Some.ensures ∙ ap (λ (s : NodeState). with_message s m) state)
+          (ap (λ k. record next { kernel = kernel.state_of k }) c.in_ok-enters-in-Some.ensures.ok ∙ ap (λ (s : NodeState). with_message s m) state)
           (c.in_ok-push-in-Some.ensures.ok ∙ ap (λ t. l.outs.items ++ Says t ∷ []) told) g);
     }
 
