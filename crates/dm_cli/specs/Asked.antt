@@ -4,9 +4,7 @@ use Rattle.std.specs.declared.option.Option.{Option}
 use Rattle.std.specs.declared.option.Option.TheVariants.{None, Some}
 use Rattle.dm_onekernel.specs.declared.boot.Boot.{Boot}
 use Rattle.dm_outside.specs.Outside.{RoseOrFull}
-use Rattle.dm_cli.specs.declared.status.Status.{Status}
 use Rattle.dm_cli.specs.Inputs.{SaysBoot}
-use Rattle.dm_cli.specs.Status.{IsWant}
 
 -- the boot file was asked for, and says a system; then the schedule was asked for, and nothing else
 pub record AsksBoth {S : Type 0} (asked : S → List ℕ → S → Type 0) (files : Option (List ℕ → Option (List ℕ))) (boot schedule : List ℕ) (old new : S) : Type 0 where
@@ -24,10 +22,6 @@ AsksFiles asked files boot schedule old new = asked old boot new ⊎ AsksBoth as
 abbrev pub AsksNamed : {S : Type 0} → (S → List ℕ → S → Type 0) → Option (List ℕ → Option (List ℕ)) → Option (List ℕ × List ℕ) → S → S → Type 0
 AsksNamed asked files None old new = new ≡ old
 AsksNamed asked files (Some names) old new = AsksFiles asked files names.0 names.1 old new
-
--- memory lacked before any file was asked for
-abbrev pub NothingAsked : {S : Type 0} → Status → S → S → Type 0
-NothingAsked status old new = IsWant status × (new ≡ old)
 
 -- a read of the boot file failed, and no other file was asked for
 abbrev pub FailsAlone : {S : Type 0} → (S → List ℕ → S → Type 0) → (S → ℕ) → List ℕ → S → S → Type 0
