@@ -1,5 +1,6 @@
 //! The words of the command line.
 ghost use Rattle.std.specs.Prelude.{◌≡◌, map, option_map, option_and_then, false, Some, None, IfOk, IfErr};
+ghost use Rattle.dm_memory.specs.declared.NoMemory.{NoMemory as TheNoMemory};
 ghost use Rattle.clap.specs.Words.{app_of, found_of, kind_of, rows_of, rule_of, subcommand_rows_of};
 ghost use Rattle.dm_cli.specs.Status.{status_of_no};
 ghost use Rattle.dm_cli.specs.Words.{IsTaken, demosmp, file_option, files_in, names_of};
@@ -93,7 +94,8 @@ fn both_files<'a>(matches: &ArgMatches<'a>) -> Option<(&'a str, &'a str)>
 /// What an error of the parse comes to. The parse tells want of memory by a kind of its own, and hands no allocation's
 /// error on: only that kind is want of memory.
 fn why(error: &Error) -> WordsNo
-    ensures { result ≡ WordsNo.Usage → kind_of error.now ≡ ErrorKind.OutOfMemory → ⊥ }
+    ensures usage { result ≡ WordsNo.Usage → kind_of error.now ≡ ErrorKind.OutOfMemory → ⊥ }
+    ensures want { (lack : TheNoMemory) → result ≡ WordsNo.NoMemory lack → kind_of error.now ≡ ErrorKind.OutOfMemory }
 {
     match error.kind() {
         ErrorKind::OutOfMemory => WordsNo::NoMemory(NoMemory::from(AllocError)),
