@@ -42,4 +42,6 @@ mod worked_migration;
 #[cfg(test)]
 mod worked_moves;
 #[cfg(test)]
+mod worked_programs;
+#[cfg(test)]
 mod worked_servers;

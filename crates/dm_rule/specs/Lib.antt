@@ -1,5 +1,7 @@
 pub mod Sets
 pub mod View
+pub mod Holders
+pub mod Given
 pub mod Addresses
 pub mod Point
 pub mod Spots

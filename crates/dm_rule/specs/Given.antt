@@ -1,0 +1,327 @@
+-- The addresses that each step of the kernel without machines gives, a row a label.
+use Rattle.std.specs.Prelude.{ℕ, ◌+◌, if◌then◌else◌, List, [], ◌∷◌, ◌++◌, length, map, slice_set}
+use Rattle.std.specs.declared.option.Option.{Option}
+use Rattle.std.specs.declared.option.Option.TheVariants.{None, Some}
+use Rattle.dm_link.specs.declared.Pid.{Pid}
+use Rattle.dm_link.specs.Names.{Place, pid_eq}
+use Rattle.dm_link.specs.Plain.{PlainLink}
+use Rattle.dm_linktable.specs.Slots.{first_empty}
+use Rattle.dm_message.specs.declared.MsgId.{MsgId}
+use Rattle.dm_message.specs.Ids.{id_of}
+use Rattle.dm_message.specs.Plain as what
+use Rattle.dm_message.specs.Plain.{PlainMessage, PlainWhat}
+use Rattle.dm_onekernel.specs.declared.label.Label.{Label}
+use Rattle.dm_onekernel.specs.declared.label.Label.TheVariants as label
+use Rattle.dm_onekernel.specs.declared.label.Reply.{Reply}
+use Rattle.dm_onekernel.specs.declared.label.Reply.TheVariants as reply
+use Rattle.dm_onekernel.specs.Boot.{switchboard}
+use Rattle.dm_onekernel.specs.PlainProcess.{PlainProcess, reg}
+use Rattle.dm_onekernel.specs.Kernel.{NamedLink, OneKernel}
+use Rattle.dm_onekernel.specs.Calls as calls
+use Rattle.dm_onekernel.specs.Pieces as pieces
+use Rattle.dm_onekernel.specs.Pieces.{answer_id}
+use Rattle.dm_onekernel.specs.Switchboard as board
+use Rattle.dm_onekernel.specs.Manager as manage
+use Rattle.dm_onekernel.specs.Step as kernel
+use Rattle.dm_rule.specs.View.{View}
+use Rattle.dm_rule.specs.Holders.{Slot, Owner, Receiver, Sender, Enclosed, Child, Name, Answer, Addresses, Gets, gets, here, unmoved}
+
+-- the links of a message, in order, from places that are given
+abbrev pub encloses : MsgId → ℕ → List Place → List Gets
+encloses id k [] = []
+encloses id k (p ∷ ps) = gets (Enclosed id k) p ∷ encloses id (k + 1) ps
+
+-- the places of a message's links from place k on
+abbrev pub enclosed_from : Addresses → MsgId → ℕ → List PlainLink → List Place
+enclosed_from a id k [] = []
+enclosed_from a id k (l ∷ ls) = a (Enclosed id k) ∷ enclosed_from a id (k + 1) ls
+
+-- a process asks for the first piece of a data move: over its link in slot r1, whose place is then the owner's too
+abbrev pub requests : View → Addresses → Pid → PlainProcess → MsgId → List Gets
+requests v a p x id =
+    gets (Receiver id) (a (Slot p (reg x.regs 1))) ∷ gets (Sender id) (here v p) ∷ gets (Owner p) (a (Slot p (reg x.regs 1))) ∷ []
+
+-- a process sends: over its link in slot r1, from where it is; the links that it encloses keep their places; what isn't a user
+-- message begins a data move
+abbrev pub sends_what : View → Addresses → Pid → PlainProcess → MsgId → PlainWhat → List Gets
+sends_what v a p x id (what.User code channel body links) =
+    gets (Receiver id) (a (Slot p (reg x.regs 1))) ∷ gets (Sender id) (here v p) ∷ encloses id 0 (map (λ k. a (Slot p k)) (calls.listed x))
+sends_what v a p x id what.Stop = requests v a p x id
+sends_what v a p x id what.Resume = requests v a p x id
+sends_what v a p x id what.Kill = requests v a p x id
+sends_what v a p x id (what.Read base len) = requests v a p x id
+sends_what v a p x id (what.Write base bytes) = requests v a p x id
+sends_what v a p x id (what.Block bytes) = requests v a p x id
+sends_what v a p x id what.Written = requests v a p x id
+sends_what v a p x id what.Gone = requests v a p x id
+sends_what v a p x id (what.Create image links) = requests v a p x id
+sends_what v a p x id (what.Created pid) = requests v a p x id
+sends_what v a p x id what.NoRoom = requests v a p x id
+sends_what v a p x id (what.Move machine) = requests v a p x id
+sends_what v a p x id (what.Moved outcome) = requests v a p x id
+
+-- only a call that sends gives addresses; a row an outcome
+abbrev pub sends_next : View → Addresses → Pid → PlainProcess → MsgId → Option kernel.Next → List Gets
+sends_next v a p x id (Some (kernel.Calls number (calls.Sends m y))) = sends_what v a p x id m.what
+sends_next v a p x id (Some (kernel.Calls number (calls.Replies reply y))) = []
+sends_next v a p x id (Some (kernel.Calls number (calls.Waits y))) = []
+sends_next v a p x id (Some (kernel.Calls number (calls.Outputs word y))) = []
+sends_next v a p x id (Some (kernel.Calls number (calls.Ends because))) = []
+sends_next v a p x id (Some (kernel.Faults fault)) = []
+sends_next v a p x id None = []
+
+-- the send of a process that executes
+abbrev pub sends : OneKernel → View → Addresses → Pid → MsgId → Option PlainProcess → List Gets
+sends s v a p id None = []
+sends s v a p id (Some x) = sends_next v a p x id (kernel.next s p)
+
+-- a link goes into a slot, where there is one, with this place
+abbrev pub fills : Pid → Option ℕ → Place → List Gets
+fills p None place = []
+fills p (Some slot) place = gets (Slot p slot) place ∷ []
+
+-- only the calls that make a link or copy one fill a slot; a row a call
+abbrev pub fills_by : View → Addresses → Pid → PlainProcess → calls.CallNumber → List Gets
+fills_by v a p x calls.Make = fills p (first_empty x.links) (here v p)
+fills_by v a p x calls.Copy = fills p (first_empty x.links) (a (Slot p (reg x.regs 1)))
+fills_by v a p x calls.Exit = []
+fills_by v a p x calls.Out = []
+fills_by v a p x calls.Drop = []
+fills_by v a p x calls.Send = []
+fills_by v a p x calls.Receive = []
+fills_by v a p x calls.Move = []
+fills_by v a p x calls.Unknown = []
+
+-- a call fills a slot only if it is not refused; a row a reply
+abbrev pub made : View → Addresses → Pid → ℕ → Reply → Option PlainProcess → List Gets
+made v a p n reply.Done (Some x) = fills_by v a p x (calls.call_number n)
+made v a p n reply.Done None = []
+made v a p n reply.NoLink x = []
+made v a p n reply.TableFull x = []
+made v a p n reply.BadKind x = []
+made v a p n reply.BadRange x = []
+made v a p n reply.NoRight x = []
+made v a p n reply.TooLong x = []
+made v a p n reply.Gone x = []
+made v a p n reply.NotCopyable x = []
+
+-- the slots that so many links go into: the lowest empty ones, in order
+abbrev pub slot_after : List (Option PlainLink) → PlainLink → Option ℕ → List (Option PlainLink)
+slot_after slots l None = slots
+slot_after slots l (Some k) = slice_set slots k (Some l)
+
+-- the links of a message go into them, and keep their places
+abbrev pub receives_links : Addresses → Pid → MsgId → ℕ → List (Option PlainLink) → List PlainLink → List Gets
+receives_links a p id k slots [] = []
+receives_links a p id k slots (l ∷ ls) =
+    fills p (first_empty slots) (a (Enclosed id k)) ++ receives_links a p id (k + 1) (slot_after slots l (first_empty slots)) ls
+
+-- only a user message brings links to a process; a row a kind
+abbrev pub receives_what : Addresses → Pid → MsgId → PlainProcess → PlainWhat → List Gets
+receives_what a p id x (what.User code channel body links) = receives_links a p id 0 x.links links
+receives_what a p id x what.Stop = []
+receives_what a p id x what.Resume = []
+receives_what a p id x what.Kill = []
+receives_what a p id x (what.Read base len) = []
+receives_what a p id x (what.Write base bytes) = []
+receives_what a p id x (what.Block bytes) = []
+receives_what a p id x what.Written = []
+receives_what a p id x what.Gone = []
+receives_what a p id x (what.Create image links) = []
+receives_what a p id x (what.Created pid) = []
+receives_what a p id x what.NoRoom = []
+receives_what a p id x (what.Move machine) = []
+receives_what a p id x (what.Moved outcome) = []
+
+-- a living process takes a message of the bag
+abbrev pub receives : Addresses → Pid → MsgId → Option PlainProcess → Option PlainMessage → List Gets
+receives a p id None m = []
+receives a p id (Some x) None = []
+receives a p id (Some x) (Some m) = receives_what a p id x m.what
+
+-- an answer goes back to where its request came from
+abbrev pub answers : Addresses → MsgId → Place → List Gets
+answers a id sender = gets (Receiver (answer_id id)) (a (Sender id)) ∷ gets (Sender (answer_id id)) sender ∷ []
+
+-- the next request of a data move goes to its owner
+abbrev pub lands : View → Addresses → Pid → Option pieces.Landed → List Gets
+lands v a p None = []
+lands v a p (Some (pieces.Done reply x)) = []
+lands v a p (Some (pieces.Next request x)) = gets (Receiver request.id) (a (Owner p)) ∷ gets (Sender request.id) (here v p) ∷ []
+
+-- what the kernel of a process does with a message for it, a row a kind: an answer, or the next request of its data move
+abbrev pub serves_what : View → Addresses → MsgId → PlainMessage → PlainProcess → PlainWhat → List Gets
+serves_what v a id m x (what.Read base len) = answers a id (here v m.to)
+serves_what v a id m x (what.Write base bytes) = answers a id (here v m.to)
+serves_what v a id m x (what.Block bytes) = lands v a m.to (pieces.lands m.to x m x.status)
+serves_what v a id m x what.Written = lands v a m.to (pieces.lands m.to x m x.status)
+serves_what v a id m x what.Gone = []
+serves_what v a id m x what.Stop = []
+serves_what v a id m x what.Resume = []
+serves_what v a id m x what.Kill = []
+serves_what v a id m x (what.User code channel body links) = []
+serves_what v a id m x (what.Create image links) = []
+serves_what v a id m x (what.Created pid) = []
+serves_what v a id m x what.NoRoom = []
+serves_what v a id m x (what.Move machine) = []
+serves_what v a id m x (what.Moved outcome) = []
+
+-- only at a living process
+abbrev pub serves_alive : View → Addresses → MsgId → PlainMessage → Option PlainProcess → List Gets
+serves_alive v a id m None = []
+serves_alive v a id m (Some x) = serves_what v a id m x m.what
+
+-- a message of the bag is served
+abbrev pub serves : OneKernel → View → Addresses → MsgId → Option PlainMessage → List Gets
+serves s v a id None = []
+serves s v a id (Some m) = serves_alive v a id m (kernel.alive (s.processes m.to))
+
+-- a child begins with the links that its request brought
+abbrev pub child_links : Addresses → Pid → MsgId → ℕ → List PlainLink → List Gets
+child_links a child id k [] = []
+child_links a child id k (l ∷ ls) = gets (Slot child k) (a (Enclosed id k)) ∷ child_links a child id (k + 1) ls
+
+-- only a request to make a process brings links to it; a row a kind
+abbrev pub creates_what : Addresses → MsgId → Pid → PlainWhat → List Gets
+creates_what a id child (what.Create image links) = child_links a child id 0 links
+creates_what a id child (what.User code channel body links) = []
+creates_what a id child what.Stop = []
+creates_what a id child what.Resume = []
+creates_what a id child what.Kill = []
+creates_what a id child (what.Read base len) = []
+creates_what a id child (what.Write base bytes) = []
+creates_what a id child (what.Block bytes) = []
+creates_what a id child what.Written = []
+creates_what a id child what.Gone = []
+creates_what a id child (what.Created pid) = []
+creates_what a id child what.NoRoom = []
+creates_what a id child (what.Move machine) = []
+creates_what a id child (what.Moved outcome) = []
+
+-- a kernel makes a process, and answers
+abbrev pub creates : View → Addresses → MsgId → Pid → Option PlainMessage → List Gets
+creates v a id child None = []
+creates v a id child (Some m) = answers a id (unmoved v.acting) ++ creates_what a id child m.what
+
+-- the place of a name in the switchboard's list, counted from n
+abbrev pub place_named : List ℕ → List NamedLink → ℕ → ℕ
+place_named name [] n = n
+place_named name (k ∷ ks) n = if board.bytes_eq k.name name then n else place_named name ks (n + 1)
+
+-- the link that an answer hands out, a row an answer
+abbrev pub board_finds : Addresses → MsgId → List NamedLink → List ℕ → board.Answer → List Gets
+board_finds a sent names [] answer = []
+board_finds a sent names (operation ∷ name) board.Registered = []
+board_finds a sent names (operation ∷ name) (board.Found link) = gets (Enclosed sent 0) (a (Name (place_named name names 0))) ∷ []
+board_finds a sent names (operation ∷ name) board.Unknown = []
+board_finds a sent names (operation ∷ name) board.Taken = []
+board_finds a sent names (operation ∷ name) board.BadLink = []
+board_finds a sent names (operation ∷ name) board.BadRequest = []
+
+-- the link that a request leaves with the switchboard, a row an answer
+abbrev pub board_keeps : Addresses → MsgId → List NamedLink → board.Answer → List Gets
+board_keeps a id names board.Registered = gets (Name (length names)) (a (Enclosed id 1)) ∷ []
+board_keeps a id names (board.Found link) = []
+board_keeps a id names board.Unknown = []
+board_keeps a id names board.Taken = []
+board_keeps a id names board.BadLink = []
+board_keeps a id names board.BadRequest = []
+
+-- an answer, with what it hands out and what the switchboard keeps
+abbrev pub board_asks : View → Addresses → MsgId → MsgId → List NamedLink → List ℕ → board.Asked → List Gets
+board_asks v a id sent names body asked =
+    gets (Receiver sent) (a (Enclosed id 0)) ∷ gets (Sender sent) (unmoved v.acting) ∷ board_finds a sent names body asked.answer ++ board_keeps a id names asked.answer
+
+-- the switchboard answers over the first link; what it hands out keeps its place, and what it keeps too
+abbrev pub board_takes : OneKernel → View → Addresses → MsgId → PlainWhat → List Gets
+board_takes s v a id (what.User code channel body []) = []
+board_takes s v a id (what.User code channel body (l ∷ ls)) =
+    board_asks v a id (id_of switchboard s.switchboard.sent) s.switchboard.names body (board.asks s.switchboard.names body ls)
+board_takes s v a id what.Stop = []
+board_takes s v a id what.Resume = []
+board_takes s v a id what.Kill = []
+board_takes s v a id (what.Read base len) = []
+board_takes s v a id (what.Write base bytes) = []
+board_takes s v a id (what.Block bytes) = []
+board_takes s v a id what.Written = []
+board_takes s v a id what.Gone = []
+board_takes s v a id (what.Create image links) = []
+board_takes s v a id (what.Created pid) = []
+board_takes s v a id what.NoRoom = []
+board_takes s v a id (what.Move machine) = []
+board_takes s v a id (what.Moved outcome) = []
+
+-- the manager's message to a child goes over its link to it
+abbrev pub manager_controls : View → Addresses → ℕ → PlainMessage → List Gets
+manager_controls v a code sent = gets (Receiver sent.id) (a (Child code)) ∷ gets (Sender sent.id) (unmoved v.acting) ∷ []
+
+-- the manager: a request to make a process goes to a kernel, a control message over the link to the child, and an answer
+-- over the link that came with the request
+abbrev pub manager_tells : View → Addresses → MsgId → ℕ → PlainMessage → PlainWhat → List Gets
+manager_tells v a id code sent (what.Create image links) =
+    gets (Receiver sent.id) (unmoved sent.to.home) ∷ gets (Sender sent.id) (unmoved v.acting) ∷ gets (Answer sent.id.n) (a (Enclosed id 0)) ∷ encloses sent.id 0 (enclosed_from a id 1 links)
+manager_tells v a id code sent (what.User c channel body links) = gets (Receiver sent.id) (a (Enclosed id 0)) ∷ gets (Sender sent.id) (unmoved v.acting) ∷ []
+manager_tells v a id code sent what.Stop = manager_controls v a code sent
+manager_tells v a id code sent what.Resume = manager_controls v a code sent
+manager_tells v a id code sent what.Kill = manager_controls v a code sent
+manager_tells v a id code sent (what.Read base len) = manager_controls v a code sent
+manager_tells v a id code sent (what.Write base bytes) = manager_controls v a code sent
+manager_tells v a id code sent (what.Block bytes) = manager_controls v a code sent
+manager_tells v a id code sent what.Written = manager_controls v a code sent
+manager_tells v a id code sent what.Gone = manager_controls v a code sent
+manager_tells v a id code sent (what.Created pid) = manager_controls v a code sent
+manager_tells v a id code sent what.NoRoom = manager_controls v a code sent
+manager_tells v a id code sent (what.Move machine) = manager_controls v a code sent
+manager_tells v a id code sent (what.Moved outcome) = manager_controls v a code sent
+
+-- what the manager sends for a user message, if anything
+abbrev pub manager_sends : View → Addresses → MsgId → ℕ → Option PlainMessage → List Gets
+manager_sends v a id code None = []
+manager_sends v a id code (Some sent) = manager_tells v a id code sent sent.what
+
+-- a kernel's answer is passed on to whoever asked for the process: over the link that was kept with request n
+abbrev pub manager_answers : View → Addresses → ℕ → Option PlainMessage → List Gets
+manager_answers v a n None = []
+manager_answers v a n (Some sent) = gets (Receiver sent.id) (a (Answer n)) ∷ gets (Sender sent.id) (unmoved v.acting) ∷ gets (Enclosed sent.id 0) (unmoved v.acting) ∷ []
+
+-- the manager takes a message, a row a kind: a user's, or a kernel's answer to a request of its own
+abbrev pub manager_takes : OneKernel → View → Addresses → PlainMessage → PlainWhat → Option manage.Took → List Gets
+manager_takes s v a m w None = []
+manager_takes s v a m (what.User code channel body links) (Some t) = manager_sends v a m.id code t.message
+manager_takes s v a m (what.Created child) (Some t) = gets (Child (length s.manager.children + 1)) (unmoved child.home) ∷ manager_answers v a m.id.n t.message
+manager_takes s v a m what.Stop (Some t) = manager_answers v a m.id.n t.message
+manager_takes s v a m what.Resume (Some t) = manager_answers v a m.id.n t.message
+manager_takes s v a m what.Kill (Some t) = manager_answers v a m.id.n t.message
+manager_takes s v a m (what.Read base len) (Some t) = manager_answers v a m.id.n t.message
+manager_takes s v a m (what.Write base bytes) (Some t) = manager_answers v a m.id.n t.message
+manager_takes s v a m (what.Block bytes) (Some t) = manager_answers v a m.id.n t.message
+manager_takes s v a m what.Written (Some t) = manager_answers v a m.id.n t.message
+manager_takes s v a m what.Gone (Some t) = manager_answers v a m.id.n t.message
+manager_takes s v a m (what.Create image links) (Some t) = manager_answers v a m.id.n t.message
+manager_takes s v a m what.NoRoom (Some t) = manager_answers v a m.id.n t.message
+manager_takes s v a m (what.Move machine) (Some t) = manager_answers v a m.id.n t.message
+manager_takes s v a m (what.Moved outcome) (Some t) = manager_answers v a m.id.n t.message
+
+-- a server takes a message of the bag
+abbrev pub takes : OneKernel → View → Addresses → MsgId → Option PlainMessage → List Gets
+takes s v a id None = []
+takes s v a id (Some m) =
+    if pid_eq m.to switchboard then board_takes s v a id m.what
+    else manager_takes s v a m m.what (manage.takes s.manager s.machines (length s.images) m m.what)
+
+-- what each label gives, a row a label
+abbrev pub gives : OneKernel → View → Addresses → Label → List Gets
+gives s v a (label.Ran p k) = []
+gives s v a (label.Call p n c) = made v a p n c (kernel.running s p)
+gives s v a (label.Send p id) = sends s v a p id (kernel.running s p)
+gives s v a (label.Wait p) = []
+gives s v a (label.Out p w) = []
+gives s v a (label.End p y) = []
+gives s v a (label.Receive p id) = receives a p id (kernel.alive (s.processes p)) (s.bag id)
+gives s v a (label.Refuse p id c) = []
+gives s v a (label.Dropped id) = []
+gives s v a (label.Served id) = serves s v a id (s.bag id)
+gives s v a (label.Gone id) = answers a id (record { at = v.acting; moves = (a (Receiver id)).moves })
+gives s v a (label.Took id) = takes s v a id (s.bag id)
+gives s v a (label.Created id child) = creates v a id child (s.bag id)
+gives s v a (label.NoSpace id f b) = answers a id (unmoved v.acting)
