@@ -1,9 +1,10 @@
 //! The boot file: which machines, images and processes a system starts with.
 #![tactic(auto)]
 
-ghost use Rattle.std.specs.Prelude.{IfOk};
+ghost use Rattle.std.specs.Prelude.{Err, IfErr, IfOk, Some};
 ghost use Rattle.dm_onekernel.specs.Boot.{IsValid};
-ghost use Rattle.dm_boot.specs.Boot.{Answers, IsUnread, boot_of};
+ghost use Rattle.toml.specs.View.{table_view};
+ghost use Rattle.dm_boot.specs.Boot.{Answers, IsUnread, boot_of, boot_of_document};
 
 mod checks;
 mod images;
@@ -24,8 +25,8 @@ use dm_onekernel::boot::Boot;
 pub use rules::{BootNo, BootRule};
 use std::alloc::{AllocError, Global};
 use system::system_of;
-use toml::Value;
 use toml::de::Error;
+use toml::{Table, Value};
 
 /// Reads the system that a boot file describes, or the first rule that it breaks.
 #[tactic(auto, using(crate::proofs::Validity::valid_lemmas))]
@@ -41,7 +42,17 @@ pub fn read_boot(alloc: Global, bytes: &[u8]) -> Result<Boot, BootNo>
 fn read(alloc: Global, bytes: &[u8]) -> Result<Boot, BootNo>
     ensures { Answers (boot_of bytes.now) result }
 {
-    match toml::table_from_slice(alloc, bytes) {
+    read_document(alloc, toml::table_from_slice(alloc, bytes))
+}
+
+/// Reads the top table, where there is a document; where there is none, the reader of documents says why.
+#[tactic(auto, unfolding(crate::specs::Boot::boot_of), using(crate::proofs::Documents::document_lemmas))]
+fn read_document(alloc: Global, document: Result<Table, Error>) -> Result<Boot, BootNo>
+    ensures answers { IfOk document (λ t. Answers (boot_of_document (Some (table_view t))) result) }
+    ensures unread { IfErr document (λ why. IfErr result (λ no. IsUnread why no)) }
+    ensures refused { IfErr document (λ why. Answers (Err (BootRule.Document, 0)) result) }
+{
+    match document {
         Ok(table) => system_of(alloc, &Value::Table(table)),
         Err(why) => Err(unread(&why)),
     }
