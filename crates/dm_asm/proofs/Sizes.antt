@@ -3,7 +3,7 @@ use Rattle.std.proofs.Common.{ℕ, suc, Bool, true, false, nat_le, ◌≡◌, re
 use Rattle.std.specs.Prelude.{Option, Some, None, Result, Ok, Err, if◌then◌else◌}
 use Rattle.std.proofs.lemmas.Bool.Decides.{nat_tests}
 use Rattle.std.proofs.lemmas.List.{length-replicate}
-use Rattle.dm_regs.specs.declared.opcodes.Opcode.{Opcode}
+use Rattle.dm_processor.specs.declared.opcodes.Opcode.{Opcode}
 use Rattle.dm_asm.specs.declared.forms.Form.{Form}
 use Rattle.dm_asm.specs.declared.forms.Form.TheVariants.{Instruction, Word, Byte, Zero}
 use Rattle.dm_asm.specs.declared.forms.Shape.{Shape}

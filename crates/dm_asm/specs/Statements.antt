@@ -1,8 +1,8 @@
 -- The bytes of a line.
 use Rattle.std.specs.Prelude.{ℕ, Bool, false, ◌==◌, not, nat_lt, ◌^◌, ◌-◌, if◌then◌else◌, Option, Some, None, Result, Ok, Err, List, [], ◌∷◌, length, replicate}
-use Rattle.dm_regs.specs.declared.opcodes.Opcode.{Opcode}
-use Rattle.dm_regs.specs.Opcodes.{opcode_number}
-use Rattle.dm_regs.specs.Instructions.{word_bytes}
+use Rattle.dm_processor.specs.declared.opcodes.Opcode.{Opcode}
+use Rattle.dm_processor.specs.Opcodes.{opcode_number}
+use Rattle.dm_processor.specs.Instructions.{word_bytes}
 use Rattle.dm_asm.specs.declared.forms.Form.{Form}
 use Rattle.dm_asm.specs.declared.forms.Form.TheVariants.{Instruction, Word, Byte, Zero}
 use Rattle.dm_asm.specs.declared.labels.Place.{Place}

@@ -2,7 +2,7 @@
 ghost use Rattle.std.specs.Prelude.{◌≡◌};
 ghost use Rattle.dm_asm.specs.Forms.{form_of, opcode_named, opcode_word, operand_count, shape_of};
 
-use dm_regs::Opcode;
+use dm_processor::Opcode;
 
 /// An instruction, or a directive.
 #[derive(Clone, Copy, Debug, PartialEq, Eq)]

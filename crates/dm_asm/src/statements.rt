@@ -12,7 +12,7 @@ use crate::lines::{count_words, next_word};
 use crate::operands::{last_bytes, next_number, next_value, number_within};
 use crate::refusals::{Stop, Why};
 use byteorder::{BigEndian, ByteOrder};
-use dm_regs::Opcode;
+use dm_processor::Opcode;
 
 /// Adds an instruction.
 fn add_instruction(

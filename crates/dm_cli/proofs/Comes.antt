@@ -12,9 +12,9 @@ use Rattle.std.specs.declared.result.Result.TheVariants.{Ok, Err}
 use Rattle.dm_onekernel.specs.declared.boot.Boot.{Boot}
 use Rattle.dm_onekernel.specs.Boot.{IsValid}
 use Rattle.dm_schedule.specs.declared.Directive.{Directive}
-use Rattle.dm_rule.specs.declared.line.Line.{Line}
+use Rattle.dm_line.specs.declared.line.Line.{Line}
 use Rattle.dm_rule.specs.Ends as rule_ends
-use Rattle.dm_rule.specs.Good.{Todo, Next, all_of}
+use Rattle.dm_line.specs.Todo.{Todo, Next, all_of}
 use Rattle.dm_rule.specs.Worn as worn_as
 use Rattle.dm_rule.specs.Point.{Point, first_point}
 use Rattle.dm_text.specs.Fits.{HidesNothing, LineFits}

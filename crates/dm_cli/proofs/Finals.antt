@@ -13,8 +13,8 @@ use Rattle.dm_link.specs.Names.{pid_of}
 use Rattle.dm_message.specs.declared.MsgId.{MsgId}
 use Rattle.dm_process.specs.declared.process.Process.{Process}
 use Rattle.dm_process.specs.Lawful.{SlotIsLawful}
-use Rattle.dm_regs.specs.declared.registers.Regs.{Regs}
-use Rattle.dm_forward.specs.declared.record.Record.TheVariants.{Here, Frozen, Incoming, Forward, Ended}
+use Rattle.dm_processor.specs.declared.registers.Regs.{Regs}
+use Rattle.dm_records.specs.declared.record.Record.TheVariants.{Here, Frozen, Incoming, Forward, Ended}
 use Rattle.dm_switchboard.specs.Board.{Named}
 use Rattle.dm_switchboard.specs.Lawful.{IsLawfulNamed}
 use Rattle.dm_procman.specs.declared.pending.Pending.{Pending}
@@ -25,12 +25,13 @@ use Rattle.dm_kernel.specs.Lawful.{IsLawfulKnown, IsLawfulPair, IsLawfulState}
 use Rattle.dm_migrate.specs.Arrival.{Arrival, restarted}
 use Rattle.dm_migrate.specs.declared.arriving.Wanted.{Wanted}
 use Rattle.dm_migrate.specs.declared.arriving.Wanted.TheVariants.{Chunk, Block, Nothing}
-use Rattle.dm_rule.specs.declared.line.Line.{Line}
-use Rattle.dm_rule.specs.declared.line.EndLine.{EndLine}
-use Rattle.dm_rule.specs.declared.line.EndLine.TheVariants as end
-use Rattle.dm_rule.specs.declared.line.Standing.{Standing}
-use Rattle.dm_rule.specs.declared.line.Standing.TheVariants as standing
-use Rattle.dm_rule.specs.Ends.{says, or, trimmed, block_line, memory_lines, each_machine, home_with, list_line}
+use Rattle.dm_line.specs.declared.line.Line.{Line}
+use Rattle.dm_line.specs.declared.end_line.EndLine.{EndLine}
+use Rattle.dm_line.specs.declared.end_line.EndLine.TheVariants as end
+use Rattle.dm_line.specs.declared.end_line.Standing.{Standing}
+use Rattle.dm_line.specs.declared.end_line.Standing.TheVariants as standing
+use Rattle.dm_line.specs.Todo.{or}
+use Rattle.dm_line.specs.Ends.{trimmed, block_line, memory_lines, each_machine, home_with, list_line}
 use Rattle.dm_text.specs.Fits.{HidesNothing}
 use Rattle.dm_world.specs.World.{WorldState}
 use Rattle.dm_world.specs.Ends as ends
@@ -59,7 +60,7 @@ memory_hides p bytes (suc k) = both_hide (memory_lines p bytes k) (block_line p 
 
 slot_hides : (p : Pid) (k : ℕ) (o : Option Link) → SlotHides o → Hide (ends.slot_line p k o)
 slot_hides p k None h = none_hide
-slot_hides p k (Some l) h = and_hide (says (end.Link p k l)) [] h none_hide
+slot_hides p k (Some l) h = and_hide ((end.Link p k l)) [] h none_hide
 
 links_hide : (p : Pid) (k : ℕ) (slots : List (Option Link)) → TableHides slots → Hide (ends.link_lines p k slots)
 links_hide p k [] h = none_hide
@@ -145,11 +146,11 @@ machines_hide f (suc n) h = both_hide (each_machine f n) (f n) (machines_hide f 
 
 names_hide : (ks : List Named) → All IsLawfulNamed ks → Hide (ends.name_lines ks)
 names_hide [] h = none_hide
-names_hide (k ∷ ks) h = and_hide (says (end.Name (record { items = k.name }) k.link)) (ends.name_lines ks) (All-head IsLawfulNamed k ks h).link.not_to_kernel (names_hide ks (All-tail IsLawfulNamed k ks h))
+names_hide (k ∷ ks) h = and_hide ((end.Name (record { items = k.name }) k.link)) (ends.name_lines ks) (All-head IsLawfulNamed k ks h).link.not_to_kernel (names_hide ks (All-tail IsLawfulNamed k ks h))
 
 children_hide : (n : ℕ) (cs : List Addr) → Hide (ends.child_lines n cs)
 children_hide n [] = none_hide
-children_hide n (c ∷ cs) = and_hide (says (end.Child n c.pid c.at)) (ends.child_lines (n + 1) cs) tt (children_hide (n + 1) cs)
+children_hide n (c ∷ cs) = and_hide ((end.Child n c.pid c.at)) (ends.child_lines (n + 1) cs) tt (children_hide (n + 1) cs)
 
 pending_hide : (rs : List Pending) → Hide (ends.pending_lines rs)
 pending_hide [] = none_hide
@@ -158,8 +159,8 @@ pending_hide (r ∷ rs) = and_hide _ (ends.pending_lines rs) tt (pending_hide rs
 servers_hide : (o : Option Servers) → IfSome o IsLawfulPair → Hide (ends.server_lines o)
 servers_hide None h = none_hide
 servers_hide (Some v) h =
-    and_hide (says (end.Server switchboard v.board.sent)) (says (end.Server manager v.manager.sent) ∷ (ends.name_lines v.board.names ++ ends.child_lines 1 v.manager.children ++ ends.pending_lines v.manager.pending)) tt
-    (and_hide (says (end.Server manager v.manager.sent)) (ends.name_lines v.board.names ++ ends.child_lines 1 v.manager.children ++ ends.pending_lines v.manager.pending) tt
+    and_hide ((end.Server switchboard v.board.sent)) (end.Server manager v.manager.sent ∷ (ends.name_lines v.board.names ++ ends.child_lines 1 v.manager.children ++ ends.pending_lines v.manager.pending)) tt
+    (and_hide ((end.Server manager v.manager.sent)) (ends.name_lines v.board.names ++ ends.child_lines 1 v.manager.children ++ ends.pending_lines v.manager.pending) tt
     (both_hide (ends.name_lines v.board.names ++ ends.child_lines 1 v.manager.children) (ends.pending_lines v.manager.pending)
     (both_hide (ends.name_lines v.board.names) (ends.child_lines 1 v.manager.children) (names_hide v.board.names h.board) (children_hide 1 v.manager.children)) (pending_hide v.manager.pending)))
 
@@ -202,11 +203,11 @@ seven_hide a b c d e f g ha hb hc hd he hf hg =
 -- all of them
 pub end_hides : (machines : ℕ) (w : WorldState) → 0 < machines → ((m : ℕ) → m < machines → IsLawfulState (w.nodes m).kernel) → Hide (ends.end_lines machines w)
 end_hides machines w some lawful =
-    and_hide (says end.Final) _ tt
+    and_hide (end.Final) _ tt
     (seven_hide (ends.homes_with w (ends.process_lines machines w) machines) (ends.server_lines (w.nodes 0).kernel.servers) (ends.homes_with w (ends.queue_of machines w) machines)
     (each_machine (λ m. ends.homes_with w (ends.held_line w m) machines) machines)
     (each_machine (λ m. list_line (end.Inbox m) (ends.names_of (w.nodes m).kernel.inbox)) machines)
     (each_machine (λ a. each_machine (λ c. ends.stream_line w a c) machines) machines)
-    (says (end.Groups w.groups) ∷ [])
+    (end.Groups w.groups ∷ [])
     (processes_hide machines w lawful) (servers_hide (w.nodes 0).kernel.servers (lawful 0 some).servers) (queues_hide machines w) (held_hides machines w) (inboxes_hide machines w) (streams_hide machines w)
-    (and_hide (says (end.Groups w.groups)) [] tt none_hide))
+    (and_hide ((end.Groups w.groups)) [] tt none_hide))

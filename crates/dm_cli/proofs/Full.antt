@@ -8,7 +8,7 @@ use Rattle.dm_link.specs.declared.Pid.{Pid}
 use Rattle.dm_message.specs.declared.MsgId.{MsgId}
 use Rattle.dm_message.specs.declared.kind.MessageKind.{MessageKind}
 use Rattle.dm_message.specs.declared.kind.MessageKind.TheVariants as kind
-use Rattle.dm_rule.specs.declared.line.Stage.{Stage}
+use Rattle.dm_line.specs.declared.line.Stage.{Stage}
 use Rattle.dm_onekernel.specs.declared.boot.Boot.{Boot}
 use Rattle.dm_onekernel.specs.declared.label.Label.{Label}
 use Rattle.dm_onekernel.specs.declared.label.Label.TheVariants as label
@@ -17,16 +17,16 @@ use Rattle.dm_onekernel.specs.Options.{bind}
 use Rattle.dm_laws.proofs.Steps.{bind-is}
 use Rattle.dm_schedule.specs.declared.Step.{Step}
 use Rattle.dm_schedule.specs.declared.Step.TheVariants as directive
-use Rattle.dm_rule.specs.declared.line.Line.{Line}
-use Rattle.dm_rule.specs.declared.line.Line.TheVariants as line
-use Rattle.dm_rule.specs.declared.line.Stage.TheVariants as stage
-use Rattle.dm_rule.specs.Sets.{at_pair}
+use Rattle.dm_line.specs.declared.line.Line.{Line}
+use Rattle.dm_line.specs.declared.line.Line.TheVariants as line
+use Rattle.dm_line.specs.declared.line.Stage.TheVariants as stage
+use Rattle.dm_line.specs.Sets.{at_pair}
 use Rattle.dm_rule.specs.View as view
 use Rattle.dm_rule.specs.View.{View, Pair, Told, About, view_after, after_label, receiver_of}
 use Rattle.dm_rule.specs.Point.{Point, label_of, kernel_after, after_line, after, moved}
 use Rattle.dm_rule.specs.Parts.{Part, Spelled, lines_of, behind, spelled}
 use Rattle.dm_rule.specs.Rule.{group_of, outcome, headed}
-use Rattle.dm_rule.specs.Good.{Two, or}
+use Rattle.dm_line.specs.Todo.{Two, or}
 use Rattle.dm_rule.specs.Worn.{is_full, full_pair, worn_in}
 
 -- the view after lines
@@ -246,7 +246,6 @@ line_rises v (line.NoMove id) = same_rises v.pair _ refl
 line_rises v (line.Proto id) = same_rises v.pair _ (pair_of_proto (view.handled v id) (v.told id))
 line_rises v (line.NoChild p) = same_rises v.pair _ refl
 line_rises v (line.Pinned p) = same_rises v.pair _ refl
-line_rises v (line.End e) = same_rises v.pair _ refl
 
 lines_rise : (ls : List Line) (v : View) → Rises v.pair (views v ls).pair
 lines_rise [] v a c = omega arith
@@ -301,7 +300,6 @@ full_over numbers v (line.NoMove id) p e = cc
 full_over numbers v (line.Proto id) p e = cc
 full_over numbers v (line.NoChild q) p e = cc
 full_over numbers v (line.Pinned q) p e = cc
-full_over numbers v (line.End x) p e = cc
 
 or_cases : (numbers : ℕ) (v : View) (l : Line) (ls : List Line) (p : Two) (o : Option Two) → full_pair numbers v l ≡ o → (worn_in numbers (view_after v l) ls ≡ Some p → IsOver numbers (views (view_after v l) ls) p) → or o (worn_in numbers (view_after v l) ls) ≡ Some p → IsOver numbers (views (view_after v l) ls) p
 or_cases numbers v l ls p None e later is = later is

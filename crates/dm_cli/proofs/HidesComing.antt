@@ -15,10 +15,10 @@ use Rattle.dm_packet.specs.Field.{Field, ◌>>=◌, both, number}
 use Rattle.dm_packet.specs.Fields.{LinkParts, addr, channel, flags, len_from, link, link_of}
 use Rattle.dm_packet.specs.Whats.{optional_read}
 use Rattle.dm_packet.proofs.Field.{bind_ok, ok_is}
-use Rattle.dm_carry.specs.declared.CarryBad.{CarryBad}
-use Rattle.dm_carry.specs.declared.Shell.{Shell}
-use Rattle.dm_carry.specs.Shell.{Front, by_rule, ended, front, read_shell, shell, shell_of_bytes, shell_with}
-use Rattle.dm_carry.specs.Table.{mask, read_slots, slots, table}
+use Rattle.dm_statebytes.specs.declared.CarryBad.{CarryBad}
+use Rattle.dm_statebytes.specs.declared.Shell.{Shell}
+use Rattle.dm_statebytes.specs.Shell.{Front, by_rule, ended, front, read_shell, shell, shell_of_bytes, shell_with}
+use Rattle.dm_statebytes.specs.Table.{mask, read_slots, slots, table}
 use Rattle.dm_migrate.specs.Arrival.{Arrival, restarted, revived, revived_from}
 
 -- what a slot holds, if anything, leads to no kernel

@@ -16,7 +16,7 @@ use Rattle.dm_onekernel.specs.Boot.{IsValid}
 use Rattle.dm_schedule.specs.declared.Step.{Step}
 use Rattle.dm_schedule.specs.declared.Directive.{Directive}
 use Rattle.dm_schedule.specs.declared.Directive.TheVariants as directive
-use Rattle.dm_rule.specs.Good.{Todo, Next, all_of}
+use Rattle.dm_line.specs.Todo.{Todo, Next, all_of}
 use Rattle.dm_world.specs.declared.cursor.Cursor.{Cursor}
 use Rattle.dm_world.specs.Cursor.{Falls, NextIs, left, todo_of}
 use Rattle.dm_world.specs.May.{MayStep}

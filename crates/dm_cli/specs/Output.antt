@@ -5,9 +5,10 @@ use Rattle.std.specs.declared.option.Option.{Option}
 use Rattle.std.specs.declared.option.Option.TheVariants.{None, Some}
 use Rattle.dm_onekernel.specs.declared.boot.Boot.{Boot}
 use Rattle.dm_schedule.specs.declared.Directive.{Directive}
-use Rattle.dm_rule.specs.declared.line.Line.{Line}
+use Rattle.dm_line.specs.declared.line.Line.{Line}
 use Rattle.dm_rule.specs.Ends.{end_lines}
-use Rattle.dm_rule.specs.Good.{Todo, Next, next_step}
+use Rattle.dm_line.specs.Todo.{Todo, Next}
+use Rattle.dm_rule.specs.Good.{next_step}
 use Rattle.dm_rule.specs.Point.{Point}
 use Rattle.dm_rule.specs.Worn as rule
 use Rattle.dm_text.specs.Fits.{LineFits}

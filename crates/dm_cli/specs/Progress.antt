@@ -9,8 +9,8 @@ use Rattle.dm_onekernel.specs.declared.boot.Boot.{Boot}
 use Rattle.dm_schedule.specs.declared.Step.{Step}
 use Rattle.dm_schedule.specs.declared.Directive.{Directive}
 use Rattle.dm_schedule.specs.declared.Directive.TheVariants as directive
-use Rattle.dm_rule.specs.declared.line.Line.{Line}
-use Rattle.dm_rule.specs.Good.{Todo, all_of}
+use Rattle.dm_line.specs.declared.line.Line.{Line}
+use Rattle.dm_line.specs.Todo.{Todo, all_of}
 use Rattle.dm_rule.specs.Laws.{IsStep}
 use Rattle.dm_rule.specs.Point.{Point}
 use Rattle.dm_text.specs.Fits.{LineFits}

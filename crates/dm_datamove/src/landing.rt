@@ -13,7 +13,7 @@ use crate::{Landed, Rest};
 use dm_message::{Message, What};
 use dm_onekernel::Reply;
 use dm_process::{Direction, Process, Status};
-use dm_regs::Cells;
+use dm_processor::Cells;
 
 /// Ends the move with a reply in register 0.
 fn end(process: &mut Process, reply: Reply) -> Landed

@@ -13,7 +13,7 @@ use dm_link::Addr;
 use dm_message::{Body, Message};
 use dm_onekernel::Reply;
 use dm_process::{Direction, Process};
-use dm_regs::{Cells, Memory};
+use dm_processor::{Cells, Memory};
 pub use landing::land;
 pub use requests::request;
 pub use serving::{answer, gone, serve};

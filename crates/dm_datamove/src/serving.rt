@@ -9,7 +9,7 @@ use crate::body_at;
 use dm_link::Addr;
 use dm_message::{Message, MsgId, What};
 use dm_process::Process;
-use dm_regs::Cells;
+use dm_processor::Cells;
 
 /// An answer under the request's name to who asked, from its receiver on machine `here`, so often moved.
 pub fn answer(request: &Message, here: u8, moves: u32, what: What) -> Message

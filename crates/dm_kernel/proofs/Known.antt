@@ -13,8 +13,8 @@ use Rattle.dm_process.specs.declared.process.Process.{Process}
 use Rattle.dm_process.specs.declared.process.Status.{Status}
 use Rattle.dm_process.specs.declared.process.Status.TheVariants.{Ready, Waiting, Moving}
 use Rattle.dm_room.specs.Room.{HasTaken, Taken}
-use Rattle.dm_forward.specs.declared.record.Record.TheVariants.{Here, Frozen, Incoming, Forward, Ended}
-use Rattle.dm_forward.specs.Records.{here_of, with_record}
+use Rattle.dm_records.specs.declared.record.Record.TheVariants.{Here, Frozen, Incoming, Forward, Ended}
+use Rattle.dm_records.specs.Records.{here_of, with_record}
 use Rattle.dm_onekernel.specs.Options.{bind}
 use Rattle.dm_kernel.specs.State.{KernelState, Known, Turned, blocks_of, with_here}
 use Rattle.dm_kernel.specs.May.{MayAct}

@@ -16,8 +16,8 @@ use Rattle.dm_message.specs.Kinds.{kind_of}
 use Rattle.dm_message.specs.Lawful.{IsLawfulMessage, IsLawfulWhat, is_answer}
 use Rattle.dm_process.specs.declared.process.Process.{Process}
 use Rattle.dm_process.specs.Lawful.{IsLawfulProcess, SlotIsLawful}
-use Rattle.dm_forward.specs.declared.record.Record.TheVariants.{Here, Ended}
-use Rattle.dm_forward.specs.Records.{with_record}
+use Rattle.dm_records.specs.declared.record.Record.TheVariants.{Here, Ended}
+use Rattle.dm_records.specs.Records.{with_record}
 use Rattle.dm_room.specs.Room.{Taken}
 use Rattle.dm_datamove.specs.Serving.{answer}
 use Rattle.dm_datamove.proofs.Tested.{none_lawful}
@@ -28,7 +28,7 @@ use Rattle.dm_onekernel.specs.declared.boot.Format.TheVariants.{One, Two}
 use Rattle.dm_onekernel.specs.declared.label.Why.{Why}
 use Rattle.dm_onekernel.specs.Boot.{image_is_valid, slots_of}
 use Rattle.dm_onekernel.specs.Start.{memory_of, slots_with}
-use Rattle.dm_rule.specs.declared.line.Line.{Line}
+use Rattle.dm_line.specs.declared.line.Line.{Line}
 use Rattle.dm_kernel.specs.declared.part.Part.{Part}
 use Rattle.dm_kernel.specs.declared.part.Part.TheVariants.{Says, Routes}
 use Rattle.dm_kernel.specs.Begun.{child_of, with_child}

@@ -18,7 +18,7 @@ use Rattle.dm_message.specs.Lawful.{IsLawfulMessage}
 use Rattle.dm_process.specs.declared.process.Process.{Process}
 use Rattle.dm_process.specs.Lawful.{IsLawfulProcess}
 use Rattle.dm_room.specs.Room.{HasTaken, Taken, with_reserved}
-use Rattle.dm_forward.specs.declared.record.Record.TheVariants.{Here, Frozen, Incoming, Forward, Ended}
+use Rattle.dm_records.specs.declared.record.Record.TheVariants.{Here, Frozen, Incoming, Forward, Ended}
 use Rattle.dm_onekernel.specs.declared.boot.Boot.{Boot}
 use Rattle.dm_onekernel.specs.declared.boot.BootImage.{BootImage}
 use Rattle.dm_onekernel.specs.declared.boot.BootMachine.{BootMachine}

@@ -21,8 +21,8 @@ use Rattle.dm_process.specs.declared.process.Status.{Status}
 use Rattle.dm_process.specs.declared.process.Status.TheVariants as status
 use Rattle.dm_process.specs.Lawful.{IsLawfulProcess}
 use Rattle.dm_process.specs.Mail.{first_on, is_on, without_first_on}
-use Rattle.dm_forward.specs.declared.record.Record.TheVariants.{Here, Frozen, Incoming, Forward, Ended}
-use Rattle.dm_forward.specs.Records.{frozen_of, incoming_of}
+use Rattle.dm_records.specs.declared.record.Record.TheVariants.{Here, Frozen, Incoming, Forward, Ended}
+use Rattle.dm_records.specs.Records.{frozen_of, incoming_of}
 use Rattle.dm_migrate.specs.Arrival.{Arrival}
 use Rattle.dm_migrate.specs.Departure.{Departure}
 use Rattle.dm_migrate.specs.Pieces.{HasChunk, block_of, chunk_of, state_of}
@@ -45,7 +45,7 @@ use Rattle.dm_onekernel.specs.Refusals.{first_failed}
 use Rattle.dm_procman.specs.Taking as manage
 use Rattle.dm_procman.proofs.Hearing.{heard}
 use Rattle.dm_procman.proofs.Lawful.{manager_after, message_after}
-use Rattle.dm_rule.specs.Sets.{moved_back}
+use Rattle.dm_line.specs.Sets.{moved_back}
 use Rattle.dm_switchboard.specs.Taking as board
 use Rattle.dm_switchboard.proofs.Lawful.{answer_after, board_after}
 use Rattle.dm_syscall.specs.declared.Called.{Called}

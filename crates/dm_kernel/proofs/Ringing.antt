@@ -4,7 +4,7 @@ use Rattle.std.proofs.lemmas.Grind.{common_steps}
 use Rattle.std.specs.declared.option.Option.{Option}
 use Rattle.dm_link.specs.declared.Pid.{Pid}
 use Rattle.dm_linktable.proofs.Names.{pid_eq_self}
-use Rattle.dm_rule.specs.Sets.{moved_back, without}
+use Rattle.dm_line.specs.Sets.{moved_back, without}
 use Rattle.dm_kernel.specs.State.{Known}
 use Rattle.dm_kernel.specs.Turn.{first_runnable, known_is_runnable}
 

@@ -1,9 +1,9 @@
 -- One more plain instruction.
 use Rattle.std.proofs.Common.{◌≡◌, ℕ, suc, ◌+◌, ◌-◌, ◌<◌, List, arith, ap, ◌∙◌}
-use Rattle.dm_regs.specs.declared.registers.Regs.{Regs}
-use Rattle.dm_regs.specs.declared.registers.Stepped.TheVariants as stepped
-use Rattle.dm_regs.specs.Instructions as row
-use Rattle.dm_regs.specs.Instructions.{Row, instruction, DoesRow}
+use Rattle.dm_processor.specs.declared.registers.Regs.{Regs}
+use Rattle.dm_processor.specs.declared.registers.Stepped.TheVariants as stepped
+use Rattle.dm_processor.specs.Instructions as row
+use Rattle.dm_processor.specs.Instructions.{Row, instruction, DoesRow}
 use Rattle.dm_onekernel.specs.Step.{Machine}
 use Rattle.dm_kernel.specs.Serve.{Ran, ran, after_row, one_more}
 

@@ -7,10 +7,10 @@ use Rattle.dm_link.specs.Plain.{plain_link}
 use Rattle.dm_linktable.specs.Slots.{first_empty, link_at}
 use Rattle.dm_linktable.proofs.Names.{pid_eq_self}
 use Rattle.dm_message.specs.declared.Message.{Message}
-use Rattle.dm_regs.specs.Instructions as row
-use Rattle.dm_regs.specs.Instructions.{Row, instruction}
-use Rattle.dm_regs.specs.Kept.{KeepsLengths}
-use Rattle.dm_regs.proofs.Lengths.{instruction-lengths}
+use Rattle.dm_processor.specs.Instructions as row
+use Rattle.dm_processor.specs.Instructions.{Row, instruction}
+use Rattle.dm_processor.specs.Kept.{KeepsLengths}
+use Rattle.dm_processor.proofs.Lengths.{instruction-lengths}
 use Rattle.dm_process.specs.declared.process.Process.{Process}
 use Rattle.dm_process.specs.declared.process.Direction.{Direction}
 use Rattle.dm_process.specs.declared.process.Status.{Status}
@@ -19,8 +19,8 @@ use Rattle.dm_process.specs.Lawful.{IsLawfulProcess, IsLawfulStatus}
 use Rattle.dm_process.specs.Directions.{direction_numbered}
 use Rattle.dm_process.specs.Mail.{first_on, is_on}
 use Rattle.dm_room.specs.Room.{HasTaken, Taken}
-use Rattle.dm_forward.specs.declared.record.Record.TheVariants.{Here}
-use Rattle.dm_forward.specs.Records.{here_of, with_record}
+use Rattle.dm_records.specs.declared.record.Record.TheVariants.{Here}
+use Rattle.dm_records.specs.Records.{here_of, with_record}
 use Rattle.dm_onekernel.specs.declared.label.Reply.{Reply}
 use Rattle.dm_onekernel.specs.declared.label.Reply.TheVariants as reply
 use Rattle.dm_onekernel.specs.Calls.{CallNumber, Exit, Out, Make, Copy, Drop, Send, Receive, Move, Unknown, call_number, is_outside, is_reply, make_refusals, move_refusals, send_refusals}

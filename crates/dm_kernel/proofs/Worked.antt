@@ -8,14 +8,14 @@ use Rattle.dm_message.specs.declared.Message.{Message}
 use Rattle.dm_message.specs.Ids.{id_of}
 use Rattle.dm_message.specs.Kinds.{kind_of}
 use Rattle.dm_message.specs.declared.kind.MessageKind.TheVariants as kind
-use Rattle.dm_regs.specs.Instructions.{instruction}
+use Rattle.dm_processor.specs.Instructions.{instruction}
 use Rattle.dm_onekernel.specs.declared.boot.Boot.{Boot}
 use Rattle.dm_onekernel.specs.declared.boot.Format.TheVariants.{One}
 use Rattle.dm_onekernel.specs.declared.label.Label.TheVariants as label
 use Rattle.dm_onekernel.specs.declared.label.Why.TheVariants as why
 use Rattle.dm_onekernel.specs.Options.{bind}
-use Rattle.dm_rule.specs.declared.line.Line.{Line}
-use Rattle.dm_rule.specs.declared.line.Line.TheVariants as line
+use Rattle.dm_line.specs.declared.line.Line.{Line}
+use Rattle.dm_line.specs.declared.line.Line.TheVariants as line
 use Rattle.dm_kernel.specs.declared.part.Part.{Part}
 use Rattle.dm_kernel.specs.declared.part.Part.TheVariants.{Says, Routes}
 use Rattle.dm_kernel.specs.Begun.{opened}

@@ -9,7 +9,7 @@ use Rattle.dm_message.specs.declared.Message.{Message}
 use Rattle.dm_procman.specs.declared.moving.MoveNo.{MoveNo}
 use Rattle.dm_procman.specs.declared.moving.MoveNo.TheVariants as no
 use Rattle.dm_procman.specs.Moving.{moves_child}
-use Rattle.dm_rule.specs.declared.line.Line.TheVariants as line
+use Rattle.dm_line.specs.declared.line.Line.TheVariants as line
 use Rattle.dm_kernel.specs.declared.kernel.Servers.{Servers}
 use Rattle.dm_kernel.specs.declared.part.Part.TheVariants.{Says, Routes}
 use Rattle.dm_kernel.specs.State.{KernelState, Turned, own_id, turned, with_sent}

@@ -7,8 +7,8 @@ use Rattle.dm_link.specs.declared.Pid.{Pid}
 use Rattle.dm_process.specs.declared.process.Process.{Process}
 use Rattle.dm_process.specs.Begun.{begun}
 use Rattle.dm_room.specs.Room.{Taken, untaken, with_reserved}
-use Rattle.dm_forward.specs.declared.record.Record.TheVariants.{Here}
-use Rattle.dm_forward.specs.Records.{with_record}
+use Rattle.dm_records.specs.declared.record.Record.TheVariants.{Here}
+use Rattle.dm_records.specs.Records.{with_record}
 use Rattle.dm_procman.specs.Managing.{starting}
 use Rattle.dm_onekernel.specs.declared.boot.BootMachine.{BootMachine}
 use Rattle.dm_onekernel.specs.declared.boot.BootImage.{BootImage}

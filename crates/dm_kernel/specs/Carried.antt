@@ -6,7 +6,7 @@ use Rattle.dm_link.specs.Names.{pid_eq}
 use Rattle.dm_message.specs.declared.Message.{Message}
 use Rattle.dm_message.specs.declared.What.{What}
 use Rattle.dm_message.specs.declared.What.TheVariants as what
-use Rattle.dm_forward.specs.declared.record.Record.TheVariants.{Here, Frozen, Incoming, Forward, Ended}
+use Rattle.dm_records.specs.declared.record.Record.TheVariants.{Here, Frozen, Incoming, Forward, Ended}
 use Rattle.dm_migrate.specs.Departure.{CanMove}
 use Rattle.dm_onekernel.specs.Boot.{switchboard, manager}
 use Rattle.dm_kernel.specs.State.{KernelState, Known}

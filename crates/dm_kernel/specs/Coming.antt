@@ -9,16 +9,16 @@ use Rattle.dm_message.specs.declared.MsgId.{MsgId}
 use Rattle.dm_message.specs.declared.What.TheVariants as what
 use Rattle.dm_process.specs.declared.process.Process.{Process}
 use Rattle.dm_room.specs.Room.{free_blocks, free_slots, has_room, with_reserved}
-use Rattle.dm_forward.specs.declared.record.Record.TheVariants.{Here, Incoming}
-use Rattle.dm_forward.specs.Records.{with_record}
+use Rattle.dm_records.specs.declared.record.Record.TheVariants.{Here, Incoming}
+use Rattle.dm_records.specs.Records.{with_record}
 use Rattle.dm_migrate.specs.declared.arriving.Wanted.{Wanted}
 use Rattle.dm_migrate.specs.declared.arriving.Wanted.TheVariants.{Chunk, Block, Nothing}
 use Rattle.dm_migrate.specs.Arrival.{Arrival, expected, pull, restarted, with_held, with_piece}
 use Rattle.dm_onekernel.specs.declared.boot.Boot.{Boot}
 use Rattle.dm_onekernel.specs.Boot.{slots_of}
-use Rattle.dm_rule.specs.declared.line.Line.{Line}
-use Rattle.dm_rule.specs.declared.line.Line.TheVariants as line
-use Rattle.dm_rule.specs.declared.line.Stage.TheVariants as stage
+use Rattle.dm_line.specs.declared.line.Line.{Line}
+use Rattle.dm_line.specs.declared.line.Line.TheVariants as line
+use Rattle.dm_line.specs.declared.line.Stage.TheVariants as stage
 use Rattle.dm_kernel.specs.declared.part.Part.TheVariants.{Says, Routes}
 use Rattle.dm_kernel.specs.State.{KernelState, Turned, own, turned, with_known, with_sent}
 use Rattle.dm_kernel.specs.Departing.{takes_step}

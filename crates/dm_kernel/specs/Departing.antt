@@ -9,13 +9,13 @@ use Rattle.dm_message.specs.declared.What.{What}
 use Rattle.dm_message.specs.declared.What.TheVariants as what
 use Rattle.dm_process.specs.declared.process.Process.{Process}
 use Rattle.dm_room.specs.Room.{with_released}
-use Rattle.dm_forward.specs.declared.record.Record.TheVariants.{Here, Frozen, Forward}
-use Rattle.dm_forward.specs.Records.{with_record}
+use Rattle.dm_records.specs.declared.record.Record.TheVariants.{Here, Frozen, Forward}
+use Rattle.dm_records.specs.Records.{with_record}
 use Rattle.dm_migrate.specs.Departure.{Departure, all_sent_on, ask_of, frozen, with_held}
-use Rattle.dm_rule.specs.declared.line.Line.TheVariants as line
-use Rattle.dm_rule.specs.declared.line.Stage.{Stage}
-use Rattle.dm_rule.specs.declared.line.Stage.TheVariants as stage
-use Rattle.dm_rule.specs.Sets.{without}
+use Rattle.dm_line.specs.declared.line.Line.TheVariants as line
+use Rattle.dm_line.specs.declared.line.Stage.{Stage}
+use Rattle.dm_line.specs.declared.line.Stage.TheVariants as stage
+use Rattle.dm_line.specs.Sets.{without}
 use Rattle.dm_kernel.specs.declared.part.Part.{Part}
 use Rattle.dm_kernel.specs.declared.part.Part.TheVariants.{Says, Routes}
 use Rattle.dm_kernel.specs.State.{KernelState, Turned, blocks_of, own, turned, with_known, with_sent}

@@ -13,7 +13,7 @@ use Rattle.dm_migrate.specs.Departure.{sent_on}
 use Rattle.dm_process.specs.declared.process.Process.{Process}
 use Rattle.dm_switchboard.specs.Board.{named_is_behind, retargeted_named}
 use Rattle.dm_procman.specs.Managing.{pending_is_behind, retargeted_manager}
-use Rattle.dm_rule.specs.declared.line.Line.TheVariants as line
+use Rattle.dm_line.specs.declared.line.Line.TheVariants as line
 use Rattle.dm_kernel.specs.declared.kernel.Servers.{Servers}
 use Rattle.dm_kernel.specs.declared.part.Part.{Part}
 use Rattle.dm_kernel.specs.declared.part.Part.TheVariants.{Says, Routes}

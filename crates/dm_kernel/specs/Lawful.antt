@@ -7,7 +7,7 @@ use Rattle.dm_link.specs.Lawful.{IsMachine}
 use Rattle.dm_message.specs.Lawful.{IsLawfulMessage}
 use Rattle.dm_process.specs.Lawful.{IsLawfulProcess}
 use Rattle.dm_room.specs.Room.{Taken}
-use Rattle.dm_forward.specs.declared.record.Record.TheVariants.{Here, Frozen, Incoming, Forward, Ended}
+use Rattle.dm_records.specs.declared.record.Record.TheVariants.{Here, Frozen, Incoming, Forward, Ended}
 use Rattle.dm_migrate.specs.Arrival.{Arrival}
 use Rattle.dm_migrate.specs.Departure.{Departure}
 use Rattle.dm_switchboard.specs.Lawful.{IsLawfulBoard}

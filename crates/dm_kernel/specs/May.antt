@@ -11,8 +11,8 @@ use Rattle.dm_message.specs.Lawful.{IsLawfulMessage}
 use Rattle.dm_process.specs.declared.process.Process.{Process}
 use Rattle.dm_process.specs.Lawful.{IsLawfulProcess}
 use Rattle.dm_room.specs.Room.{HasTaken, Taken}
-use Rattle.dm_forward.specs.declared.record.Record.TheVariants.{Here, Frozen, Incoming, Forward, Ended}
-use Rattle.dm_forward.specs.Records.{frozen_of, incoming_of}
+use Rattle.dm_records.specs.declared.record.Record.TheVariants.{Here, Frozen, Incoming, Forward, Ended}
+use Rattle.dm_records.specs.Records.{frozen_of, incoming_of}
 use Rattle.dm_migrate.specs.declared.arriving.Wanted.TheVariants.{Nothing}
 use Rattle.dm_migrate.specs.Answer.{IsAskOfProcess}
 use Rattle.dm_migrate.specs.Arrival.{Arrival, IsNextPiece, restarted}

@@ -7,7 +7,7 @@ use Rattle.std.specs.declared.result.Result.{Result}
 use Rattle.std.specs.declared.result.Result.TheVariants.{Ok, Err}
 use Rattle.dm_link.specs.declared.Pid.{Pid}
 use Rattle.dm_memory.specs.declared.NoMemory.{NoMemory}
-use Rattle.dm_forward.specs.Records.{at}
+use Rattle.dm_records.specs.Records.{at}
 use Rattle.dm_kernel.specs.declared.kernel.Kernel.{Kernel}
 use Rattle.dm_kernel.specs.declared.part.Part.{Part}
 use Rattle.dm_kernel.specs.State.{KernelState, Turned}

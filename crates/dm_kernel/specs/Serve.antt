@@ -5,8 +5,8 @@ use Rattle.std.specs.declared.option.Option.TheVariants.{None, Some}
 use Rattle.dm_link.specs.declared.Pid.{Pid}
 use Rattle.dm_message.specs.declared.Message.{Message}
 use Rattle.dm_message.specs.declared.MsgId.{MsgId}
-use Rattle.dm_regs.specs.Instructions as row
-use Rattle.dm_regs.specs.Instructions.{Row, instruction}
+use Rattle.dm_processor.specs.Instructions as row
+use Rattle.dm_processor.specs.Instructions.{Row, instruction}
 use Rattle.dm_process.specs.Mail.{first_on, without_first_on}
 use Rattle.dm_process.specs.declared.process.Process.{Process}
 use Rattle.dm_process.specs.declared.process.Status.{Status}
@@ -25,7 +25,7 @@ use Rattle.dm_syscall.specs.Completing.{Completion, completion}
 use Rattle.dm_kernel.specs.declared.part.Part.TheVariants.{Routes}
 use Rattle.dm_kernel.specs.declared.run.Halt.{Halt}
 use Rattle.dm_kernel.specs.declared.run.Halt.TheVariants as halt
-use Rattle.dm_forward.specs.declared.record.Record.TheVariants.{Here, Frozen, Incoming, Forward, Ended}
+use Rattle.dm_records.specs.declared.record.Record.TheVariants.{Here, Frozen, Incoming, Forward, Ended}
 use Rattle.dm_kernel.specs.State.{KernelState, Known, Turned, turned, says, with_here, without_process, drops}
 
 -- how far a process comes in a turn, and why it comes no further

@@ -8,7 +8,7 @@ use Rattle.dm_process.specs.Mail.{first_on}
 use Rattle.dm_process.specs.declared.process.Process.{Process}
 use Rattle.dm_process.specs.declared.process.Status.{Status}
 use Rattle.dm_process.specs.declared.process.Status.TheVariants.{Ready, Waiting, Moving}
-use Rattle.dm_forward.specs.declared.record.Record.TheVariants.{Here, Frozen, Incoming, Forward, Ended}
+use Rattle.dm_records.specs.declared.record.Record.TheVariants.{Here, Frozen, Incoming, Forward, Ended}
 use Rattle.dm_room.specs.Room.{HasTaken, Taken}
 use Rattle.dm_kernel.specs.State.{KernelState, Known, blocks_of}
 use Rattle.dm_process.specs.Lawful.{IsLawfulProcess}

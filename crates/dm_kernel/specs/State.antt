@@ -11,16 +11,16 @@ use Rattle.dm_message.specs.declared.MsgId.{MsgId}
 use Rattle.dm_message.specs.declared.What.{What}
 use Rattle.dm_process.specs.declared.process.Process.{Process}
 use Rattle.dm_room.specs.Room.{Taken, with_released}
-use Rattle.dm_forward.specs.declared.record.Record as record_
-use Rattle.dm_forward.specs.declared.record.Record.TheVariants.{Here, Ended}
-use Rattle.dm_forward.specs.Records.{with_record}
+use Rattle.dm_records.specs.declared.record.Record as record_
+use Rattle.dm_records.specs.declared.record.Record.TheVariants.{Here, Ended}
+use Rattle.dm_records.specs.Records.{with_record}
 use Rattle.dm_migrate.specs.Departure.{Departure}
 use Rattle.dm_migrate.specs.Arrival.{Arrival}
 use Rattle.dm_onekernel.specs.declared.label.Label.{Label}
 use Rattle.dm_onekernel.specs.declared.label.Label.TheVariants as label
 use Rattle.dm_onekernel.specs.declared.label.Why.{Why}
-use Rattle.dm_rule.specs.declared.line.Line.TheVariants as line
-use Rattle.dm_rule.specs.Sets.{without}
+use Rattle.dm_line.specs.declared.line.Line.TheVariants as line
+use Rattle.dm_line.specs.Sets.{without}
 use Rattle.dm_kernel.specs.declared.kernel.Servers.{Servers}
 use Rattle.dm_kernel.specs.declared.part.Part.{Part}
 use Rattle.dm_kernel.specs.declared.part.Part.TheVariants.{Says}

@@ -6,10 +6,10 @@ use Rattle.std.specs.declared.option.Option.TheVariants.{None, Some}
 use Rattle.dm_link.specs.declared.Pid.{Pid}
 use Rattle.dm_message.specs.declared.Message.{Message}
 use Rattle.dm_process.specs.Process.{is_runnable}
-use Rattle.dm_forward.specs.declared.record.Record.TheVariants.{Here, Frozen, Incoming, Forward, Ended}
+use Rattle.dm_records.specs.declared.record.Record.TheVariants.{Here, Frozen, Incoming, Forward, Ended}
 use Rattle.dm_onekernel.specs.declared.boot.Boot.{Boot}
-use Rattle.dm_rule.specs.declared.line.Line.TheVariants as line
-use Rattle.dm_rule.specs.Sets.{moved_back}
+use Rattle.dm_line.specs.declared.line.Line.TheVariants as line
+use Rattle.dm_line.specs.Sets.{moved_back}
 use Rattle.dm_kernel.specs.declared.part.Part.TheVariants.{Says}
 use Rattle.dm_kernel.specs.State.{KernelState, Known, Turned, turned}
 use Rattle.dm_kernel.specs.Serve.{serves}

@@ -1,7 +1,7 @@
 //! What a machine's kernel does where a process comes to it.
 ghost use Rattle.std.specs.Prelude.{◌≡◌, ◌<◌, ◌++◌, ◌∷◌, [], IsSome, OnOk};
-ghost use Rattle.dm_forward.specs.Records.{at, incoming_of, with_record};
-ghost use Rattle.dm_forward.specs.declared.record.Record.TheVariants.{Here, Incoming};
+ghost use Rattle.dm_records.specs.Records.{at, incoming_of, with_record};
+ghost use Rattle.dm_records.specs.declared.record.Record.TheVariants.{Here, Incoming};
 ghost use Rattle.dm_migrate.specs.Answer.{IsAskOfProcess};
 ghost use Rattle.dm_migrate.specs.Arrival.{Arrival, IsNextPiece};
 ghost use Rattle.dm_onekernel.specs.Options.{bind};
@@ -11,13 +11,13 @@ ghost use Rattle.dm_kernel.specs.Handle.{kernel_handles};
 ghost use Rattle.dm_kernel.specs.May.{IsSuch, MayRestart};
 ghost use Rattle.dm_kernel.specs.Meets.{Answers, IsIn, state_of};
 ghost use Rattle.dm_kernel.specs.State.{own, turned, with_known, with_sent};
-ghost use Rattle.dm_rule.specs.declared.line.Line.TheVariants as line_;
-ghost use Rattle.dm_rule.specs.declared.line.Stage.TheVariants as stage_;
+ghost use Rattle.dm_line.specs.declared.line.Line.TheVariants as line_;
+ghost use Rattle.dm_line.specs.declared.line.Stage.TheVariants as stage_;
 
 use crate::depart::step;
 use crate::kernel::Kernel;
 use crate::part::Part;
-use dm_forward::Record;
+use dm_records::Record;
 use dm_link::Pid;
 use dm_lists::Queue;
 use dm_memory::NoMemory;
@@ -26,7 +26,7 @@ use dm_migrate::{Arriving, Asked, Wanted, answer_ask};
 use dm_onekernel::Boot;
 use dm_process::Process;
 use dm_room::Lacks;
-use dm_rule::line::{Line, Stage};
+use dm_line::line::{Line, Stage};
 
 impl Kernel {
     /// Answers a process that asks to come.

@@ -9,7 +9,7 @@ use crate::part::Part;
 use dm_link::Pid;
 use dm_memory::NoMemory;
 use dm_procman::MoveNo;
-use dm_rule::line::Line;
+use dm_line::line::Line;
 
 impl Kernel {
     /// Has the manager tell a process to move to a machine, where it is one of its children. Answers what the machine

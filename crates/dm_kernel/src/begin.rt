@@ -7,7 +7,7 @@ ghost use Rattle.dm_kernel.specs.Meets.{IsIn, state_of};
 
 use crate::kernel::{Kernel, Servers};
 use crate::make::{child_of, image_of};
-use dm_forward::Records;
+use dm_records::Records;
 use dm_lists::Queue;
 use dm_memory::NoMemory;
 use dm_onekernel::{Boot, BootProcess};

@@ -1,6 +1,6 @@
 //! What a machine's kernel does where a process leaves it.
 ghost use Rattle.std.specs.Prelude.{◌≡◌, ◌≢◌, ◌<◌, ◌+◌, ◌++◌, ◌∷◌, [], IfOk, IfSome, IsSome, OnOk, length, map};
-ghost use Rattle.dm_forward.specs.Records.{at, frozen_of, here_of};
+ghost use Rattle.dm_records.specs.Records.{at, frozen_of, here_of};
 ghost use Rattle.dm_migrate.specs.Departure.{CanMove, Departure};
 ghost use Rattle.dm_migrate.specs.Pieces.{HasBlock, HasChunk, block_of, chunk_of, state_of as state_bytes};
 ghost use Rattle.dm_onekernel.specs.Options.{bind};
@@ -8,19 +8,19 @@ ghost use Rattle.dm_kernel.specs.Departing.{freezes, gives_piece, holds_leaving,
 ghost use Rattle.dm_kernel.specs.May.{IsSuch, MayLeave};
 ghost use Rattle.dm_kernel.specs.Meets.{Answers, state_of};
 ghost use Rattle.dm_kernel.specs.Served.{CanFreeze, IsHere, LeavesFor};
-ghost use Rattle.dm_rule.specs.declared.line.Line.TheVariants as line_;
-ghost use Rattle.dm_rule.specs.declared.line.Stage.TheVariants as stage_;
+ghost use Rattle.dm_line.specs.declared.line.Line.TheVariants as line_;
+ghost use Rattle.dm_line.specs.declared.line.Stage.TheVariants as stage_;
 
 use crate::kernel::Kernel;
 use crate::own::kernel_at;
 use crate::part::Part;
 use crate::ring::leave;
-use dm_forward::Record;
+use dm_records::Record;
 use dm_link::Pid;
 use dm_memory::NoMemory;
 use dm_message::{Message, What};
 use dm_migrate::freeze;
-use dm_rule::line::{Line, Stage};
+use dm_line::line::{Line, Stage};
 
 impl Kernel {
     /// Lets a process leave for a machine, if it isn't there.

@@ -1,10 +1,10 @@
 //! How a message follows a process that has gone on, and how links follow it.
 ghost use Rattle.std.specs.Prelude.{◌≡◌, ◌<◌, ◌+◌, ◌^◌, ◌∷◌, [], IfOk, IfSome, IsSome, length};
-ghost use Rattle.dm_forward.specs.Records.{at, here_of};
+ghost use Rattle.dm_records.specs.Records.{at, here_of};
 ghost use Rattle.dm_onekernel.specs.Options.{bind};
 ghost use Rattle.dm_kernel.specs.Following.{board_follows, forwards, manager_follows, process_follows};
 ghost use Rattle.dm_kernel.specs.Meets.{Answers, state_of};
-ghost use Rattle.dm_rule.specs.declared.line.Line.TheVariants as line_;
+ghost use Rattle.dm_line.specs.declared.line.Line.TheVariants as line_;
 
 use crate::kernel::Kernel;
 use crate::part::Part;
@@ -12,7 +12,7 @@ use dm_link::{Addr, Placeless};
 use dm_linkupdate::{apply, notice};
 use dm_memory::NoMemory;
 use dm_message::{Message, MsgId};
-use dm_rule::line::Line;
+use dm_line::line::Line;
 
 impl Kernel {
     /// Sends a message on to the machine where its receiver has gone by so many moves, and tells its sender, if its kind

@@ -1,7 +1,7 @@
 //! How a message is handled: by its receiver, by what is known of that, and by its kind.
 ghost use Rattle.std.specs.Prelude.{◌≡◌, ◌<◌, IfSome, OnOk, Some, true};
-ghost use Rattle.dm_forward.specs.Records.{at, here_of};
-ghost use Rattle.dm_forward.specs.declared.record.Record.TheVariants.{Here};
+ghost use Rattle.dm_records.specs.Records.{at, here_of};
+ghost use Rattle.dm_records.specs.declared.record.Record.TheVariants.{Here};
 ghost use Rattle.dm_message.specs.Lawful.{IsLawfulMessage};
 ghost use Rattle.dm_migrate.specs.Departure.{CanMove};
 ghost use Rattle.dm_onekernel.specs.Boot.{images_are_valid};
@@ -14,12 +14,12 @@ ghost use Rattle.dm_kernel.specs.Served.{Handles, IsHere};
 
 use crate::kernel::Kernel;
 use crate::part::Part;
-use dm_forward::Record;
+use dm_records::Record;
 use dm_link::Pid;
 use dm_memory::NoMemory;
 use dm_message::{Message, What};
 use dm_onekernel::Boot;
-use dm_rule::line::Line;
+use dm_line::line::Line;
 
 /// The servers.
 const SWITCHBOARD: Pid = Pid { home: 0, num: 1 };

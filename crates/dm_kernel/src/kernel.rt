@@ -1,5 +1,5 @@
 //! The kernel of a machine.
-use dm_forward::Records;
+use dm_records::Records;
 use dm_link::Pid;
 use dm_lists::Queue;
 use dm_message::Message;

@@ -1,6 +1,6 @@
 //! How a process ends: it leaves the ring, its slot and its blocks, and its queue goes message by message.
 ghost use Rattle.std.specs.Prelude.{◌≡◌, ◌++◌, OnOk};
-ghost use Rattle.dm_forward.specs.Records.{at, here_of};
+ghost use Rattle.dm_records.specs.Records.{at, here_of};
 ghost use Rattle.dm_onekernel.specs.Options.{bind};
 ghost use Rattle.dm_process.specs.declared.process.Process.{Process};
 ghost use Rattle.std.specs.Prelude.{Some};
@@ -12,14 +12,14 @@ ghost use Rattle.dm_kernel.specs.State.{drops, without_process};
 use crate::kernel::Kernel;
 use crate::part::Part;
 use crate::ring::leave;
-use dm_forward::Record;
+use dm_records::Record;
 use dm_link::Pid;
 use dm_lists::Queue;
 use dm_memory::NoMemory;
 use dm_message::Message;
 use dm_onekernel::{Label, Why};
 use dm_process::Process;
-use dm_rule::line::Line;
+use dm_line::line::Line;
 
 impl Kernel {
     /// Ends a process that has executed so many instructions.

@@ -1,7 +1,7 @@
 //! How a process is made of an image.
 ghost use Rattle.std.specs.Prelude.{◌≡◌, ◌+◌, ◌<◌, ◌≤◌, ◌⊎◌, [], ◌∷◌, ◌++◌, IfOk, OnOk, Some, length, slice_get, true};
-ghost use Rattle.dm_forward.specs.Records.{at, with_record};
-ghost use Rattle.dm_forward.specs.declared.record.Record.TheVariants.{Here};
+ghost use Rattle.dm_records.specs.Records.{at, with_record};
+ghost use Rattle.dm_records.specs.declared.record.Record.TheVariants.{Here};
 ghost use Rattle.dm_message.specs.Lawful.{IsLawfulMessage};
 ghost use Rattle.dm_onekernel.specs.Boot.{image_is_valid, images_are_valid, slots_of};
 ghost use Rattle.dm_onekernel.specs.Start.{slots_with};
@@ -17,7 +17,7 @@ ghost use Rattle.dm_kernel.specs.State.{says};
 use crate::kernel::Kernel;
 use crate::part::Part;
 use dm_datamove::answer;
-use dm_forward::Record;
+use dm_records::Record;
 use dm_link::{Link, Pid};
 use dm_linktable::Table;
 use dm_memory::NoMemory;
@@ -25,7 +25,7 @@ use dm_message::{Message, What};
 use dm_onekernel::{Boot, BootImage, Label};
 use dm_process::Process;
 use dm_room::Lacks;
-use dm_rule::line::Line;
+use dm_line::line::Line;
 use std::alloc::Global;
 
 /// The number of a machine's first process.

@@ -9,7 +9,7 @@ use crate::part::Part;
 use dm_link::{Addr, Pid};
 use dm_memory::NoMemory;
 use dm_message::{Message, MsgId, What};
-use dm_rule::line::Line;
+use dm_line::line::Line;
 
 impl Kernel {
     /// The name of the next message that the kernel sends itself.

@@ -3,7 +3,7 @@ ghost use Rattle.std.specs.Prelude.{◌≡◌, ◌∷◌, ◌++◌, [], OnErr, O
 ghost use Rattle.std.specs.Option.{option_copied};
 
 use crate::kernel::{Kernel, Servers};
-use dm_forward::Records;
+use dm_records::Records;
 use dm_lists::Queue;
 use dm_memory::NoMemory;
 use dm_message::Message;

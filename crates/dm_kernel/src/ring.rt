@@ -1,6 +1,6 @@
 //! The order in which the processes of a machine are served. Nothing here takes memory.
 ghost use Rattle.std.specs.Prelude.{◌≡◌, ◌<◌, Some, length, slice_get};
-ghost use Rattle.dm_rule.specs.Sets.{moved_back, without};
+ghost use Rattle.dm_line.specs.Sets.{moved_back, without};
 
 use dm_link::Pid;
 use dm_lists::Queue;

@@ -2,7 +2,7 @@
 ghost use Rattle.std.specs.Prelude.{◌≡◌};
 ghost use Rattle.dm_kernel.specs.Serve.{ran};
 
-use dm_regs::{Fault, Memory, Regs, Stepped, step};
+use dm_processor::{Fault, Memory, Regs, Stepped, step};
 
 /// Why a process stops before its quantum is used up.
 #[derive(Clone, Copy, Debug, PartialEq, Eq)]

@@ -1,6 +1,6 @@
 //! How a process is served: it executes, or takes a message that it waits for.
 ghost use Rattle.std.specs.Prelude.{◌≡◌, ◌<◌, [], ◌∷◌, IfOk};
-ghost use Rattle.dm_forward.specs.Records.{at, here_of};
+ghost use Rattle.dm_records.specs.Records.{at, here_of};
 ghost use Rattle.dm_onekernel.specs.Options.{bind};
 ghost use Rattle.dm_onekernel.specs.declared.label.Label.TheVariants as label_;
 ghost use Rattle.dm_process.specs.Mail.{first_on};
@@ -12,13 +12,13 @@ ghost use Rattle.dm_kernel.specs.State.{says};
 use crate::kernel::Kernel;
 use crate::part::Part;
 use crate::run::{Halt, execute};
-use dm_forward::Record;
+use dm_records::Record;
 use dm_link::Pid;
 use dm_memory::NoMemory;
 use dm_message::{Message, MsgId};
 use dm_onekernel::{Label, Why};
 use dm_process::Status;
-use dm_rule::line::Line;
+use dm_line::line::Line;
 use dm_syscall::{Called, Completed, call, complete_receive};
 
 impl Kernel {

@@ -18,7 +18,7 @@ use crate::part::Part;
 use dm_memory::NoMemory;
 use dm_message::{Message, MsgId, What};
 use dm_onekernel::Label;
-use dm_rule::line::Line;
+use dm_line::line::Line;
 
 impl Kernel {
     /// Handles a message for the switchboard.

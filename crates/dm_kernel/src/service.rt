@@ -1,12 +1,12 @@
 //! What a machine's kernel does with a message for a process, a row a function.
 ghost use Rattle.std.specs.Prelude.{◌≡◌, ◌<◌, [], ◌∷◌, IfOk, IsSome};
 ghost use Rattle.dm_datamove.specs.Serving.{IsRequest};
-ghost use Rattle.dm_forward.specs.Records.{at, here_of};
+ghost use Rattle.dm_records.specs.Records.{at, here_of};
 ghost use Rattle.dm_message.specs.Lawful.{IsLawfulMessage};
 ghost use Rattle.dm_onekernel.specs.Options.{bind};
 ghost use Rattle.dm_onekernel.specs.declared.label.Label.TheVariants as label_;
 ghost use Rattle.dm_datamove.specs.Landing.{landing};
-ghost use Rattle.dm_rule.specs.declared.line.Line.TheVariants as line_;
+ghost use Rattle.dm_line.specs.declared.line.Line.TheVariants as line_;
 ghost use Rattle.dm_kernel.specs.Handle.{answered, is_dropped, is_gone, killed, lands, queued, served_as};
 ghost use Rattle.dm_kernel.specs.Meets.{Answers, state_of};
 ghost use Rattle.dm_kernel.specs.Served.{AwaitsPiece, HasPlace, IsHere, OwnsPiece};
@@ -19,7 +19,7 @@ use dm_datamove::{Landed, gone, land, serve};
 use dm_memory::NoMemory;
 use dm_message::{Message, MsgId};
 use dm_onekernel::{Label, Why};
-use dm_rule::line::Line;
+use dm_line::line::Line;
 
 impl Kernel {
     /// Puts a message at the back of its receiver's queue.

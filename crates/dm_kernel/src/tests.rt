@@ -6,7 +6,7 @@ use super::*;
 use dm_link::Pid;
 use dm_lists::Items;
 use dm_onekernel::{Boot, BootMachine, Format};
-use dm_rule::line::Line;
+use dm_line::line::Line;
 use std::alloc::Global;
 use std::test::Fail;
 

@@ -1,7 +1,7 @@
 //! A turn of the machine.
 ghost use Rattle.std.specs.Prelude.{◌≡◌, ◌<◌, [], ◌∷◌, IfOk, IfSome, OnOk, Some, length, slice_get, true};
-ghost use Rattle.dm_forward.specs.Records.{at};
-ghost use Rattle.dm_forward.specs.declared.record.Record.TheVariants.{Here};
+ghost use Rattle.dm_records.specs.Records.{at};
+ghost use Rattle.dm_records.specs.declared.record.Record.TheVariants.{Here};
 ghost use Rattle.dm_onekernel.specs.Boot.{images_are_valid};
 ghost use Rattle.dm_onekernel.specs.Options.{bind};
 ghost use Rattle.dm_kernel.specs.Carried.{FreezesWhole};
@@ -12,11 +12,11 @@ ghost use Rattle.dm_kernel.specs.Turn.{first_runnable, goes_round, known_is_runn
 use crate::kernel::Kernel;
 use crate::part::Part;
 use crate::ring::move_back;
-use dm_forward::Record;
+use dm_records::Record;
 use dm_link::Pid;
 use dm_memory::NoMemory;
 use dm_onekernel::Boot;
-use dm_rule::line::Line;
+use dm_line::line::Line;
 
 impl Kernel {
     /// Takes a turn: handles the message at the inbox's front, or serves the first process of the ring that can be

@@ -1,13 +1,13 @@
 -- What stands after a chunk has come.
 use Rattle.std.proofs.Common.{ℕ, ◌≡◌, ◌⊎◌, ◌+◌, ◌*◌, ◌/◌, ◌<◌, ◌≤◌, Bool, true, false, List, ◌++◌, length, take, ap, subst, sym, ◌∙◌, refl, arith}
 use Rattle.dm_process.specs.Lawful.{IsLawfulProcess, IsLawfulStatus}
-use Rattle.dm_carry.specs.declared.Shell.{Shell}
-use Rattle.dm_carry.specs.Lawful.{IsLawfulShell}
-use Rattle.dm_carry.specs.Shell.{shell_of_bytes}
+use Rattle.dm_statebytes.specs.declared.Shell.{Shell}
+use Rattle.dm_statebytes.specs.Lawful.{IsLawfulShell}
+use Rattle.dm_statebytes.specs.Shell.{shell_of_bytes}
 use Rattle.dm_migrate.specs.Arrival.{IsNextChunk, IsStateFor, after_chunk, revived, with_chunk}
 use Rattle.std.specs.declared.result.Result.{Result}
 use Rattle.std.specs.declared.result.Result.TheVariants.{Ok, Err}
-use Rattle.dm_carry.specs.declared.CarryBad.{CarryBad}
+use Rattle.dm_statebytes.specs.declared.CarryBad.{CarryBad}
 use Rattle.dm_migrate.specs.declared.arriving.Wanted.{Wanted}
 use Rattle.dm_migrate.specs.declared.arriving.Wanted.TheVariants.{Nothing}
 use Rattle.dm_migrate.specs.Coming.{IsComing, IsStage, Parts, come_of, memory_come, state_come}

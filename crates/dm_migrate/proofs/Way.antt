@@ -9,12 +9,12 @@ use Rattle.dm_message.specs.declared.What.{What}
 use Rattle.dm_message.specs.declared.What.TheVariants as what
 use Rattle.dm_process.specs.declared.process.Process.{Process}
 use Rattle.dm_process.specs.Lawful.{IsLawfulProcess}
-use Rattle.dm_carry.specs.Lawful.{IsLawfulShell}
-use Rattle.dm_carry.specs.Shell.{shell_of}
-use Rattle.dm_carry.specs.Widths.{FitsShell}
-use Rattle.dm_carry.proofs.Lawful.{shell_is_lawful}
-use Rattle.dm_carry.proofs.Shells.{shell_again}
-use Rattle.dm_carry.proofs.Sizes.{lawful_size}
+use Rattle.dm_statebytes.specs.Lawful.{IsLawfulShell}
+use Rattle.dm_statebytes.specs.Shell.{shell_of}
+use Rattle.dm_statebytes.specs.Widths.{FitsShell}
+use Rattle.dm_statebytes.proofs.Lawful.{shell_is_lawful}
+use Rattle.dm_statebytes.proofs.Shells.{shell_again}
+use Rattle.dm_statebytes.proofs.Sizes.{lawful_size}
 use Rattle.dm_migrate.specs.declared.arriving.Wanted.{Wanted}
 use Rattle.dm_migrate.specs.declared.arriving.Wanted.TheVariants.{Chunk, Block, Nothing}
 use Rattle.dm_migrate.specs.Arrival.{Arrival, IsNextPiece, after_block, after_chunk, pull, restarted, revived_from, with_piece}

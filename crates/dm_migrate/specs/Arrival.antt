@@ -10,9 +10,9 @@ use Rattle.dm_message.specs.declared.Message.{Message}
 use Rattle.dm_message.specs.declared.What.{What}
 use Rattle.dm_message.specs.declared.What.TheVariants as what
 use Rattle.dm_process.specs.declared.process.Process.{Process}
-use Rattle.dm_carry.specs.declared.CarryBad.{CarryBad}
-use Rattle.dm_carry.specs.declared.Shell.{Shell}
-use Rattle.dm_carry.specs.Shell.{shell_of_bytes}
+use Rattle.dm_statebytes.specs.declared.CarryBad.{CarryBad}
+use Rattle.dm_statebytes.specs.declared.Shell.{Shell}
+use Rattle.dm_statebytes.specs.Shell.{shell_of_bytes}
 use Rattle.dm_migrate.specs.declared.arriving.Wanted.{Wanted}
 use Rattle.dm_migrate.specs.declared.arriving.Wanted.TheVariants.{Chunk, Block, Nothing}
 use Rattle.dm_migrate.specs.Pieces.{HasChunk, chunk_bytes, is_last}

@@ -9,7 +9,7 @@ use Rattle.dm_message.specs.declared.What.{What}
 use Rattle.dm_message.specs.declared.What.TheVariants as what
 use Rattle.dm_process.specs.declared.process.Process.{Process}
 use Rattle.dm_process.specs.Lawful.{IsLawfulProcess}
-use Rattle.dm_carry.specs.Shell.{shell_of, shell_of_bytes}
+use Rattle.dm_statebytes.specs.Shell.{shell_of, shell_of_bytes}
 use Rattle.dm_migrate.specs.Pieces.{state_of}
 
 -- the process as it was, the machine that it goes to, who waits to hear how the move ends, and the messages that

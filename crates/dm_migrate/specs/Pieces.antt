@@ -4,7 +4,7 @@ use Rattle.dm_link.specs.declared.Pid.{Pid}
 use Rattle.dm_message.specs.declared.What.{What}
 use Rattle.dm_message.specs.declared.What.TheVariants as what
 use Rattle.dm_process.specs.declared.process.Process.{Process}
-use Rattle.dm_carry.specs.Shell.{shell_of, spelling}
+use Rattle.dm_statebytes.specs.Shell.{shell_of, spelling}
 
 -- the state bytes of a process: all of it but its memory and its queue
 abbrev pub state_of : Process → List ℕ

@@ -1,17 +1,17 @@
 //! A process that comes to a machine, piece by piece.
 ghost use Rattle.std.specs.Prelude.{◌≡◌, ◌⊎◌, ◌+◌, ◌*◌, ◌<◌, ◌≤◌, ◌++◌, ◌∷◌, [], IfErr, IfOk, Ok, OnErr, OnOk, Some, length, map, take, drop};
-ghost use Rattle.dm_carry.specs.Shell.{shell_of_bytes};
+ghost use Rattle.dm_statebytes.specs.Shell.{shell_of_bytes};
 ghost use Rattle.dm_process.specs.Lawful.{IsLawfulProcess};
 ghost use Rattle.dm_migrate.specs.Arrival.{IsNextChunk, IsNextPiece, after_block, after_chunk, expected, pull, restarted, revived, with_block, with_chunk, with_held, with_piece};
 
 use crate::leaving::CHUNK;
-use dm_carry::{Shell, unpack};
+use dm_statebytes::{Shell, unpack};
 use dm_link::Pid;
 use dm_lists::Queue;
 use dm_memory::NoMemory;
 use dm_message::{Asker, Message, What};
 use dm_process::Process;
-use dm_regs::Memory;
+use dm_processor::Memory;
 use std::alloc::Global;
 use std::marker::Model;
 

@@ -5,8 +5,8 @@ ghost use Rattle.dm_message.specs.declared.Asker.{Asker};
 ghost use Rattle.dm_message.specs.declared.Message.{Message};
 ghost use Rattle.dm_process.specs.declared.process.Process.{Process};
 ghost use Rattle.dm_process.specs.Lawful.{IsLawfulProcess};
-ghost use Rattle.dm_carry.specs.Shell.{shell_of};
-ghost use Rattle.dm_carry.specs.Widths.{FitsShell};
+ghost use Rattle.dm_statebytes.specs.Shell.{shell_of};
+ghost use Rattle.dm_statebytes.specs.Widths.{FitsShell};
 ghost use Rattle.dm_migrate.specs.Departure.{CanMove};
 ghost use Rattle.dm_migrate.specs.Way.{ArrivesWhole, ComesByPieces};
 

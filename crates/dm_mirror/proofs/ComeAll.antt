@@ -12,7 +12,7 @@ use Rattle.dm_onekernel.specs.declared.boot.Boot.{Boot}
 use Rattle.dm_onekernel.specs.Boot.{slots_of}
 use Rattle.dm_rule.specs.Phases.{is_of_source}
 use Rattle.dm_rule.specs.Point.{Point}
-use Rattle.dm_placed.specs.Placed.{Placed}
+use Rattle.dm_places.specs.Placed.{Placed}
 use Rattle.dm_kernel.specs.State.{KernelState}
 use Rattle.dm_mirror.specs.Stands.{KernelStands}
 use Rattle.dm_mirror.specs.Tokens.{AllRecords}

@@ -18,8 +18,8 @@ use Rattle.dm_message.specs.Lawful.{IsLawfulMessage}
 use Rattle.dm_process.specs.declared.process.Process.{Process}
 use Rattle.dm_room.specs.Room.{Taken, free_blocks, free_slots, with_reserved}
 use Rattle.dm_room.specs.Room as room_
-use Rattle.dm_forward.specs.declared.record.Record.TheVariants as record_
-use Rattle.dm_forward.specs.Records.{incoming_of}
+use Rattle.dm_records.specs.declared.record.Record.TheVariants as record_
+use Rattle.dm_records.specs.Records.{incoming_of}
 use Rattle.dm_migrate.specs.declared.arriving.Wanted.TheVariants.{Chunk}
 use Rattle.dm_migrate.specs.Arrival.{expected}
 use Rattle.dm_migrate.specs.Departure.{CanMove}
@@ -32,19 +32,19 @@ use Rattle.dm_onekernel.specs.Plain.{plain_process}
 use Rattle.dm_onekernel.specs.PlainProcess.{PlainProcess}
 use Rattle.dm_onekernel.specs.Step as kernel
 use Rattle.dm_laws.proofs.Equal.{pid_eq-is, pid_eq-same}
-use Rattle.dm_rule.specs.declared.line.Line.TheVariants as line
-use Rattle.dm_rule.specs.declared.line.Stage.TheVariants as stage
+use Rattle.dm_line.specs.declared.line.Line.TheVariants as line
+use Rattle.dm_line.specs.declared.line.Stage.TheVariants as stage
 use Rattle.dm_rule.specs.Migrating as rule_moves
 use Rattle.dm_rule.specs.Migrating.{kernel_told}
 use Rattle.dm_rule.specs.Phases.{Moves, comes, is_away, knows, leaves}
 use Rattle.dm_rule.specs.Point.{Point}
 use Rattle.dm_rule.specs.Rule as rule
 use Rattle.dm_rule.specs.Rule.{Room, fits, free_room, taken_at, taken_by}
-use Rattle.dm_rule.specs.Sets.{at_pid, at_record}
+use Rattle.dm_line.specs.Sets.{at_pid, at_record}
 use Rattle.dm_rule.specs.View.{Known, Unknown, Here, Frozen, Incoming, Forward, Ended, front_of, without_first}
 use Rattle.dm_rulelaws.specs.Fits.{is_server}
 use Rattle.dm_rulelaws.specs.Found.{has_nothing_held}
-use Rattle.dm_placed.specs.Placed.{Placed}
+use Rattle.dm_places.specs.Placed.{Placed}
 use Rattle.dm_kernel.specs.Begun.{room_of}
 use Rattle.dm_kernel.specs.Coming.{accepts, with_expected}
 use Rattle.dm_kernel.specs.Handle.{kernel_handles}

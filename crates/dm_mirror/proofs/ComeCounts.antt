@@ -14,11 +14,11 @@ use Rattle.dm_process.specs.Lawful.{IsLawfulProcess}
 use Rattle.dm_process.specs.declared.process.Status.{Status}
 use Rattle.dm_process.specs.declared.process.Status.TheVariants as status
 use Rattle.dm_packet.specs.Field.{number}
-use Rattle.dm_carry.specs.declared.Shell.{Shell}
-use Rattle.dm_carry.specs.Shell.{front, front_of, registers, shell_of, spelling}
-use Rattle.dm_carry.specs.Statuses.{spell_status}
-use Rattle.dm_carry.specs.Table.{mask_of, spell_slot}
-use Rattle.dm_carry.proofs.Sizes.{numbers_size}
+use Rattle.dm_statebytes.specs.declared.Shell.{Shell}
+use Rattle.dm_statebytes.specs.Shell.{front, front_of, registers, shell_of, spelling}
+use Rattle.dm_statebytes.specs.Statuses.{spell_status}
+use Rattle.dm_statebytes.specs.Table.{mask_of, spell_slot}
+use Rattle.dm_statebytes.proofs.Sizes.{numbers_size}
 use Rattle.dm_migrate.specs.declared.arriving.Wanted.TheVariants.{Chunk, Block, Nothing}
 use Rattle.dm_migrate.specs.Arrival.{after_block, after_chunk}
 use Rattle.dm_migrate.specs.Pieces.{is_last, state_of}

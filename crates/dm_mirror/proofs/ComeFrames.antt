@@ -15,7 +15,7 @@ use Rattle.dm_message.specs.Ids.{id_of}
 use Rattle.dm_message.specs.Kinds.{kind_of}
 use Rattle.dm_message.specs.Plain.{PlainMessage, plain_message}
 use Rattle.dm_process.specs.declared.process.Process.{Process}
-use Rattle.dm_forward.specs.Records.{incoming_of}
+use Rattle.dm_records.specs.Records.{incoming_of}
 use Rattle.dm_onekernel.specs.declared.boot.Boot.{Boot}
 use Rattle.dm_onekernel.specs.Boot.{manager, switchboard}
 use Rattle.dm_onekernel.specs.Kernel.{Life, Alive, Ended, OneKernel}
@@ -34,7 +34,7 @@ use Rattle.dm_rule.proofs.Letters.{not_kernels}
 use Rattle.dm_rule.proofs.PhasesStand.{token_is, token_at}
 use Rattle.dm_rulelaws.specs.Fits.{is_server}
 use Rattle.dm_rulelaws.proofs.Runs.{Run}
-use Rattle.dm_placed.specs.Placed.{Placed, Mirrors}
+use Rattle.dm_places.specs.Placed.{Placed, Mirrors}
 use Rattle.dm_kernel.specs.State.{KernelState}
 use Rattle.dm_mirror.specs.Made.{MadeStands}
 use Rattle.dm_mirror.specs.Own.{AllOwnStand, OwnStands, about_of, told_of}

@@ -11,7 +11,7 @@ use Rattle.dm_message.specs.declared.MsgId.{MsgId}
 use Rattle.dm_message.specs.declared.kind.MessageKind.{MessageKind}
 use Rattle.dm_message.specs.declared.kind.MessageKind.TheVariants as kind
 use Rattle.dm_message.specs.Kinds.{kind_of}
-use Rattle.dm_forward.specs.declared.record.Record.TheVariants as record_
+use Rattle.dm_records.specs.declared.record.Record.TheVariants as record_
 use Rattle.dm_migrate.specs.Arrival.{Arrival}
 use Rattle.dm_onekernel.specs.declared.boot.Boot.{Boot}
 use Rattle.dm_onekernel.specs.Options.{bind}
@@ -19,17 +19,17 @@ use Rattle.dm_onekernel.specs.Plain.{plain_process}
 use Rattle.dm_onekernel.specs.PlainProcess.{PlainProcess}
 use Rattle.dm_laws.proofs.Equal.{id_eq-same}
 use Rattle.dm_schedule.specs.declared.Step.TheVariants as step
-use Rattle.dm_rule.specs.declared.line.Line.TheVariants as line
-use Rattle.dm_rule.specs.declared.line.Stage.TheVariants as stage
+use Rattle.dm_line.specs.declared.line.Line.TheVariants as line
+use Rattle.dm_line.specs.declared.line.Stage.TheVariants as stage
 use Rattle.dm_rule.specs.Migrating.{kernel_told}
 use Rattle.dm_rule.specs.Parts.{Part}
 use Rattle.dm_rule.specs.Phases.{comes, is_away, is_between, is_early, leaves}
 use Rattle.dm_rule.specs.Point.{Point, after}
 use Rattle.dm_rule.specs.Rule as rule
 use Rattle.dm_rule.specs.Rule.{fits, free_room, kernel_hears, outcome}
-use Rattle.dm_rule.specs.Sets.{at_pid, at_record, without_front}
+use Rattle.dm_line.specs.Sets.{at_pid, at_record, without_front}
 use Rattle.dm_rule.specs.View.{About, Known, Unknown, Here, Frozen, Incoming, Forward, Ended, Of, Told, after_proto, front_of, handled, without_first}
-use Rattle.dm_placed.specs.Placed.{Placed}
+use Rattle.dm_places.specs.Placed.{Placed}
 use Rattle.dm_kernel.specs.Handle.{kernel_handles}
 use Rattle.dm_kernel.specs.State as machine
 use Rattle.dm_kernel.specs.State.{KernelState, Turned}

@@ -10,8 +10,8 @@ use Rattle.dm_message.specs.declared.MsgId.{MsgId}
 use Rattle.dm_message.specs.Kinds.{kind_of}
 use Rattle.dm_message.specs.Plain.{plain_what}
 use Rattle.dm_process.specs.declared.process.Process.{Process}
-use Rattle.dm_forward.specs.declared.record.Record.TheVariants as record_
-use Rattle.dm_forward.specs.Records.{incoming_of, with_record}
+use Rattle.dm_records.specs.declared.record.Record.TheVariants as record_
+use Rattle.dm_records.specs.Records.{incoming_of, with_record}
 use Rattle.dm_migrate.specs.declared.arriving.Wanted.{Wanted}
 use Rattle.dm_migrate.specs.declared.arriving.Wanted.TheVariants.{Chunk, Block, Nothing}
 use Rattle.dm_migrate.specs.Arrival.{Arrival, pull, with_piece}
@@ -22,7 +22,7 @@ use Rattle.dm_onekernel.specs.Kernel.{OneKernel}
 use Rattle.dm_onekernel.specs.Options.{bind}
 use Rattle.dm_onekernel.specs.Plain.{plain_process}
 use Rattle.dm_laws.proofs.Equal.{pid_eq-same}
-use Rattle.dm_rule.specs.declared.line.Line.{Line}
+use Rattle.dm_line.specs.declared.line.Line.{Line}
 use Rattle.dm_rule.specs.Addresses.{Addresses, goes_between, own_gives}
 use Rattle.dm_rule.specs.Migrating.{kernel_told, to_kernel}
 use Rattle.dm_rule.specs.Parts as rule
@@ -31,7 +31,7 @@ use Rattle.dm_rule.specs.Phases.{is_between, is_early, is_of_source}
 use Rattle.dm_rule.specs.Point.{Point, after}
 use Rattle.dm_rule.specs.Rule.{fits, free_room, taken_at}
 use Rattle.dm_rule.specs.View.{Incoming, Known, Of, View}
-use Rattle.dm_placed.specs.Placed.{Placed, enclosed}
+use Rattle.dm_places.specs.Placed.{Placed, enclosed}
 use Rattle.dm_kernel.specs.declared.part.Part.TheVariants as part
 use Rattle.dm_kernel.specs.Begun.{room_of}
 use Rattle.dm_kernel.specs.Coming.{piece_line, takes_piece, took_piece}

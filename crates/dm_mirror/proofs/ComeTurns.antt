@@ -15,25 +15,25 @@ use Rattle.dm_message.specs.declared.What.{What}
 use Rattle.dm_message.specs.Ids.{id_of}
 use Rattle.dm_message.specs.Kinds.{kind_of}
 use Rattle.dm_message.specs.Plain.{plain_what, with_what}
-use Rattle.dm_forward.specs.declared.record.Record.TheVariants as record_
-use Rattle.dm_forward.specs.Records.{incoming_of}
+use Rattle.dm_records.specs.declared.record.Record.TheVariants as record_
+use Rattle.dm_records.specs.Records.{incoming_of}
 use Rattle.dm_onekernel.specs.declared.boot.Boot.{Boot}
 use Rattle.dm_laws.proofs.Equal.{id_eq-same, pid_eq-is}
 use Rattle.dm_schedule.specs.declared.Step.TheVariants as step
-use Rattle.dm_rule.specs.declared.line.Line.{Line}
+use Rattle.dm_line.specs.declared.line.Line.{Line}
 use Rattle.dm_rule.specs.Addresses.{Addresses, Gets, Receiver, Sender, given, goes_between, own_gives, unmoved}
 use Rattle.dm_rule.specs.Migrating.{to_kernel}
 use Rattle.dm_rule.specs.Parts as rule
 use Rattle.dm_rule.specs.Phases.{is_between, is_of_source}
 use Rattle.dm_rule.specs.Point.{Point, after}
 use Rattle.dm_rule.specs.Rule.{outcome, taken_at}
-use Rattle.dm_rule.specs.Sets.{at_machine}
+use Rattle.dm_line.specs.Sets.{at_machine}
 use Rattle.dm_rule.specs.Spots.{Spot, Queue, Held, Inbox, Untaken, standing, times}
 use Rattle.dm_rule.specs.View.{Known, Unknown, Here, Frozen, Incoming, Forward, Ended, Of, View}
 use Rattle.dm_rule.proofs.Standing.{once_at}
 use Rattle.dm_rulelaws.specs.Fits.{is_server}
-use Rattle.dm_placed.specs.Placed.{Placed, enclosed}
-use Rattle.dm_placed.proofs.Lines.{mirrors_view}
+use Rattle.dm_places.specs.Placed.{Placed, enclosed}
+use Rattle.dm_places.proofs.Lines.{mirrors_view}
 use Rattle.dm_kernel.specs.declared.part.Part.TheVariants as part
 use Rattle.dm_kernel.specs.Begun.{room_of}
 use Rattle.dm_kernel.specs.State as machine

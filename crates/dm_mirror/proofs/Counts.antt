@@ -8,14 +8,14 @@ use Rattle.dm_onekernel.specs.Boot.{IsValid}
 use Rattle.dm_onekernel.specs.Kernel.{OneKernel, Pending}
 use Rattle.dm_schedule.specs.declared.Step.{Step}
 use Rattle.dm_schedule.specs.declared.Step.TheVariants as step
-use Rattle.dm_rule.specs.declared.line.Line.TheVariants as line
-use Rattle.dm_rule.specs.declared.line.Stage.TheVariants as stage
+use Rattle.dm_line.specs.declared.line.Line.TheVariants as line
+use Rattle.dm_line.specs.declared.line.Stage.TheVariants as stage
 use Rattle.dm_rule.specs.Homes.{ascends}
 use Rattle.dm_rule.specs.Laws.{IsStep, Leads}
 use Rattle.dm_rule.specs.Parts.{Part, Says, Spelled, spelled}
 use Rattle.dm_rule.specs.Point.{Point, first_point, moved}
 use Rattle.dm_rule.specs.Rule.{group_of}
-use Rattle.dm_rule.specs.Sets.{at_pid, at_record}
+use Rattle.dm_line.specs.Sets.{at_pid, at_record}
 use Rattle.dm_rule.specs.View.{View, actor, view_after}
 use Rattle.dm_rule.specs.View as view
 use Rattle.dm_rule.proofs.Groups.{GroupIs, group_is}

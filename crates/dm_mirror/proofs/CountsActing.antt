@@ -9,10 +9,10 @@ use Rattle.dm_message.specs.declared.kind.MessageKind.{MessageKind}
 use Rattle.dm_message.specs.declared.kind.MessageKind.TheVariants as kind
 use Rattle.dm_onekernel.specs.declared.label.Label.{Label}
 use Rattle.dm_onekernel.specs.declared.label.Label.TheVariants as label
-use Rattle.dm_rule.specs.declared.line.Line.{Line}
-use Rattle.dm_rule.specs.declared.line.Line.TheVariants as line
-use Rattle.dm_rule.specs.declared.line.Stage.{Stage}
-use Rattle.dm_rule.specs.declared.line.Stage.TheVariants as stage
+use Rattle.dm_line.specs.declared.line.Line.{Line}
+use Rattle.dm_line.specs.declared.line.Line.TheVariants as line
+use Rattle.dm_line.specs.declared.line.Stage.{Stage}
+use Rattle.dm_line.specs.declared.line.Stage.TheVariants as stage
 use Rattle.dm_rule.specs.View.{View, Told, handled, view_after}
 use Rattle.dm_rule.specs.View as view
 use Rattle.dm_rule.proofs.PairsLines.{touches}
@@ -116,4 +116,3 @@ line_acting v (line.NoMove i) e = refl
 line_acting v (line.Proto i) e = proto_acting (handled v i) (v.told i)
 line_acting v (line.NoChild p) e = refl
 line_acting v (line.Pinned p) e = refl
-line_acting v (line.End z) e = refl

@@ -11,11 +11,11 @@ use Rattle.dm_message.specs.Kinds.{plain_kind}
 use Rattle.dm_onekernel.specs.declared.label.Label.{Label}
 use Rattle.dm_onekernel.specs.Kernel.{OneKernel}
 use Rattle.dm_laws.proofs.Steps.{bind-is}
-use Rattle.dm_rule.specs.declared.line.Line.{Line}
-use Rattle.dm_rule.specs.declared.line.Line.TheVariants as line
-use Rattle.dm_rule.specs.declared.line.Load.{Load}
-use Rattle.dm_rule.specs.declared.line.Load.TheVariants as load
-use Rattle.dm_rule.specs.declared.line.Stage.TheVariants as stage
+use Rattle.dm_line.specs.declared.line.Line.{Line}
+use Rattle.dm_line.specs.declared.line.Line.TheVariants as line
+use Rattle.dm_line.specs.declared.line.Load.{Load}
+use Rattle.dm_line.specs.declared.line.Load.TheVariants as load
+use Rattle.dm_line.specs.declared.line.Stage.TheVariants as stage
 use Rattle.dm_rule.specs.Addresses.{Receiver}
 use Rattle.dm_rule.specs.Parts.{Part, Says, Routes, Again, Owns, Transmits, Spelled, goes_out, packet_line, puts, spelled}
 use Rattle.dm_rule.specs.Point.{Point, after, kernel_after, label_of, moved}
@@ -214,7 +214,6 @@ bears_none (line.NoMove i) e = refl
 bears_none (line.Proto i) e = refl
 bears_none (line.NoChild p) e = refl
 bears_none (line.Pinned p) e = refl
-bears_none (line.End z) e = refl
 bears_none (line.Migration stage.Frozen p) e = refl
 bears_none (line.Migration stage.Asked p) e = refl
 bears_none (line.Migration stage.Accepted p) e = refl

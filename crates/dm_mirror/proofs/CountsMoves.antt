@@ -11,7 +11,7 @@ use Rattle.dm_onekernel.specs.declared.boot.Boot.{Boot}
 use Rattle.dm_laws.proofs.Equal.{pid_eq-is}
 use Rattle.dm_rule.specs.Phases.{Phase, Rests, comes, is_between, knows, leaves}
 use Rattle.dm_rule.specs.Point.{Point}
-use Rattle.dm_rule.specs.Sets.{at_pid, at_record}
+use Rattle.dm_line.specs.Sets.{at_pid, at_record}
 use Rattle.dm_rule.specs.View.{View, Known}
 use Rattle.dm_rule.specs.View as view
 use Rattle.dm_rule.proofs.PhasesRests.{rests_here}

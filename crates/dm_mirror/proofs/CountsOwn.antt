@@ -10,8 +10,8 @@ use Rattle.dm_onekernel.specs.declared.boot.Boot.{Boot}
 use Rattle.dm_onekernel.specs.Kernel.{OneKernel}
 use Rattle.dm_laws.proofs.Steps.{bind-is}
 use Rattle.dm_schedule.specs.declared.Step.{Step}
-use Rattle.dm_rule.specs.declared.line.Line.{Line}
-use Rattle.dm_rule.specs.declared.line.Line.TheVariants as line
+use Rattle.dm_line.specs.declared.line.Line.{Line}
+use Rattle.dm_line.specs.declared.line.Line.TheVariants as line
 use Rattle.dm_rule.specs.Parts.{Part, Spelled, spelled}
 use Rattle.dm_rule.specs.Point.{Point, after, after_line, kernel_after, label_of, moved}
 use Rattle.dm_rule.specs.Rule.{group_of}
@@ -112,7 +112,6 @@ line_own top v (line.NoMove i) h = still_own top v (line.NoMove i) refl h
 line_own top v (line.Proto i) h = still_own top v (line.Proto i) refl h
 line_own top v (line.NoChild p) h = still_own top v (line.NoChild p) refl h
 line_own top v (line.Pinned p) h = still_own top v (line.Pinned p) refl h
-line_own top v (line.End z) h = still_own top v (line.End z) refl h
 
 pub own_group : (n : ℕ) (b : Boot) (pt : Point) (d : Step) (w : Spelled) → group_of b pt d ≡ Some w → OwnFew n pt.view → OwnFew n w.point.view
 own_group n b pt d w e h = group_keeps (OwnFew n) (line_own n) b pt d w e h

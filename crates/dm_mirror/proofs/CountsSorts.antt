@@ -16,8 +16,8 @@ use Rattle.dm_onekernel.specs.PlainProcess.{PlainProcess}
 use Rattle.dm_onekernel.specs.Step as kernel
 use Rattle.dm_schedule.specs.declared.Step.{Step}
 use Rattle.dm_schedule.specs.declared.Step.TheVariants as step
-use Rattle.dm_rule.specs.declared.line.Line.TheVariants as line
-use Rattle.dm_rule.specs.declared.line.Stage.TheVariants as stage
+use Rattle.dm_line.specs.declared.line.Line.TheVariants as line
+use Rattle.dm_line.specs.declared.line.Stage.TheVariants as stage
 use Rattle.dm_rule.specs.Addresses.{Addresses, child_number}
 use Rattle.dm_rule.specs.Migrating.{accepts, chunks_of, ended_told, here_told, kernel_told, leaves, migrates, migrates_child, pieces_of, process_told, sends_on, server_told, takes_block, takes_chunk, to_kernel, updates}
 use Rattle.dm_rule.specs.Parts.{Part, Says, Routes, Again, Owns, Transmits}

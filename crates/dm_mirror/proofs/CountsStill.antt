@@ -13,10 +13,10 @@ use Rattle.dm_onekernel.specs.declared.label.Label.{Label}
 use Rattle.dm_onekernel.specs.declared.label.Label.TheVariants as label
 use Rattle.dm_schedule.specs.declared.Step.{Step}
 use Rattle.dm_schedule.specs.declared.Step.TheVariants as step
-use Rattle.dm_rule.specs.declared.line.Line.{Line}
-use Rattle.dm_rule.specs.declared.line.Line.TheVariants as line
-use Rattle.dm_rule.specs.declared.line.Stage.TheVariants as stage
-use Rattle.dm_rule.specs.Sets.{at_record}
+use Rattle.dm_line.specs.declared.line.Line.{Line}
+use Rattle.dm_line.specs.declared.line.Line.TheVariants as line
+use Rattle.dm_line.specs.declared.line.Stage.TheVariants as stage
+use Rattle.dm_line.specs.Sets.{at_record}
 use Rattle.dm_rule.specs.View.{View, About, Known, Told, handled, view_after}
 use Rattle.dm_rule.specs.View as view
 
@@ -52,7 +52,6 @@ is_free (line.NoMove i) = true
 is_free (line.Proto i) = true
 is_free (line.NoChild p) = true
 is_free (line.Pinned p) = true
-is_free (line.End z) = true
 
 -- no step of the kernel, and no process has moved
 abbrev pub bears : Line → Bool
@@ -86,7 +85,6 @@ bears (line.NoMove i) = true
 bears (line.Proto i) = true
 bears (line.NoChild p) = true
 bears (line.Pinned p) = true
-bears (line.End z) = true
 
 pub record Still (v w : View) : Type 0 where
   pub moves : w.moves ≡ v.moves
@@ -273,7 +271,6 @@ line_still v (line.NoMove i) e = still_same v (view_after v (line.NoMove i)) (re
 line_still v (line.Proto i) e = still_same v (view_after v (line.Proto i)) (let h = proto_same (handled v i) (v.told i) in record { moves = h.moves; known = h.known })
 line_still v (line.NoChild p) e = still_same v (view_after v (line.NoChild p)) (record { moves = refl; known = refl })
 line_still v (line.Pinned p) e = still_same v (view_after v (line.Pinned p)) (record { moves = refl; known = refl })
-line_still v (line.End z) e = still_same v (view_after v (line.End z)) (record { moves = refl; known = refl })
 
 pub line_moves : (v : View) (l : Line) → bears l ≡ true → (view_after v l).moves ≡ v.moves
 line_moves v (line.Head d) e = (line_still v (line.Head d) refl).moves
@@ -306,4 +303,3 @@ line_moves v (line.NoMove i) e = (line_still v (line.NoMove i) refl).moves
 line_moves v (line.Proto i) e = (line_still v (line.Proto i) refl).moves
 line_moves v (line.NoChild p) e = (line_still v (line.NoChild p) refl).moves
 line_moves v (line.Pinned p) e = (line_still v (line.Pinned p) refl).moves
-line_moves v (line.End z) e = (line_still v (line.End z) refl).moves

@@ -13,8 +13,8 @@ use Rattle.dm_onekernel.specs.declared.boot.Boot.{Boot}
 use Rattle.dm_laws.proofs.Equal.{id_eq-is, id_eq-same}
 use Rattle.dm_schedule.specs.declared.Step.{Step}
 use Rattle.dm_schedule.specs.declared.Step.TheVariants as step
-use Rattle.dm_rule.specs.declared.line.Line.{Line}
-use Rattle.dm_rule.specs.declared.line.Line.TheVariants as line
+use Rattle.dm_line.specs.declared.line.Line.{Line}
+use Rattle.dm_line.specs.declared.line.Line.TheVariants as line
 use Rattle.dm_rule.specs.Parts.{Spelled}
 use Rattle.dm_rule.specs.Point.{Point}
 use Rattle.dm_rule.specs.Rule.{group_of}
@@ -69,7 +69,6 @@ line_ids v (line.NoMove i) e x y = ap (λ (f : ℕ → ℕ → Pair). (f x y).id
 line_ids v (line.Proto i) e x y = ap (λ (f : ℕ → ℕ → Pair). (f x y).ids) (pair_same v (line.Proto i) refl)
 line_ids v (line.NoChild p) e x y = ap (λ (f : ℕ → ℕ → Pair). (f x y).ids) (pair_same v (line.NoChild p) refl)
 line_ids v (line.Pinned p) e x y = ap (λ (f : ℕ → ℕ → Pair). (f x y).ids) (pair_same v (line.Pinned p) refl)
-line_ids v (line.End z) e x y = ap (λ (f : ℕ → ℕ → Pair). (f x y).ids) (pair_same v (line.End z) refl)
 
 still_routed : (v : View) (l : Line) → is_put l ≡ false → Routed v → Routed (view_after v l)
 still_routed v l off h = λ i told.
@@ -135,7 +134,6 @@ line_routed v (line.NoMove i) h = still_routed v (line.NoMove i) refl h
 line_routed v (line.Proto i) h = still_routed v (line.Proto i) refl h
 line_routed v (line.NoChild p) h = still_routed v (line.NoChild p) refl h
 line_routed v (line.Pinned p) h = still_routed v (line.Pinned p) refl h
-line_routed v (line.End z) h = still_routed v (line.End z) refl h
 
 pub routed_group : (b : Boot) (pt : Point) (d : Step) (w : Spelled) → group_of b pt d ≡ Some w → Routed pt.view → Routed w.point.view
 routed_group b pt d w e h = group_keeps Routed line_routed b pt d w e h

@@ -13,12 +13,12 @@ use Rattle.dm_stream.specs.Sending.{due, window, with_acked, with_sent}
 use Rattle.dm_stream.specs.declared.receiver.Arrived.{Arrived}
 use Rattle.dm_stream.specs.declared.receiver.Arrived.TheVariants.{Taken, Old, Early}
 use Rattle.dm_onekernel.specs.Options.{bind}
-use Rattle.dm_rule.specs.declared.line.Line.{Line}
-use Rattle.dm_rule.specs.declared.line.Line.TheVariants as line
+use Rattle.dm_line.specs.declared.line.Line.{Line}
+use Rattle.dm_line.specs.declared.line.Line.TheVariants as line
 use Rattle.dm_rule.specs.Parts as rule
 use Rattle.dm_rule.specs.Parts.{Part, Spelled, behind, lines_of, packet_line, spelled}
 use Rattle.dm_rule.specs.Point.{Point, after, moved}
-use Rattle.dm_rule.specs.Sets.{at_machine}
+use Rattle.dm_line.specs.Sets.{at_machine}
 use Rattle.dm_rule.specs.View as view
 use Rattle.dm_rule.specs.View.{View, view_after}
 use Rattle.dm_rule.proofs.Groups.{IsNet, IsNetLine}
@@ -59,7 +59,6 @@ line_count v (line.NoMove i) is = absurd is
 line_count v (line.Proto i) is = absurd is
 line_count v (line.NoChild p) is = absurd is
 line_count v (line.Pinned p) is = absurd is
-line_count v (line.End z) is = absurd is
 
 -- none of them is a step
 line_goes : (pt : Point) (l : Line) → IsNetLine l → after pt (l ∷ []) ≡ Some (moved pt l pt.kernel)
@@ -87,7 +86,6 @@ line_goes pt (line.NoMove i) is = absurd is
 line_goes pt (line.Proto i) is = absurd is
 line_goes pt (line.NoChild p) is = absurd is
 line_goes pt (line.Pinned p) is = absurd is
-line_goes pt (line.End z) is = absurd is
 
 -- the kernel and the counts stay
 pub record Same (pt end : Point) : Type 0 where

@@ -19,11 +19,11 @@ use Rattle.dm_stream.proofs.Lists.{get-drop, drop-more}
 use Rattle.dm_wire.specs.Sent as wire
 use Rattle.dm_wire.specs.Sent.{Sent}
 use Rattle.dm_onekernel.specs.declared.boot.Boot.{Boot}
-use Rattle.dm_rule.specs.declared.line.Load.TheVariants as load
+use Rattle.dm_line.specs.declared.line.Load.TheVariants as load
 use Rattle.dm_rule.specs.View as view
 use Rattle.dm_rule.specs.View.{Pair, at_least, gone_after}
 use Rattle.dm_rule.specs.Rule.{has}
-use Rattle.dm_placed.specs.Placed.{Placed}
+use Rattle.dm_places.specs.Placed.{Placed}
 use Rattle.dm_mirror.specs.Stands.{AreMessages, bytes_of, id_of, line_of}
 use Rattle.dm_mirror.proofs.DeliverEnds.{Ends, PairIs, event_stands, stream_with}
 use Rattle.dm_mirror.proofs.DeliverKept.{off, kept_taken, kept_early, after_taken_is, after_old_is, after_early_is, after_next_is}

@@ -8,13 +8,13 @@ use Rattle.std.proofs.lemmas.Bool.Decides.{eqb_tells, nat_tests}
 use Rattle.dm_packet.specs.declared.Packet.{Packet}
 use Rattle.dm_onekernel.specs.declared.boot.Boot.{Boot}
 use Rattle.dm_onekernel.specs.Options.{bind}
-use Rattle.dm_rule.specs.declared.line.Line.{Line}
-use Rattle.dm_rule.specs.declared.line.Load.{Load}
-use Rattle.dm_rule.specs.Sets.{at_machine}
+use Rattle.dm_line.specs.declared.line.Line.{Line}
+use Rattle.dm_line.specs.declared.line.Load.{Load}
+use Rattle.dm_line.specs.Sets.{at_machine}
 use Rattle.dm_rule.specs.Parts as rule
 use Rattle.dm_rule.specs.Parts.{Part, Spelled, behind, spelled}
 use Rattle.dm_rule.specs.Point.{Point, after, after_line}
-use Rattle.dm_placed.specs.Placed.{Placed}
+use Rattle.dm_places.specs.Placed.{Placed}
 use Rattle.dm_node.specs.State.{NodeState}
 use Rattle.dm_node.specs.declared.out.Out.TheVariants.{Says, Sends}
 use Rattle.dm_node.specs.Out.{Acted}

@@ -10,9 +10,9 @@ use Rattle.dm_stream.specs.Packets.{Load, Data, Ack, load_at}
 use Rattle.dm_wire.specs.Sent.{Sent}
 use Rattle.dm_wire.specs.Wire.{after_mark}
 use Rattle.dm_onekernel.specs.declared.boot.Boot.{Boot}
-use Rattle.dm_rule.specs.declared.line.Line.TheVariants as line
-use Rattle.dm_rule.specs.declared.line.Load.TheVariants as load
-use Rattle.dm_rule.specs.Sets.{at_pair}
+use Rattle.dm_line.specs.declared.line.Line.TheVariants as line
+use Rattle.dm_line.specs.declared.line.Load.TheVariants as load
+use Rattle.dm_line.specs.Sets.{at_pair}
 use Rattle.dm_rule.specs.Parts as rule
 use Rattle.dm_rule.specs.Parts.{Part, Spelled, spelled}
 use Rattle.dm_rule.specs.View as view
@@ -21,7 +21,7 @@ use Rattle.dm_rule.specs.Point.{Point, moved}
 use Rattle.dm_rule.specs.Rule as group
 use Rattle.dm_rule.specs.Rule.{has, headed, kept_from, less, more, numbers_from, repeats}
 use Rattle.dm_rule.proofs.PairsLines.{taken_pair}
-use Rattle.dm_placed.specs.Placed.{Placed}
+use Rattle.dm_places.specs.Placed.{Placed}
 use Rattle.dm_node.specs.State.{NodeState, here, with_message, with_receiver, with_sender}
 use Rattle.dm_node.specs.declared.out.Out.TheVariants.{Says}
 use Rattle.dm_node.specs.Acts as node

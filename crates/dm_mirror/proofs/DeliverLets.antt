@@ -15,15 +15,15 @@ use Rattle.dm_stream.specs.Packets.{Data, just_put}
 use Rattle.dm_stream.proofs.Lists.{get-drop}
 use Rattle.dm_wire.specs.Wire.{after_put}
 use Rattle.dm_onekernel.specs.declared.boot.Boot.{Boot}
-use Rattle.dm_rule.specs.declared.line.Line.TheVariants as line
-use Rattle.dm_rule.specs.declared.line.Load.TheVariants as load
-use Rattle.dm_rule.specs.Sets.{at_machine, at_pair}
+use Rattle.dm_line.specs.declared.line.Line.TheVariants as line
+use Rattle.dm_line.specs.declared.line.Load.TheVariants as load
+use Rattle.dm_line.specs.Sets.{at_machine, at_pair}
 use Rattle.dm_rule.specs.Parts as rule
 use Rattle.dm_rule.specs.Parts.{Part}
 use Rattle.dm_rule.specs.View.{Pair, gone_after}
 use Rattle.dm_rule.specs.Point.{Point, moved}
 use Rattle.dm_rule.specs.Rule.{less, numbers_from, repeats}
-use Rattle.dm_placed.specs.Placed.{Placed}
+use Rattle.dm_places.specs.Placed.{Placed}
 use Rattle.dm_node.specs.State.{NodeState, here, with_sender}
 use Rattle.dm_node.specs.declared.out.Out.TheVariants.{Sends}
 use Rattle.dm_node.specs.Acts.{before, lets_go, lets_next}

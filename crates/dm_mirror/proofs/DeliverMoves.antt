@@ -19,17 +19,17 @@ use Rattle.dm_stream.specs.Packets.{Data, Ack, just_put}
 use Rattle.dm_wire.specs.Sent as wire
 use Rattle.dm_wire.specs.Wire.{after_mark, after_put}
 use Rattle.dm_onekernel.specs.declared.boot.Boot.{Boot}
-use Rattle.dm_rule.specs.declared.line.Line.TheVariants as line
-use Rattle.dm_rule.specs.declared.line.Load.TheVariants as load
-use Rattle.dm_rule.specs.Sets.{at_machine, at_pair}
+use Rattle.dm_line.specs.declared.line.Line.TheVariants as line
+use Rattle.dm_line.specs.declared.line.Load.TheVariants as load
+use Rattle.dm_line.specs.Sets.{at_machine, at_pair}
 use Rattle.dm_rule.specs.Parts as rule
 use Rattle.dm_rule.specs.View as view
 use Rattle.dm_rule.specs.View.{NothingElse, Pair, View, at_least, gone_after, oldest}
 use Rattle.dm_rule.specs.Spots.{Inbox, times}
 use Rattle.dm_rule.specs.Point.{Point, moved}
 use Rattle.dm_rule.proofs.PairsStand.{two_of}
-use Rattle.dm_placed.specs.Placed.{Placed}
-use Rattle.dm_placed.proofs.Lines.{lines_keep}
+use Rattle.dm_places.specs.Placed.{Placed}
+use Rattle.dm_places.proofs.Lines.{lines_keep}
 use Rattle.dm_node.specs.State.{with_message, with_receiver, with_sender}
 use Rattle.dm_world.specs.World.{WorldState}
 use Rattle.dm_mirror.specs.Stands.{AreMessages, History, StandsWith}

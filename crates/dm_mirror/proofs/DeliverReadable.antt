@@ -32,7 +32,7 @@ use Rattle.dm_wire.specs.Sent.{bytes_at}
 use Rattle.dm_onekernel.specs.declared.boot.Boot.{Boot}
 use Rattle.dm_onekernel.specs.Boot.{IsValid}
 use Rattle.dm_rule.specs.Point.{Point}
-use Rattle.dm_placed.specs.Placed.{Placed}
+use Rattle.dm_places.specs.Placed.{Placed}
 use Rattle.dm_node.specs.Out as out
 use Rattle.dm_world.specs.World.{WorldState}
 use Rattle.dm_mirror.specs.Stands.{History, StandsWith}

@@ -14,7 +14,7 @@ use Rattle.dm_wire.specs.Sent.{Sent, bytes_at}
 use Rattle.dm_onekernel.specs.declared.boot.Boot.{Boot}
 use Rattle.dm_rule.specs.View as view
 use Rattle.dm_rule.specs.View.{Pair}
-use Rattle.dm_placed.specs.Placed.{Placed}
+use Rattle.dm_places.specs.Placed.{Placed}
 use Rattle.dm_node.specs.Out as node
 use Rattle.dm_world.specs.World.{WorldState}
 use Rattle.dm_mirror.specs.Stands.{History, bytes_of, line_of}

@@ -6,7 +6,7 @@ use Rattle.std.proofs.lemmas.Bool.{cases_Bool}
 use Rattle.dm_message.specs.declared.MsgId.{MsgId}
 use Rattle.dm_message.specs.Ids.{id_eq}
 use Rattle.dm_laws.proofs.Equal.{id_eq-is, id_eq-same}
-use Rattle.dm_rule.specs.Sets.{at_pair}
+use Rattle.dm_line.specs.Sets.{at_pair}
 use Rattle.dm_rule.specs.Spots.{Spot, Inbox, Untaken, standing, times, untaken}
 use Rattle.dm_rule.specs.View.{Pair, View, oldest}
 use Rattle.dm_rule.proofs.Standing.{times-append}

@@ -13,9 +13,9 @@ use Rattle.dm_stream.specs.Packets.{Ack, just_put}
 use Rattle.dm_wire.specs.Sent as wire
 use Rattle.dm_wire.specs.Wire.{after_put}
 use Rattle.dm_onekernel.specs.declared.boot.Boot.{Boot}
-use Rattle.dm_rule.specs.declared.line.Line.TheVariants as line
-use Rattle.dm_rule.specs.declared.line.Load.TheVariants as load
-use Rattle.dm_rule.specs.Sets.{at_machine, at_pair}
+use Rattle.dm_line.specs.declared.line.Line.TheVariants as line
+use Rattle.dm_line.specs.declared.line.Load.TheVariants as load
+use Rattle.dm_line.specs.Sets.{at_machine, at_pair}
 use Rattle.dm_rule.specs.Parts as rule
 use Rattle.dm_rule.specs.Parts.{Part}
 use Rattle.dm_rule.specs.View as view
@@ -23,7 +23,7 @@ use Rattle.dm_rule.specs.View.{Pair, View, oldest}
 use Rattle.dm_rule.specs.Point.{Point, moved}
 use Rattle.dm_rule.specs.Rule.{has, kept_from, takes}
 use Rattle.dm_rule.proofs.PairsLines.{taken_pair}
-use Rattle.dm_placed.specs.Placed.{Placed}
+use Rattle.dm_places.specs.Placed.{Placed}
 use Rattle.dm_node.specs.State.{NodeState, here, with_message, with_receiver}
 use Rattle.dm_node.specs.declared.out.Out.TheVariants.{Sends}
 use Rattle.dm_node.specs.Acts as node

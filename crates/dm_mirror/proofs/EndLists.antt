@@ -8,8 +8,9 @@ use Rattle.dm_link.specs.Names.{pid_of}
 use Rattle.dm_message.specs.declared.Message.{Message}
 use Rattle.dm_message.specs.declared.MsgId.{MsgId}
 use Rattle.dm_onekernel.specs.Boot.{first_number}
-use Rattle.dm_rule.specs.declared.line.Line.{Line}
-use Rattle.dm_rule.specs.Ends.{or, home_with, each_machine}
+use Rattle.dm_line.specs.declared.end_line.EndLine.{EndLine}
+use Rattle.dm_line.specs.Todo.{or}
+use Rattle.dm_line.specs.Ends.{home_with, each_machine}
 use Rattle.dm_rule.specs.Ends as rule
 use Rattle.dm_rule.specs.Point.{Point}
 use Rattle.dm_world.specs.World.{WorldState}
@@ -17,24 +18,24 @@ use Rattle.dm_world.specs.Ends as world
 use Rattle.dm_mirror.specs.Stands.{AreMessages}
 
 -- so many processes of a home
-home_same : (f g : Pid → List Line) (home n : ℕ) → ((k : ℕ) → k < n → f (pid_of home (first_number + k)) ≡ g (pid_of home (first_number + k))) → home_with f home n ≡ home_with g home n
+home_same : (f g : Pid → List EndLine) (home n : ℕ) → ((k : ℕ) → k < n → f (pid_of home (first_number + k)) ≡ g (pid_of home (first_number + k))) → home_with f home n ≡ home_with g home n
 home_same f g home zero same = refl
 home_same f g home (suc n) same =
-    ap (λ (ls : List Line). ls ++ f (pid_of home (first_number + n))) (home_same f g home n (λ k h. same k (omega (arith, h))))
-    ∙ ap (λ (ls : List Line). home_with g home n ++ ls) (same n (omega arith))
+    ap (λ (ls : List EndLine). ls ++ f (pid_of home (first_number + n))) (home_same f g home n (λ k h. same k (omega (arith, h))))
+    ∙ ap (λ (ls : List EndLine). home_with g home n ++ ls) (same n (omega arith))
 
 -- all processes of the first homes
-pub homes_same : (w : WorldState) (pt : Point) (f g : Pid → List Line) (machines : ℕ) → ((m : ℕ) → m < machines → (w.nodes m).kernel.made ≡ pt.kernel.made m)
+pub homes_same : (w : WorldState) (pt : Point) (f g : Pid → List EndLine) (machines : ℕ) → ((m : ℕ) → m < machines → (w.nodes m).kernel.made ≡ pt.kernel.made m)
     → ((home n : ℕ) → home < machines → n < pt.kernel.made home → f (pid_of home (first_number + n)) ≡ g (pid_of home (first_number + n))) → world.homes_with w f machines ≡ rule.homes_with pt g machines
 homes_same w pt f g zero made same = refl
 homes_same w pt f g (suc home) made same =
-    ap (λ (ls : List Line). ls ++ home_with f home (w.nodes home).kernel.made) (homes_same w pt f g home (λ m h. made m (omega (arith, h))) (λ other n h k. same other n (omega (arith, h)) k))
-    ∙ ap (λ (ls : List Line). rule.homes_with pt g home ++ ls) (ap (home_with f home) (made home (omega arith)) ∙ home_same f g home (pt.kernel.made home) (λ k h. same home k (omega arith) h))
+    ap (λ (ls : List EndLine). ls ++ home_with f home (w.nodes home).kernel.made) (homes_same w pt f g home (λ m h. made m (omega (arith, h))) (λ other n h k. same other n (omega (arith, h)) k))
+    ∙ ap (λ (ls : List EndLine). rule.homes_with pt g home ++ ls) (ap (home_with f home) (made home (omega arith)) ∙ home_same f g home (pt.kernel.made home) (λ k h. same home k (omega arith) h))
 
-pub machines_same : (f g : ℕ → List Line) (n : ℕ) → ((m : ℕ) → m < n → f m ≡ g m) → each_machine f n ≡ each_machine g n
+pub machines_same : (f g : ℕ → List EndLine) (n : ℕ) → ((m : ℕ) → m < n → f m ≡ g m) → each_machine f n ≡ each_machine g n
 machines_same f g zero same = refl
 machines_same f g (suc n) same =
-    ap (λ (ls : List Line). ls ++ f n) (machines_same f g n (λ m h. same m (omega (arith, h)))) ∙ ap (λ (ls : List Line). each_machine g n ++ ls) (same n (omega arith))
+    ap (λ (ls : List EndLine). ls ++ f n) (machines_same f g n (λ m h. same m (omega (arith, h)))) ∙ ap (λ (ls : List EndLine). each_machine g n ++ ls) (same n (omega arith))
 
 -- the first of some machines, where at most one says something
 module _ {X : Type 0} where

@@ -12,7 +12,7 @@ use Rattle.dm_kernel.specs.declared.kernel.Servers.{Servers}
 use Rattle.dm_schedule.specs.declared.Step.{Step}
 use Rattle.dm_rule.specs.Laws.{Leads}
 use Rattle.dm_rule.specs.Point.{Point, first_point}
-use Rattle.dm_placed.specs.Placed.{Placed}
+use Rattle.dm_places.specs.Placed.{Placed}
 use Rattle.dm_world.specs.Ends.{HasPlainEnd}
 use Rattle.dm_mirror.specs.Laws.{EndMay}
 use Rattle.dm_mirror.specs.Stands.{servers_at}

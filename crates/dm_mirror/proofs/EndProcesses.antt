@@ -9,8 +9,8 @@ use Rattle.dm_link.specs.Names.{pid_of}
 use Rattle.dm_message.specs.declared.kind.MessageKind.TheVariants as kind
 use Rattle.dm_message.specs.Plain.{plain_what, with_what}
 use Rattle.dm_process.specs.declared.process.Process.{Process}
-use Rattle.dm_forward.specs.Records.{incoming_of}
-use Rattle.dm_forward.specs.declared.record.Record.TheVariants as record_
+use Rattle.dm_records.specs.Records.{incoming_of}
+use Rattle.dm_records.specs.declared.record.Record.TheVariants as record_
 use Rattle.dm_migrate.specs.Arrival.{Arrival}
 use Rattle.dm_migrate.specs.Way.{moved}
 use Rattle.dm_migrate.specs.declared.arriving.Wanted.TheVariants.{Nothing}
@@ -22,11 +22,13 @@ use Rattle.dm_onekernel.specs.Kernel as one
 use Rattle.dm_onekernel.specs.Plain.{plain_process}
 use Rattle.dm_onekernel.specs.PlainProcess.{PlainProcess}
 use Rattle.dm_onekernel.specs.Step as kernel
-use Rattle.dm_rule.specs.declared.line.Line.{Line}
-use Rattle.dm_rule.specs.declared.line.EndLine.TheVariants as end
-use Rattle.dm_rule.specs.declared.line.Standing.{Standing}
-use Rattle.dm_rule.specs.declared.line.Standing.TheVariants as standing
-use Rattle.dm_rule.specs.Ends.{Stood, says, or, stood_at, first_with, list_line}
+use Rattle.dm_line.specs.declared.end_line.EndLine.{EndLine}
+use Rattle.dm_line.specs.declared.end_line.EndLine.TheVariants as end
+use Rattle.dm_line.specs.declared.end_line.Standing.{Standing}
+use Rattle.dm_line.specs.declared.end_line.Standing.TheVariants as standing
+use Rattle.dm_line.specs.Todo.{or}
+use Rattle.dm_line.specs.Ends.{list_line}
+use Rattle.dm_rule.specs.Ends.{Stood, stood_at, first_with}
 use Rattle.dm_rule.specs.Ends as rule
 use Rattle.dm_rule.specs.Phases.{is_away, is_due}
 use Rattle.dm_rule.specs.Point.{Point}
@@ -36,7 +38,7 @@ use Rattle.dm_rule.proofs.Lines.{not_true}
 use Rattle.dm_rulelaws.specs.Fits.{is_server}
 use Rattle.dm_rulelaws.proofs.Runs.{Run}
 use Rattle.dm_kernel.specs.State as machine
-use Rattle.dm_placed.specs.Placed.{Placed}
+use Rattle.dm_places.specs.Placed.{Placed}
 use Rattle.dm_world.specs.World.{WorldState}
 use Rattle.dm_world.specs.Ends.{alive_lines, awaited_lines, come_lines, come_whole, first_awaited, first_had, first_says, lines_in, names_of, record_lines, record_queue}
 use Rattle.dm_world.specs.Ends as world
@@ -92,13 +94,13 @@ away_machine b w pt l h p m g away below =
 had_at : (b : Boot) (w : WorldState) (pt : Point) (l : Placed) (h : History) (p : Pid) (at : ℕ) → IsOfHome b w pt l h p → at < pt.kernel.machines → ((m : ℕ) → m ≢ at → is_silent (pt.view.known m p) ≡ true)
     → first_had pt.kernel.machines w p ≡ record_lines at p ((w.nodes at).kernel.records p)
 had_at b w pt l h p at g below others =
-    let f : ℕ → Option (List Line) = λ m. record_lines m p ((w.nodes m).kernel.records p) in
+    let f : ℕ → Option (List EndLine) = λ m. record_lines m p ((w.nodes m).kernel.records p) in
     first_at (first_says f) f at pt.kernel.machines refl (λ m. refl) below (λ m less apart. silent_machine b w pt l h p m g (others m apart) less)
 
 queue_by : (b : Boot) (w : WorldState) (pt : Point) (l : Placed) (h : History) (p : Pid) (at : ℕ) → IsOfHome b w pt l h p → at < pt.kernel.machines → ((m : ℕ) → m ≢ at → is_silent (pt.view.known m p) ≡ true)
     → world.queue_of pt.kernel.machines w p ≡ lines_in (record_queue p ((w.nodes at).kernel.records p))
 queue_by b w pt l h p at g below others =
-    let f : ℕ → Option (List Line) = λ m. record_queue p ((w.nodes m).kernel.records p) in
+    let f : ℕ → Option (List EndLine) = λ m. record_queue p ((w.nodes m).kernel.records p) in
     ap lines_in (first_at (first_says f) f at pt.kernel.machines refl (λ m. refl) below (λ m less apart. no_queue b w pt l h p m g (others m apart) less))
 
 with_at : (pt : Point) (p : Pid) (at : ℕ) → at < pt.kernel.machines → ((m : ℕ) → m ≢ at → is_silent (pt.view.known m p) ≡ true)
@@ -143,7 +145,7 @@ has_said b w pt l h p a g =
     let there : Option Stood = Some (record { at = a.at; standing = a.standing }) in
     let stood : rule.stood pt.view p pt.kernel.machines ≡ there =
     ap (λ (o : Option Stood). or o (first_with rule.awaits pt.view p pt.kernel.machines)) (with_at pt p a.at below a.others ∙ ap (stood_at a.at) a.known) in
-    ap (λ (o : Option (List Line)). lines_in (or o (first_awaited pt.kernel.machines w p))) (had_at b w pt l h p a.at g below a.others ∙ i.lines)
+    ap (λ (o : Option (List EndLine)). lines_in (or o (first_awaited pt.kernel.machines w p))) (had_at b w pt l h p a.at g below a.others ∙ i.lines)
     ∙ (alive_same pt.addresses a.at p a.standing x places.slots
     ∙ (ap (rule.alive_lines pt.addresses p (plain_process x)) (sym stood) ∙ ap (rule.process_lines pt p) (sym (alive_of b w pt l h p (record x { queue = i.rest }) g i.placed))))
 
@@ -171,7 +173,7 @@ ended_is (Some (one.Ended z)) y e = ap (λ (x : Why). Some (one.Ended x)) (some_
 over_said : (b : Boot) (w : WorldState) (pt : Point) (l : Placed) (h : History) (p : Pid) (a : OverAt pt.view p) → IsOfHome b w pt l h p → world.process_lines pt.kernel.machines w p ≡ rule.process_lines pt p (pt.kernel.processes p)
 over_said b w pt l h p a g =
     let e = over_machine b w pt l h p a g in
-    ap (λ (o : Option (List Line)). lines_in (or o (first_awaited pt.kernel.machines w p))) (had_at b w pt l h p a.at g (within_over b pt p a g.run) a.others ∙ ap (record_lines a.at p) e.is)
+    ap (λ (o : Option (List EndLine)). lines_in (or o (first_awaited pt.kernel.machines w p))) (had_at b w pt l h p a.at g (within_over b pt p a g.run) a.others ∙ ap (record_lines a.at p) e.is)
     ∙ ap (rule.process_lines pt p) (sym (ended_is (pt.kernel.processes p) e.why e.due))
 
 over_queue : (b : Boot) (w : WorldState) (pt : Point) (l : Placed) (h : History) (p : Pid) (a : OverAt pt.view p) → IsOfHome b w pt l h p
@@ -216,8 +218,8 @@ to_said b w pt l h p a g =
     let c = i.arrival in
     let x = i.comes.process in
     let there_ = i.comes.there in
-    let f : ℕ → Option (List Line) = λ m. record_lines m p ((w.nodes m).kernel.records p) in
-    let v : ℕ → Option (List Line) = λ m. awaited_lines m p ((w.nodes m).kernel.records p) in
+    let f : ℕ → Option (List EndLine) = λ m. record_lines m p ((w.nodes m).kernel.records p) in
+    let v : ℕ → Option (List EndLine) = λ m. awaited_lines m p ((w.nodes m).kernel.records p) in
     let had : first_had n w p ≡ None = first_none (first_says f) f n refl (λ m. refl) (λ m less. silent_machine b w pt l h p m g (none_has pt p a m) less) in
     let awaited : first_awaited n w p ≡ Some (alive_lines a.to p standing.Arriving (moved x)) =
     first_at (first_says v) v a.to n refl (λ m. refl) below (λ m less apart. away_machine b w pt l h p m g (a.others m apart) less)
@@ -230,7 +232,7 @@ to_said b w pt l h p a g =
     first_at (first_with rule.awaits pt.view p) (λ m. stood_at m (rule.awaits (pt.view.known m p))) a.to n refl (λ m. refl) below (λ m less apart. ap (stood_at m) (away_awaits (pt.view.known m p) (a.others m apart)))
     ∙ ap (λ (k : Known). stood_at a.to (rule.awaits k)) a.known in
     let stood : rule.stood pt.view p n ≡ there = ap (λ (o : Option Stood). or o (first_with rule.awaits pt.view p n)) has ∙ awaits in
-    ap (λ (o : Option (List Line)). lines_in (or o (first_awaited n w p))) had
+    ap (λ (o : Option (List EndLine)). lines_in (or o (first_awaited n w p))) had
     ∙ (ap lines_in awaited
     ∙ (alive_same pt.addresses a.to p standing.Arriving (moved x) places.slots
     ∙ (ap (rule.alive_lines pt.addresses p (plain_process x)) (sym stood) ∙ ap (rule.process_lines pt p) (sym (alive_of b w pt l h p x g there_)))))
@@ -239,7 +241,7 @@ to_queue : (b : Boot) (w : WorldState) (pt : Point) (l : Placed) (h : History) (
     → world.queue_of pt.kernel.machines w p ≡ rule.queue_at pt.view p (first_with rule.has pt.view p pt.kernel.machines)
 to_queue b w pt l h p a g =
     let n = pt.kernel.machines in
-    let f : ℕ → Option (List Line) = λ m. record_queue p ((w.nodes m).kernel.records p) in
+    let f : ℕ → Option (List EndLine) = λ m. record_queue p ((w.nodes m).kernel.records p) in
     let has : first_with rule.has pt.view p n ≡ None =
     first_none (first_with rule.has pt.view p) (λ m. stood_at m (rule.has (pt.view.known m p))) n refl (λ m. refl) (λ m less. ap (stood_at m) (silent_has (pt.view.known m p) (none_has pt p a m))) in
     ap lines_in (first_none (first_says f) f n refl (λ m. refl) (λ m less. no_queue b w pt l h p m g (none_has pt p a m) less)) ∙ ap (rule.queue_at pt.view p) (sym has)

@@ -11,7 +11,7 @@ use Rattle.dm_message.specs.declared.kind.MessageKind.TheVariants as kind
 use Rattle.dm_message.specs.Kinds.{kind_of}
 use Rattle.dm_message.specs.Plain.{plain_what}
 use Rattle.dm_process.specs.declared.process.Process.{Process}
-use Rattle.dm_forward.specs.declared.record.Record.TheVariants as record_
+use Rattle.dm_records.specs.declared.record.Record.TheVariants as record_
 use Rattle.dm_migrate.specs.Arrival.{Arrival, restarted}
 use Rattle.dm_migrate.specs.Way.{coming, moved}
 use Rattle.dm_migrate.specs.declared.arriving.Wanted.{Wanted}
@@ -19,16 +19,16 @@ use Rattle.dm_migrate.specs.declared.arriving.Wanted.TheVariants.{Nothing}
 use Rattle.dm_migrate.proofs.Way.{by_pieces}
 use Rattle.dm_onekernel.specs.declared.label.Why.{Why}
 use Rattle.dm_onekernel.specs.Step as kernel
-use Rattle.dm_rule.specs.declared.line.EndLine.TheVariants as end
-use Rattle.dm_rule.specs.declared.line.Standing.{Standing}
-use Rattle.dm_rule.specs.declared.line.Standing.TheVariants as standing
-use Rattle.dm_rule.specs.Ends.{list_line}
+use Rattle.dm_line.specs.declared.end_line.EndLine.TheVariants as end
+use Rattle.dm_line.specs.declared.end_line.Standing.{Standing}
+use Rattle.dm_line.specs.declared.end_line.Standing.TheVariants as standing
+use Rattle.dm_line.specs.Ends.{list_line}
 use Rattle.dm_rule.specs.Ends as rule
 use Rattle.dm_rule.specs.Phases.{is_away}
 use Rattle.dm_rule.specs.Point.{Point}
 use Rattle.dm_rule.specs.View.{Known, Unknown, Here, Frozen, Incoming, Forward, Ended}
 use Rattle.dm_kernel.specs.State as machine
-use Rattle.dm_placed.specs.Placed.{Placed}
+use Rattle.dm_places.specs.Placed.{Placed}
 use Rattle.dm_world.specs.Ends.{alive_lines, awaited_lines, come_whole, held_for, names_of, record_lines, record_queue}
 use Rattle.dm_rulelaws.specs.Found.{has_nothing_held}
 use Rattle.dm_mirror.specs.Stands.{AreMessages, ComesStand, KnownStands}

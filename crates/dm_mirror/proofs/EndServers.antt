@@ -15,15 +15,15 @@ use Rattle.dm_onekernel.specs.Kernel.{Switchboard, Manager}
 use Rattle.dm_switchboard.specs.Board.{Named, plain_named}
 use Rattle.dm_procman.specs.declared.pending.Pending.{Pending}
 use Rattle.dm_procman.specs.Managing.{plain_child, plain_pending, plain_manager}
-use Rattle.dm_rule.specs.declared.line.Line.{Line}
-use Rattle.dm_rule.specs.declared.line.EndLine.TheVariants as end
+use Rattle.dm_line.specs.declared.end_line.EndLine.{EndLine}
+use Rattle.dm_line.specs.declared.end_line.EndLine.TheVariants as end
 use Rattle.dm_rule.specs.Addresses.{Addresses, Child, Name}
-use Rattle.dm_rule.specs.Ends.{says, list_line}
+use Rattle.dm_line.specs.Ends.{list_line}
 use Rattle.dm_rule.specs.Ends as rule
 use Rattle.dm_rule.specs.Pairs.{HomeStands}
 use Rattle.dm_rule.specs.Point.{Point}
 use Rattle.dm_rule.specs.Spots as spots
-use Rattle.dm_placed.specs.Placed.{Placed, Mirrors}
+use Rattle.dm_places.specs.Placed.{Placed, Mirrors}
 use Rattle.dm_world.specs.World.{WorldState}
 use Rattle.dm_world.specs.Ends as world
 use Rattle.dm_mirror.specs.Stands.{History, PairStands, id_of}
@@ -34,8 +34,8 @@ names_same a n [] leads = refl
 names_same a n (k ∷ ks) leads =
     let here : a (Name n) ≡ place_of k.link.addr = ap (λ (i : ℕ). a (Name i)) (let f : n ≡ n + 0 = omega arith in f) ∙ leads 0 k refl in
     let rest = names_same a (n + 1) ks (λ j k2 e. ap (λ (i : ℕ). a (Name i)) (let f : n + 1 + j ≡ n + suc j = omega arith in f) ∙ leads (suc j) k2 e) in
-    ap (λ (q : Place). says (end.Name (record { items = k.name }) (rule.leading (plain_link k.link) q)) ∷ world.name_lines ks) (sym here)
-    ∙ ap (λ (ls : List Line). says (end.Name (record { items = k.name }) (rule.leading (plain_link k.link) (a (Name n)))) ∷ ls) rest
+    ap (λ (q : Place). end.Name (record { items = k.name }) (rule.leading (plain_link k.link) q) ∷ world.name_lines ks) (sym here)
+    ∙ ap (λ (ls : List EndLine). end.Name (record { items = k.name }) (rule.leading (plain_link k.link) (a (Name n))) ∷ ls) rest
 
 -- the children of the manager, and its requests
 children_same : (a : Addresses) (n : ℕ) (cs : List Addr) → ((j : ℕ) (c : Addr) → slice_get cs j ≡ Some c → a (Child (n + j)) ≡ place_of c) → world.child_lines n cs ≡ rule.child_lines a n (map plain_child cs)
@@ -43,17 +43,17 @@ children_same a n [] leads = refl
 children_same a n (c ∷ cs) leads =
     let here : a (Child n) ≡ place_of c = ap (λ (i : ℕ). a (Child i)) (let f : n ≡ n + 0 = omega arith in f) ∙ leads 0 c refl in
     let rest = children_same a (n + 1) cs (λ j d e. ap (λ (i : ℕ). a (Child i)) (let f : n + 1 + j ≡ n + suc j = omega arith in f) ∙ leads (suc j) d e) in
-    ap (λ (q : Place). says (end.Child n c.pid q.at) ∷ world.child_lines (n + 1) cs) (sym here) ∙ ap (λ (ls : List Line). says (end.Child n c.pid (a (Child n)).at) ∷ ls) rest
+    ap (λ (q : Place). end.Child n c.pid q.at ∷ world.child_lines (n + 1) cs) (sym here) ∙ ap (λ (ls : List EndLine). end.Child n c.pid (a (Child n)).at ∷ ls) rest
 
 pending_same : (rs : List Pending) → world.pending_lines rs ≡ rule.pending_lines (map plain_pending rs)
 pending_same [] = refl
-pending_same (r ∷ rs) = ap (λ (ls : List Line). says (end.Pending (message.id_of manager r.n)) ∷ ls) (pending_same rs)
+pending_same (r ∷ rs) = ap (λ (ls : List EndLine). end.Pending (message.id_of manager r.n) ∷ ls) (pending_same rs)
 
 -- the lines of the servers
-abbrev servers_of : Addresses → Switchboard → Manager → List Line
+abbrev servers_of : Addresses → Switchboard → Manager → List EndLine
 servers_of a b g =
-    says (end.Server switchboard b.sent)
-    ∷ says (end.Server manager g.sent)
+    end.Server switchboard b.sent
+    ∷ end.Server manager g.sent
     ∷ rule.name_lines a 0 b.names
     ++ rule.child_lines a 1 g.children
     ++ rule.pending_lines g.pending
@@ -61,13 +61,13 @@ servers_of a b g =
 pub servers_said : (pt : Point) (l : Placed) → Mirrors pt.kernel pt.view pt.addresses l → world.server_lines (Some (record { board = l.board; manager = l.manager })) ≡ rule.server_lines pt
 servers_said pt l h =
     let a = pt.addresses in
-    let first = says (end.Server switchboard l.board.sent) in
-    let second = says (end.Server manager l.manager.sent) in
+    let first = (end.Server switchboard l.board.sent) in
+    let second = (end.Server manager l.manager.sent) in
     let names = names_same a 0 l.board.names (λ j k e. ap (λ (i : ℕ). a (Name i)) (let f : 0 + j ≡ j = omega arith in f) ∙ h.places.name j k e) in
     let children = children_same a 1 l.manager.children (λ j c e. ap (λ (i : ℕ). a (Child i)) (let f : 1 + j ≡ suc j = omega arith in f) ∙ h.places.child (suc j) c e) in
-    ap (λ (ls : List Line). first ∷ second ∷ ls ++ world.child_lines 1 l.manager.children ++ world.pending_lines l.manager.pending) names
-    ∙ (ap (λ (ls : List Line). first ∷ second ∷ rule.name_lines a 0 (map plain_named l.board.names) ++ ls ++ world.pending_lines l.manager.pending) children
-    ∙ (ap (λ (ls : List Line). first ∷ second ∷ rule.name_lines a 0 (map plain_named l.board.names) ++ rule.child_lines a 1 (map plain_child l.manager.children) ++ ls) (pending_same l.manager.pending)
+    ap (λ (ls : List EndLine). first ∷ second ∷ ls ++ world.child_lines 1 l.manager.children ++ world.pending_lines l.manager.pending) names
+    ∙ (ap (λ (ls : List EndLine). first ∷ second ∷ rule.name_lines a 0 (map plain_named l.board.names) ++ ls ++ world.pending_lines l.manager.pending) children
+    ∙ (ap (λ (ls : List EndLine). first ∷ second ∷ rule.name_lines a 0 (map plain_named l.board.names) ++ rule.child_lines a 1 (map plain_child l.manager.children) ++ ls) (pending_same l.manager.pending)
     ∙ (ap (λ (b : Switchboard). servers_of a b (plain_manager l.manager)) h.plain.board ∙ ap (servers_of a pt.kernel.switchboard) h.plain.manager)))
 
 -- the messages that one machine has for another, and that were not taken yet

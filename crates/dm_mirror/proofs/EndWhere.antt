@@ -9,8 +9,8 @@ use Rattle.dm_link.specs.declared.Pid.{Pid}
 use Rattle.dm_message.specs.declared.MsgId.{MsgId}
 use Rattle.dm_message.specs.declared.kind.MessageKind.{MessageKind}
 use Rattle.dm_message.specs.declared.kind.MessageKind.TheVariants as kind
-use Rattle.dm_rule.specs.declared.line.Standing.{Standing}
-use Rattle.dm_rule.specs.declared.line.Standing.TheVariants as standing
+use Rattle.dm_line.specs.declared.end_line.Standing.{Standing}
+use Rattle.dm_line.specs.declared.end_line.Standing.TheVariants as standing
 use Rattle.dm_rule.specs.Ends as rule
 use Rattle.dm_rule.specs.Phases.{Phase, Nowhere, Rests, Over, Moves, IsIn, IsToken, comes, is_away, is_due, is_here, is_over, is_restart, is_unknown, knows, leaves}
 use Rattle.dm_rule.specs.View.{View, Known, Unknown, Here, Frozen, Incoming, Forward, Ended}

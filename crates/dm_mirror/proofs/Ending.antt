@@ -5,16 +5,17 @@ use Rattle.dm_link.specs.Names.{pid_of}
 use Rattle.dm_onekernel.specs.declared.boot.Boot.{Boot}
 use Rattle.dm_onekernel.specs.Boot.{IsValid, first_number}
 use Rattle.dm_schedule.specs.declared.Step.{Step}
-use Rattle.dm_rule.specs.declared.line.Line.{Line}
-use Rattle.dm_rule.specs.declared.line.EndLine.TheVariants as end
-use Rattle.dm_rule.specs.Ends.{says, each_machine, first_with, has, list_line}
+use Rattle.dm_line.specs.declared.end_line.EndLine.{EndLine}
+use Rattle.dm_line.specs.declared.end_line.EndLine.TheVariants as end
+use Rattle.dm_line.specs.Ends.{each_machine, list_line}
+use Rattle.dm_rule.specs.Ends.{first_with, has}
 use Rattle.dm_rule.specs.Ends as rule
 use Rattle.dm_rule.specs.Laws.{Leads}
 use Rattle.dm_rule.specs.Point.{Point, first_point}
 use Rattle.dm_rule.specs.Spots as spots
 use Rattle.dm_rule.proofs.Pairs.{pair_home}
 use Rattle.dm_rulelaws.proofs.Runs.{Run}
-use Rattle.dm_placed.specs.Placed.{Placed}
+use Rattle.dm_places.specs.Placed.{Placed}
 use Rattle.dm_world.specs.World.{WorldState}
 use Rattle.dm_world.specs.Ends as world
 use Rattle.dm_mirror.specs.Stands.{History, StandsWith}
@@ -75,8 +76,8 @@ holdings_said b w pt l h f =
     (λ home n less fewer. holding_said b w pt l h (pid_of home (first_number + n)) m (of_home b w pt l h home n less f) below))
 
 -- all lines, part by part
-abbrev ending : List Line → List Line → List Line → List Line → List Line → List Line → ℕ → List Line
-ending ps ss qs hs is ts groups = says end.Final ∷ ps ++ ss ++ qs ++ hs ++ is ++ ts ++ says (end.Groups groups) ∷ []
+abbrev ending : List EndLine → List EndLine → List EndLine → List EndLine → List EndLine → List EndLine → ℕ → List EndLine
+ending ps ss qs hs is ts groups = end.Final ∷ ps ++ ss ++ qs ++ hs ++ is ++ ts ++ end.Groups groups ∷ []
 
 end_same : (b : Boot) (w : WorldState) (pt : Point) (l : Placed) (h : History) → Final b w pt l h → world.end_lines pt.kernel.machines w ≡ rule.end_lines pt
 end_same b w pt l h f =
@@ -87,12 +88,12 @@ end_same b w pt l h f =
     let hs = each_machine (λ m. world.homes_with w (world.held_line w m) n) n in
     let is = each_machine (λ m. list_line (end.Inbox m) (world.names_of (w.nodes m).kernel.inbox)) n in
     let ts = each_machine (λ a. each_machine (λ c. world.stream_line w a c) n) n in
-    ap (λ (ls : List Line). ending ls (world.server_lines (w.nodes 0).kernel.servers) qs hs is ts w.groups) (processes_said b w pt l h f)
-    ∙ (ap (λ (ls : List Line). ending ps ls qs hs is ts w.groups) (servers_there b w pt l h f)
-    ∙ (ap (λ (ls : List Line). ending ps ss ls hs is ts w.groups) (queues_said b w pt l h f)
-    ∙ (ap (λ (ls : List Line). ending ps ss (rule.queue_lines pt) ls is ts w.groups) (holdings_said b w pt l h f)
-    ∙ (ap (λ (ls : List Line). ending ps ss (rule.queue_lines pt) (rule.holding_lines pt) ls ts w.groups) (inboxes_said b w pt l h f)
-    ∙ (ap (λ (ls : List Line). ending ps ss (rule.queue_lines pt) (rule.holding_lines pt) (rule.inbox_lines pt) ls w.groups) (streams_said b w pt l h f)
+    ap (λ (ls : List EndLine). ending ls (world.server_lines (w.nodes 0).kernel.servers) qs hs is ts w.groups) (processes_said b w pt l h f)
+    ∙ (ap (λ (ls : List EndLine). ending ps ls qs hs is ts w.groups) (servers_there b w pt l h f)
+    ∙ (ap (λ (ls : List EndLine). ending ps ss ls hs is ts w.groups) (queues_said b w pt l h f)
+    ∙ (ap (λ (ls : List EndLine). ending ps ss (rule.queue_lines pt) ls is ts w.groups) (holdings_said b w pt l h f)
+    ∙ (ap (λ (ls : List EndLine). ending ps ss (rule.queue_lines pt) (rule.holding_lines pt) ls ts w.groups) (inboxes_said b w pt l h f)
+    ∙ (ap (λ (ls : List EndLine). ending ps ss (rule.queue_lines pt) (rule.holding_lines pt) (rule.inbox_lines pt) ls w.groups) (streams_said b w pt l h f)
     ∙ ap (ending ps ss (rule.queue_lines pt) (rule.holding_lines pt) (rule.inbox_lines pt) (rule.stream_lines pt)) f.stands.groups)))))
 
 -- where the world stands for a point

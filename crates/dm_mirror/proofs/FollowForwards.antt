@@ -17,8 +17,8 @@ use Rattle.dm_message.specs.Ids.{id_eq, id_of}
 use Rattle.dm_message.specs.Kinds.{kind_of, plain_kind}
 use Rattle.dm_message.specs.Plain as plain_
 use Rattle.dm_message.specs.Plain.{PlainMessage, PlainWhat, plain_message, plain_what, with_what}
-use Rattle.dm_forward.specs.declared.record.Record.TheVariants as record_
-use Rattle.dm_forward.specs.Records.{incoming_of}
+use Rattle.dm_records.specs.declared.record.Record.TheVariants as record_
+use Rattle.dm_records.specs.Records.{incoming_of}
 use Rattle.dm_migrate.specs.Departure.{sent_on}
 use Rattle.dm_onekernel.specs.declared.boot.Boot.{Boot}
 use Rattle.dm_onekernel.specs.Boot.{manager}
@@ -29,13 +29,13 @@ use Rattle.dm_kernel.specs.Following.{forwards_and}
 use Rattle.dm_kernel.specs.State as machine
 use Rattle.dm_kernel.specs.State.{KernelState, Turned, with_sent}
 use Rattle.dm_laws.proofs.Equal.{id_eq-same, id_eq-swap}
-use Rattle.dm_rule.specs.declared.line.Line.TheVariants as line
+use Rattle.dm_line.specs.declared.line.Line.TheVariants as line
 use Rattle.dm_rule.specs.Addresses.{Addresses, Receiver, Sender, is_told_back, unmoved}
 use Rattle.dm_rule.specs.Migrating.{forwards_on, process_told}
 use Rattle.dm_rule.specs.Parts as rule
 use Rattle.dm_rule.specs.Point.{Point, moved}
 use Rattle.dm_rule.specs.Rule.{process_handles}
-use Rattle.dm_rule.specs.Sets.{at_machine}
+use Rattle.dm_line.specs.Sets.{at_machine}
 use Rattle.dm_rule.specs.Spots.{Spot, Queue, Held, StandsOnce, standing}
 use Rattle.dm_rule.specs.View.{About, Known, Forward, Told, forward_about, forwarded_for, handled, own_id, receiver_of}
 use Rattle.dm_rule.specs.View as view
@@ -44,12 +44,12 @@ use Rattle.dm_rulelaws.specs.Fits.{WhatFits}
 use Rattle.dm_rulelaws.specs.Found.{is_fixed}
 use Rattle.dm_rulelaws.proofs.OwnTold.{own_sort}
 use Rattle.dm_rulelaws.proofs.Runs.{Run}
-use Rattle.dm_placed.specs.Placed.{Placed, Mirrors}
-use Rattle.dm_placed.specs.PlacedStep.{with_message}
-use Rattle.dm_placed.proofs.Changed.{free_off, plain_sent_on}
-use Rattle.dm_placed.proofs.Followed.{forwarded_mirrors, moves_forwarded, update_gets}
-use Rattle.dm_placed.proofs.Keeps.{parts}
-use Rattle.dm_placed.proofs.Lines.{mirrors_view}
+use Rattle.dm_places.specs.Placed.{Placed, Mirrors}
+use Rattle.dm_places.specs.PlacedStep.{with_message}
+use Rattle.dm_places.proofs.Changed.{free_off, plain_sent_on}
+use Rattle.dm_places.proofs.Followed.{forwarded_mirrors, moves_forwarded, update_gets}
+use Rattle.dm_places.proofs.Keeps.{parts}
+use Rattle.dm_places.proofs.Lines.{mirrors_view}
 use Rattle.dm_mirror.specs.Own.{AllOwnStand, OwnStands}
 use Rattle.dm_mirror.specs.Stands.{KnownStands}
 use Rattle.dm_mirror.specs.Tokens.{AllRecords, Wants}

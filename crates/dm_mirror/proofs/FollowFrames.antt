@@ -11,21 +11,21 @@ use Rattle.dm_message.specs.declared.Message.{Message}
 use Rattle.dm_message.specs.Ids.{id_eq}
 use Rattle.dm_message.specs.Kinds.{kind_of}
 use Rattle.dm_message.specs.Plain.{PlainMessage}
-use Rattle.dm_forward.specs.declared.record.Record.TheVariants as record_
+use Rattle.dm_records.specs.declared.record.Record.TheVariants as record_
 use Rattle.dm_onekernel.specs.declared.boot.Boot.{Boot}
 use Rattle.dm_onekernel.specs.Step as kernel
 use Rattle.dm_kernel.specs.State as machine
 use Rattle.dm_kernel.specs.State.{KernelState}
 use Rattle.dm_laws.proofs.Equal.{id_eq-is, id_eq-same}
 use Rattle.dm_rule.specs.Point.{Point}
-use Rattle.dm_rule.specs.Sets.{at_machine, without_front}
+use Rattle.dm_line.specs.Sets.{at_machine, without_front}
 use Rattle.dm_rule.specs.Spots.{Spot, Queue, Held, Inbox, Untaken, times, standing, StandsOnce, StandsOutside, StandsRight}
 use Rattle.dm_rule.specs.View.{Known, Unknown, Here, Frozen, Incoming, Forward, Ended, Told, is_kernels}
 use Rattle.dm_rule.proofs.Groups.{stands_right}
 use Rattle.dm_rule.proofs.Standing.{once_at}
 use Rattle.dm_rulelaws.proofs.OwnTold.{OwnTold}
 use Rattle.dm_rulelaws.proofs.Runs.{Run}
-use Rattle.dm_placed.specs.Placed.{Placed, Mirrors}
+use Rattle.dm_places.specs.Placed.{Placed, Mirrors}
 use Rattle.dm_mirror.specs.Own.{AllOwnStand}
 use Rattle.dm_mirror.specs.Stands.{AreMessages, KnownStands, KernelStands}
 use Rattle.dm_mirror.specs.Tokens.{AllRecords, TokensStand}

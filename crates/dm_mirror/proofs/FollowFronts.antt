@@ -25,8 +25,8 @@ use Rattle.dm_rulelaws.specs.Fits.{is_server}
 use Rattle.dm_rulelaws.specs.Found.{is_fixed}
 use Rattle.dm_rulelaws.proofs.OwnTold.{OwnTold, is_process, own_sort}
 use Rattle.dm_rulelaws.proofs.Runs.{Run}
-use Rattle.dm_placed.specs.Placed.{Placed, Mirrors}
-use Rattle.dm_placed.proofs.Keeps.{parts}
+use Rattle.dm_places.specs.Placed.{Placed, Mirrors}
+use Rattle.dm_places.proofs.Keeps.{parts}
 use Rattle.dm_mirror.specs.Own.{AllOwnStand, told_of}
 use Rattle.dm_mirror.specs.Stands.{AreMessages, KernelStands}
 use Rattle.dm_mirror.specs.Tokens.{AllRecords, TokensStand}

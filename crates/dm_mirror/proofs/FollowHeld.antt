@@ -11,8 +11,8 @@ use Rattle.dm_message.specs.declared.MsgId.{MsgId}
 use Rattle.dm_message.specs.declared.Message.{Message}
 use Rattle.dm_message.specs.Ids.{id_eq}
 use Rattle.dm_message.specs.Plain.{PlainMessage, plain_message}
-use Rattle.dm_forward.specs.declared.record.Record.TheVariants as record_
-use Rattle.dm_forward.specs.Records.{incoming_of}
+use Rattle.dm_records.specs.declared.record.Record.TheVariants as record_
+use Rattle.dm_records.specs.Records.{incoming_of}
 use Rattle.dm_migrate.specs.declared.arriving.Wanted.{Wanted}
 use Rattle.dm_migrate.specs.Arrival as arrival
 use Rattle.dm_migrate.specs.Arrival.{Arrival}
@@ -25,17 +25,17 @@ use Rattle.dm_kernel.specs.Handle.{handles}
 use Rattle.dm_kernel.specs.State as machine
 use Rattle.dm_kernel.specs.State.{KernelState, Turned, with_known}
 use Rattle.dm_laws.proofs.Equal.{id_eq-swap, pid_eq-is, pid_eq-same}
-use Rattle.dm_rule.specs.declared.line.Line.TheVariants as line
+use Rattle.dm_line.specs.declared.line.Line.TheVariants as line
 use Rattle.dm_rule.specs.Migrating.{process_told}
 use Rattle.dm_rule.specs.Parts as rule
 use Rattle.dm_rule.specs.Point.{Point}
 use Rattle.dm_rule.specs.Rule.{process_handles}
-use Rattle.dm_rule.specs.Sets.{at_record}
+use Rattle.dm_line.specs.Sets.{at_record}
 use Rattle.dm_rule.specs.Spots.{times}
 use Rattle.dm_rule.specs.View.{Known, Frozen, Incoming, handled, held_for, receiver_of}
 use Rattle.dm_rulelaws.specs.Found.{is_fixed}
-use Rattle.dm_placed.specs.Placed.{Placed}
-use Rattle.dm_placed.proofs.Lines.{mirrors_view}
+use Rattle.dm_places.specs.Placed.{Placed}
+use Rattle.dm_places.proofs.Lines.{mirrors_view}
 use Rattle.dm_mirror.specs.Stands.{AreMessages, ComesStand, KnownStands, LeavesStand}
 use Rattle.dm_mirror.specs.Tokens.{AllRecords, Wants}
 use Rattle.dm_mirror.proofs.FollowFrames.{Fronts, eq_off, eq_self}

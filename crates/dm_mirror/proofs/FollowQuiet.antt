@@ -12,7 +12,7 @@ use Rattle.dm_message.specs.declared.What.TheVariants as what
 use Rattle.dm_message.specs.declared.kind.MessageKind.{MessageKind}
 use Rattle.dm_message.specs.Kinds.{kind_of}
 use Rattle.dm_message.specs.Plain.{PlainMessage, plain_message, plain_what, with_what}
-use Rattle.dm_forward.specs.declared.record.Record.TheVariants as record_
+use Rattle.dm_records.specs.declared.record.Record.TheVariants as record_
 use Rattle.dm_onekernel.specs.declared.boot.Boot.{Boot}
 use Rattle.dm_onekernel.specs.declared.label.Why.{Why}
 use Rattle.dm_onekernel.specs.Kernel.{Life}
@@ -28,8 +28,8 @@ use Rattle.dm_kernel.specs.Handle as machine_handle
 use Rattle.dm_kernel.specs.Handle.{handles}
 use Rattle.dm_kernel.specs.State as machine
 use Rattle.dm_kernel.specs.State.{KernelState}
-use Rattle.dm_rule.specs.declared.line.Line.{Line}
-use Rattle.dm_rule.specs.declared.line.Line.TheVariants as line
+use Rattle.dm_line.specs.declared.line.Line.{Line}
+use Rattle.dm_line.specs.declared.line.Line.TheVariants as line
 use Rattle.dm_rule.specs.Addresses.{Addresses}
 use Rattle.dm_rule.specs.Migrating.{ended_told}
 use Rattle.dm_rule.specs.Parts as rule
@@ -37,9 +37,9 @@ use Rattle.dm_rule.specs.Point.{Point, after_line, moved}
 use Rattle.dm_rule.specs.Rule.{comes_to}
 use Rattle.dm_rule.specs.View.{Known, Ended}
 use Rattle.dm_rulelaws.specs.Found.{is_fixed}
-use Rattle.dm_placed.specs.Placed.{Placed, Mirrors}
-use Rattle.dm_placed.proofs.Lines.{mirrors_view}
-use Rattle.dm_placed.proofs.Updated.{updated_ended_mirrors}
+use Rattle.dm_places.specs.Placed.{Placed, Mirrors}
+use Rattle.dm_places.proofs.Lines.{mirrors_view}
+use Rattle.dm_places.proofs.Updated.{updated_ended_mirrors}
 use Rattle.dm_mirror.specs.Own.{about_of, told_of}
 use Rattle.dm_mirror.specs.Stands.{KnownStands, servers_at}
 use Rattle.dm_mirror.specs.Tokens.{AllRecords}

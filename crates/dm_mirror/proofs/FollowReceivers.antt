@@ -8,7 +8,7 @@ use Rattle.dm_link.specs.Names.{pid_eq}
 use Rattle.dm_message.specs.declared.MsgId.{MsgId}
 use Rattle.dm_message.specs.declared.Message.{Message}
 use Rattle.dm_message.specs.Plain.{PlainMessage, plain_message}
-use Rattle.dm_forward.specs.Records.{with_record}
+use Rattle.dm_records.specs.Records.{with_record}
 use Rattle.dm_onekernel.specs.declared.boot.Boot.{Boot}
 use Rattle.dm_onekernel.specs.Boot.{switchboard, manager}
 use Rattle.dm_kernel.specs.Handle as machine_handle
@@ -22,8 +22,8 @@ use Rattle.dm_rule.specs.Point.{Point}
 use Rattle.dm_rule.specs.Rule.{comes_to, hears, process_handles}
 use Rattle.dm_rule.specs.Rule as rules
 use Rattle.dm_rule.specs.View.{Known, Told}
-use Rattle.dm_placed.specs.Placed.{Placed}
-use Rattle.dm_placed.proofs.Keeps.{parts}
+use Rattle.dm_places.specs.Placed.{Placed}
+use Rattle.dm_places.proofs.Keeps.{parts}
 use Rattle.dm_mirror.specs.Tokens.{AllRecords}
 use Rattle.dm_mirror.proofs.FollowFrames.{Fronts}
 use Rattle.dm_mirror.proofs.FollowFronts.{IsProcess, plain_there}

@@ -15,7 +15,7 @@ use Rattle.dm_message.specs.Ids.{id_eq}
 use Rattle.dm_message.specs.Kinds.{kind_of}
 use Rattle.dm_message.specs.Plain.{plain_message}
 use Rattle.dm_process.specs.declared.process.Process.{Process}
-use Rattle.dm_forward.specs.Records.{incoming_of}
+use Rattle.dm_records.specs.Records.{incoming_of}
 use Rattle.dm_room.specs.Room.{Taken}
 use Rattle.dm_migrate.specs.declared.arriving.Wanted.{Wanted}
 use Rattle.dm_migrate.specs.declared.arriving.Wanted.TheVariants as wanted
@@ -30,18 +30,18 @@ use Rattle.dm_kernel.specs.State as machine
 use Rattle.dm_kernel.specs.State.{KernelState, Turned}
 use Rattle.dm_kernel.specs.Turn.{turns}
 use Rattle.dm_laws.proofs.Equal.{id_eq-is, pid_eq-is}
-use Rattle.dm_rule.specs.declared.line.Line.{Line}
+use Rattle.dm_line.specs.declared.line.Line.{Line}
 use Rattle.dm_rule.specs.Addresses.{Addresses}
 use Rattle.dm_rule.specs.Parts as rule
 use Rattle.dm_rule.specs.Phases.{is_between}
 use Rattle.dm_rule.specs.Point.{Point, after, after_line}
 use Rattle.dm_rule.specs.Rule as outcomes
 use Rattle.dm_rule.specs.Rule.{comes_to, taken_at, Room}
-use Rattle.dm_rule.specs.Sets.{at_machine, without_front}
+use Rattle.dm_line.specs.Sets.{at_machine, without_front}
 use Rattle.dm_rule.specs.Spots.{Spot, Queue, Held, Inbox, Untaken, times, standing}
 use Rattle.dm_rule.specs.View.{About, Told, Of, View, handled}
 use Rattle.dm_rulelaws.specs.Fits.{is_server}
-use Rattle.dm_placed.specs.Placed.{Placed, Mirrors}
+use Rattle.dm_places.specs.Placed.{Placed, Mirrors}
 use Rattle.dm_mirror.specs.Own.{AllOwnStand, OwnStands}
 use Rattle.dm_mirror.specs.Stands.{KnownStands, KernelStands, RoomStands, servers_at}
 use Rattle.dm_mirror.specs.Tokens.{AllRecords, Carries, TokensStand, Wants, destination_of}

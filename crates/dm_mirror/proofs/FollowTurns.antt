@@ -19,7 +19,7 @@ use Rattle.dm_rule.specs.View.{Known, Unknown, Here, Frozen, Incoming, Forward, 
 use Rattle.dm_rulelaws.specs.Fits.{is_server}
 use Rattle.dm_rulelaws.specs.Found.{is_fixed}
 use Rattle.dm_rulelaws.proofs.OwnTold.{is_place, is_target, own_sort}
-use Rattle.dm_placed.specs.Placed.{Placed}
+use Rattle.dm_places.specs.Placed.{Placed}
 use Rattle.dm_mirror.specs.Tokens.{AllRecords}
 use Rattle.dm_mirror.proofs.FollowForwards.{forwards_turn}
 use Rattle.dm_mirror.proofs.FollowFrames.{Fronts, at_front}

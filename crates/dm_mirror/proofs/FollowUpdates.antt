@@ -17,8 +17,8 @@ use Rattle.dm_message.specs.declared.What.TheVariants as what
 use Rattle.dm_message.specs.Kinds.{kind_of}
 use Rattle.dm_message.specs.Plain.{plain_message, plain_what, with_what}
 use Rattle.dm_process.specs.declared.process.Process.{Process}
-use Rattle.dm_forward.specs.declared.record.Record.TheVariants as record_
-use Rattle.dm_forward.specs.Records.{incoming_of}
+use Rattle.dm_records.specs.declared.record.Record.TheVariants as record_
+use Rattle.dm_records.specs.Records.{incoming_of}
 use Rattle.dm_switchboard.specs.Board.{named_is_behind}
 use Rattle.dm_switchboard.specs.Taking as board_
 use Rattle.dm_procman.specs.Managing.{pending_is_behind}
@@ -36,7 +36,7 @@ use Rattle.dm_kernel.specs.Handle.{handles}
 use Rattle.dm_kernel.specs.State as machine
 use Rattle.dm_kernel.specs.State.{KernelState, Turned, with_here}
 use Rattle.dm_laws.proofs.Equal.{pid_eq-same}
-use Rattle.dm_rule.specs.declared.line.Line.TheVariants as line
+use Rattle.dm_line.specs.declared.line.Line.TheVariants as line
 use Rattle.dm_rule.specs.Addresses.{place_told}
 use Rattle.dm_rule.specs.Migrating.{behind_count, here_told, process_told, server_told, updates}
 use Rattle.dm_rule.specs.Parts as rule
@@ -48,11 +48,11 @@ use Rattle.dm_rule.specs.View.{Known, Unknown, Here, Frozen, Incoming, Forward, 
 use Rattle.dm_rule.proofs.PhasesRests.{rests_here}
 use Rattle.dm_rulelaws.specs.Found.{is_fixed}
 use Rattle.dm_rulelaws.proofs.Runs.{Run}
-use Rattle.dm_placed.specs.Placed.{Placed, Mirrors}
-use Rattle.dm_placed.specs.PlacedStep.{with_process}
-use Rattle.dm_placed.proofs.Lines.{mirrors_view}
-use Rattle.dm_placed.proofs.Updated.{board_told, manager_told, updated_board_mirrors, updated_manager_mirrors, updated_mirrors}
-use Rattle.dm_placed.proofs.UpdatedCounts.{updated_board_count, updated_count, updated_manager_count}
+use Rattle.dm_places.specs.Placed.{Placed, Mirrors}
+use Rattle.dm_places.specs.PlacedStep.{with_process}
+use Rattle.dm_places.proofs.Lines.{mirrors_view}
+use Rattle.dm_places.proofs.Updated.{board_told, manager_told, updated_board_mirrors, updated_manager_mirrors, updated_mirrors}
+use Rattle.dm_places.proofs.UpdatedCounts.{updated_board_count, updated_count, updated_manager_count}
 use Rattle.dm_mirror.specs.Own.{about_of, told_of}
 use Rattle.dm_mirror.specs.Stands.{HereStands, KnownStands, servers_at}
 use Rattle.dm_mirror.specs.Tokens.{AllRecords, Wants}

@@ -20,7 +20,7 @@ use Rattle.dm_rule.specs.Laws.{Leads}
 use Rattle.dm_rule.specs.Point.{Point, first_point}
 use Rattle.dm_rulelaws.proofs.RunsAlways.{run_always, run_group, run_start}
 use Rattle.dm_rulelaws.proofs.TablesAlways.{format_always, tables_always}
-use Rattle.dm_placed.specs.Placed.{Placed}
+use Rattle.dm_places.specs.Placed.{Placed}
 use Rattle.dm_world.specs.May.{MayStep}
 use Rattle.dm_world.specs.Whole.{AreWhole}
 use Rattle.dm_world.specs.World.{WorldState}

@@ -15,11 +15,11 @@ use Rattle.dm_stream.specs.Receiving.{Receiving}
 use Rattle.dm_stream.specs.Stream.{Stream, is_worn}
 use Rattle.dm_onekernel.specs.declared.boot.Boot.{Boot}
 use Rattle.dm_node.specs.State.{NodeState, with_sender}
-use Rattle.dm_rule.specs.declared.line.Load.TheVariants as load
-use Rattle.dm_rule.specs.Sets.{at_machine, at_pair}
+use Rattle.dm_line.specs.declared.line.Load.TheVariants as load
+use Rattle.dm_line.specs.Sets.{at_machine, at_pair}
 use Rattle.dm_rule.specs.View.{Pair, View, after_packet, after_put, routed_on}
 use Rattle.dm_rule.specs.Point.{Point}
-use Rattle.dm_placed.specs.Placed.{Placed}
+use Rattle.dm_places.specs.Placed.{Placed}
 use Rattle.dm_world.specs.World.{WorldState}
 use Rattle.dm_mirror.specs.Stands.{History, NodeStands, PairStands, StandsWith, stream_of}
 use Rattle.dm_mirror.proofs.Streams.{Joined, given_length, is_given, joined, pair_stands, put_back, went_out}

@@ -10,8 +10,9 @@ use Rattle.dm_onekernel.specs.Step.{replay}
 use Rattle.dm_laws.proofs.Runs.{received_once}
 use Rattle.dm_schedule.specs.declared.Step.{Step}
 use Rattle.dm_schedule.specs.declared.Directive.{Directive}
-use Rattle.dm_rule.specs.declared.line.Line.{Line}
-use Rattle.dm_rule.specs.Good.{Todo, Next, all_of, next_step, IsKept, IsRun}
+use Rattle.dm_line.specs.declared.line.Line.{Line}
+use Rattle.dm_line.specs.Todo.{Todo, Next, all_of}
+use Rattle.dm_rule.specs.Good.{next_step, IsKept, IsRun}
 use Rattle.dm_rule.specs.Laws.{IsStep, Leads}
 use Rattle.dm_rule.specs.Parts.{Spelled}
 use Rattle.dm_rule.specs.Point.{Point, first_point, labels}

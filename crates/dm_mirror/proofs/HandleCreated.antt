@@ -12,7 +12,7 @@ use Rattle.dm_message.specs.declared.Message.{Message}
 use Rattle.dm_message.specs.declared.What.TheVariants as what
 use Rattle.dm_message.specs.Plain as said
 use Rattle.dm_message.specs.Plain.{PlainMessage, PlainWhat, plain_message}
-use Rattle.dm_forward.specs.declared.record.Record.TheVariants as record_
+use Rattle.dm_records.specs.declared.record.Record.TheVariants as record_
 use Rattle.dm_process.specs.declared.process.Process.{Process}
 use Rattle.dm_process.specs.Begun.{begun as begun_process}
 use Rattle.dm_datamove.specs.Serving.{answer}
@@ -31,12 +31,12 @@ use Rattle.dm_onekernel.specs.Start as one
 use Rattle.dm_onekernel.specs.Start.{memory_of, slots_with}
 use Rattle.dm_onekernel.specs.Step as kernel
 use Rattle.dm_laws.proofs.Equal.{pid_eq-same}
-use Rattle.dm_rule.specs.declared.line.Line.TheVariants as line
+use Rattle.dm_line.specs.declared.line.Line.TheVariants as line
 use Rattle.dm_rule.specs.Parts.{Part, Routes}
 use Rattle.dm_rule.specs.Point.{Point}
 use Rattle.dm_rule.specs.Rule as rule
 use Rattle.dm_rule.specs.Rule.{Room, and, blocks_of, taken_at, taken_by, takes_room}
-use Rattle.dm_rule.specs.Sets.{at_record, without_front}
+use Rattle.dm_line.specs.Sets.{at_record, without_front}
 use Rattle.dm_rule.specs.Spots.{Spot, Queue, Held, Inbox, standing}
 use Rattle.dm_rule.specs.View as view
 use Rattle.dm_rule.specs.View.{Known, View, after_label, handled, is_kernels}
@@ -44,10 +44,10 @@ use Rattle.dm_rule.proofs.Bags.{bag_none, bag_created}
 use Rattle.dm_rulelaws.specs.Found.{has_no_queue}
 use Rattle.dm_rulelaws.proofs.FitsCreates.{fresh_child}
 use Rattle.dm_rulelaws.proofs.GoesFront.{begun}
-use Rattle.dm_placed.specs.Placed.{Placed}
-use Rattle.dm_placed.specs.PlacedStep as placed
-use Rattle.dm_placed.proofs.Serves.{plainly}
-use Rattle.dm_placed.proofs.Whats.{create_what}
+use Rattle.dm_places.specs.Placed.{Placed}
+use Rattle.dm_places.specs.PlacedStep as placed
+use Rattle.dm_places.proofs.Serves.{plainly}
+use Rattle.dm_places.proofs.Whats.{create_what}
 use Rattle.dm_kernel.specs.declared.part.Part.TheVariants as part
 use Rattle.dm_kernel.specs.Begun.{child_of, with_child}
 use Rattle.dm_kernel.specs.Handle.{next_pid}

@@ -20,21 +20,21 @@ use Rattle.dm_onekernel.specs.Service.{is_dropped, without_message}
 use Rattle.dm_onekernel.specs.Step as kernel
 use Rattle.dm_laws.proofs.Equal.{id_eq-is, id_eq-same, pid_eq-same}
 use Rattle.dm_laws.proofs.Movers.{out_off}
-use Rattle.dm_rule.specs.declared.line.Line.{Line}
-use Rattle.dm_rule.specs.declared.line.Line.TheVariants as line
+use Rattle.dm_line.specs.declared.line.Line.{Line}
+use Rattle.dm_line.specs.declared.line.Line.TheVariants as line
 use Rattle.dm_rule.specs.Point.{Point, after, moved}
 use Rattle.dm_rule.specs.Rule as rule
 use Rattle.dm_rule.specs.Parts as rule_part
-use Rattle.dm_rule.specs.Sets.{at_machine, without_front}
+use Rattle.dm_line.specs.Sets.{at_machine, without_front}
 use Rattle.dm_rule.specs.Spots.{times}
 use Rattle.dm_rule.specs.View as view
 use Rattle.dm_rule.specs.View.{View, handled}
 use Rattle.dm_rulelaws.proofs.GoesTurns.{Droppable, droppable_on, dropped_is}
 use Rattle.dm_rulelaws.proofs.Queued.{is_user}
-use Rattle.dm_placed.specs.Placed.{Placed, Mirrors}
-use Rattle.dm_placed.specs.PlacedStep as placed
-use Rattle.dm_placed.proofs.Lines.{mirrors_view}
-use Rattle.dm_placed.proofs.Steps.{placed_follows}
+use Rattle.dm_places.specs.Placed.{Placed, Mirrors}
+use Rattle.dm_places.specs.PlacedStep as placed
+use Rattle.dm_places.proofs.Lines.{mirrors_view}
+use Rattle.dm_places.proofs.Steps.{placed_follows}
 use Rattle.dm_kernel.specs.declared.part.Part.TheVariants as part
 use Rattle.dm_kernel.specs.State as state
 use Rattle.dm_mirror.specs.Stands.{AreMessages}

@@ -12,7 +12,7 @@ use Rattle.dm_message.specs.declared.Message.{Message}
 use Rattle.dm_message.specs.Ids.{id_eq}
 use Rattle.dm_message.specs.Plain as said
 use Rattle.dm_message.specs.Plain.{PlainMessage, PlainWhat, plain_message}
-use Rattle.dm_forward.specs.declared.record.Record.TheVariants as record_
+use Rattle.dm_records.specs.declared.record.Record.TheVariants as record_
 use Rattle.dm_datamove.specs.Serving.{gone_answer}
 use Rattle.dm_onekernel.specs.declared.boot.Boot.{Boot}
 use Rattle.dm_onekernel.specs.declared.label.Label.TheVariants as label
@@ -27,7 +27,7 @@ use Rattle.dm_rule.specs.Parts as rule_part
 use Rattle.dm_rule.specs.Point.{Point}
 use Rattle.dm_rule.specs.Parts.{Part}
 use Rattle.dm_rule.specs.Rule as rule
-use Rattle.dm_rule.specs.Sets.{at_record, without_front}
+use Rattle.dm_line.specs.Sets.{at_record, without_front}
 use Rattle.dm_rule.specs.Spots.{times}
 use Rattle.dm_rule.specs.View as view
 use Rattle.dm_rule.specs.View.{Known, View, handled}
@@ -37,10 +37,10 @@ use Rattle.dm_rulelaws.proofs.GoesProcess.{ended_of}
 use Rattle.dm_rulelaws.specs.Fits.{WhatFits}
 use Rattle.dm_rulelaws.proofs.GoesFront.{begun, is_manager}
 use Rattle.dm_rulelaws.proofs.GoesTurns.{dropped_is}
-use Rattle.dm_placed.specs.Placed.{Placed}
-use Rattle.dm_placed.specs.PlacedStep as placed
-use Rattle.dm_placed.proofs.Serves.{plainly}
-use Rattle.dm_placed.proofs.Whats.{user_what, read_what, write_what, block_what, stop_what, resume_what, kill_what, written_what, gone_what}
+use Rattle.dm_places.specs.Placed.{Placed}
+use Rattle.dm_places.specs.PlacedStep as placed
+use Rattle.dm_places.proofs.Serves.{plainly}
+use Rattle.dm_places.proofs.Whats.{user_what, read_what, write_what, block_what, stop_what, resume_what, kill_what, written_what, gone_what}
 use Rattle.dm_kernel.specs.declared.part.Part.TheVariants.{Routes}
 use Rattle.dm_kernel.specs.Handle as machine
 use Rattle.dm_kernel.specs.Handle.{handles, process_handles, ended_handles}

@@ -9,7 +9,7 @@ use Rattle.dm_link.specs.declared.Pid.{Pid}
 use Rattle.dm_link.specs.Names.{pid_eq}
 use Rattle.dm_message.specs.declared.MsgId.{MsgId}
 use Rattle.dm_message.specs.declared.Message.{Message}
-use Rattle.dm_forward.specs.declared.record.Record.TheVariants as record_
+use Rattle.dm_records.specs.declared.record.Record.TheVariants as record_
 use Rattle.dm_process.specs.declared.process.Process.{Process}
 use Rattle.dm_migrate.specs.Departure.{Departure}
 use Rattle.dm_migrate.specs.Arrival.{Arrival}
@@ -21,11 +21,11 @@ use Rattle.dm_kernel.specs.State.{KernelState}
 use Rattle.dm_laws.proofs.Equal.{id_eq-same, pid_eq-is}
 use Rattle.dm_rule.specs.Point.{Point}
 use Rattle.dm_rule.specs.Rule.{taken_at}
-use Rattle.dm_rule.specs.Sets.{at_machine, at_record}
+use Rattle.dm_line.specs.Sets.{at_machine, at_record}
 use Rattle.dm_rule.specs.Spots.{times}
 use Rattle.dm_rule.specs.View.{Known, Unknown, Here, Frozen, Incoming, Forward, Ended}
 use Rattle.dm_rulelaws.specs.Fits.{is_server}
-use Rattle.dm_placed.specs.Placed.{Placed}
+use Rattle.dm_places.specs.Placed.{Placed}
 use Rattle.dm_mirror.specs.Stands.{AreMessages, HereStands, LeavesStand, ComesStand, KnownStands, KernelStands, RoomStands, servers_at}
 
 -- messages by name

@@ -9,7 +9,7 @@ use Rattle.dm_message.specs.declared.MsgId.{MsgId}
 use Rattle.dm_message.specs.declared.Message.{Message}
 use Rattle.dm_message.specs.Kinds.{plain_kind}
 use Rattle.dm_message.specs.Plain.{PlainMessage, PlainWhat, plain_message}
-use Rattle.dm_forward.specs.declared.record.Record.TheVariants as record_
+use Rattle.dm_records.specs.declared.record.Record.TheVariants as record_
 use Rattle.dm_process.specs.declared.process.Process.{Process}
 use Rattle.dm_onekernel.specs.declared.boot.Boot.{Boot}
 use Rattle.dm_onekernel.specs.declared.label.Label.TheVariants as label
@@ -30,11 +30,11 @@ use Rattle.dm_rule.specs.View.{Known, View, handled}
 use Rattle.dm_rulelaws.specs.KnownStands.{agrees}
 use Rattle.dm_rulelaws.proofs.GoesProcess.{alive_of}
 use Rattle.dm_rulelaws.proofs.GoesFront.{begun, served_is}
-use Rattle.dm_placed.specs.Placed.{Placed}
-use Rattle.dm_placed.specs.PlacedStep as placed
-use Rattle.dm_placed.proofs.Keeps.{of_map}
-use Rattle.dm_placed.proofs.Queues.{with_queue}
-use Rattle.dm_placed.proofs.Serves.{plainly}
+use Rattle.dm_places.specs.Placed.{Placed}
+use Rattle.dm_places.specs.PlacedStep as placed
+use Rattle.dm_places.proofs.Keeps.{of_map}
+use Rattle.dm_places.proofs.Queues.{with_queue}
+use Rattle.dm_places.proofs.Serves.{plainly}
 use Rattle.dm_kernel.specs.Handle.{handles, here_handles, process_handles}
 use Rattle.dm_kernel.specs.State as state
 use Rattle.dm_kernel.specs.State.{KernelState, Turned, turned, with_here}

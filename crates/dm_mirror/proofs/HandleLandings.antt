@@ -46,14 +46,14 @@ use Rattle.dm_rule.specs.View as view
 use Rattle.dm_rule.specs.View.{View}
 use Rattle.dm_rule.proofs.Bags.{bag_none}
 use Rattle.dm_rulelaws.proofs.FitsRises.{both}
-use Rattle.dm_placed.specs.Placed.{Placed}
-use Rattle.dm_placed.specs.PlacedStep as placed
-use Rattle.dm_placed.specs.PlacedStep.{after_landing}
-use Rattle.dm_placed.proofs.Keeps.{parts}
-use Rattle.dm_placed.proofs.Matches.{lands_match}
-use Rattle.dm_placed.proofs.Queues.{with_queue}
-use Rattle.dm_placed.proofs.Serves.{plainly}
-use Rattle.dm_placed.proofs.Whats.{block_what, written_what, gone_what}
+use Rattle.dm_places.specs.Placed.{Placed}
+use Rattle.dm_places.specs.PlacedStep as placed
+use Rattle.dm_places.specs.PlacedStep.{after_landing}
+use Rattle.dm_places.proofs.Keeps.{parts}
+use Rattle.dm_places.proofs.Matches.{lands_match}
+use Rattle.dm_places.proofs.Queues.{with_queue}
+use Rattle.dm_places.proofs.Serves.{plainly}
+use Rattle.dm_places.proofs.Whats.{block_what, written_what, gone_what}
 use Rattle.dm_kernel.specs.Handle as machine
 use Rattle.dm_kernel.specs.Handle.{here_handles}
 use Rattle.dm_kernel.specs.State.{KernelState}

@@ -19,7 +19,7 @@ use Rattle.dm_procman.specs.Managing.{Managing}
 use Rattle.dm_procman.specs.Taking as manage
 use Rattle.dm_rule.specs.Parts.{Routes}
 use Rattle.dm_rule.specs.Rule as rule
-use Rattle.dm_placed.proofs.Keeps.{parts}
+use Rattle.dm_places.proofs.Keeps.{parts}
 use Rattle.dm_mirror.proofs.HandleTaking.{some_of}
 use Rattle.dm_mirror.proofs.Turning.{rule_routed}
 

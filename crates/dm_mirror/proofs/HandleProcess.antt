@@ -26,12 +26,12 @@ use Rattle.dm_onekernel.specs.Step as kernel
 use Rattle.dm_rule.specs.Point.{Point}
 use Rattle.dm_rule.proofs.Bags.{bag_none, bag_served, served_id}
 use Rattle.dm_rulelaws.specs.Fits.{has_bytes, WhatFits}
-use Rattle.dm_placed.specs.Placed.{Placed}
-use Rattle.dm_placed.specs.PlacedStep as placed
-use Rattle.dm_placed.proofs.Matches.{answers_match}
-use Rattle.dm_placed.proofs.Queues.{with_queue}
-use Rattle.dm_placed.proofs.Serves.{plainly}
-use Rattle.dm_placed.proofs.Whats.{read_what, write_what, stop_what, resume_what}
+use Rattle.dm_places.specs.Placed.{Placed}
+use Rattle.dm_places.specs.PlacedStep as placed
+use Rattle.dm_places.proofs.Matches.{answers_match}
+use Rattle.dm_places.proofs.Queues.{with_queue}
+use Rattle.dm_places.proofs.Serves.{plainly}
+use Rattle.dm_places.proofs.Whats.{read_what, write_what, stop_what, resume_what}
 use Rattle.dm_kernel.specs.Handle as machine
 use Rattle.dm_kernel.specs.Handle.{here_handles}
 use Rattle.dm_kernel.specs.State.{KernelState}

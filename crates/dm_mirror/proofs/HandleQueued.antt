@@ -9,21 +9,21 @@ use Rattle.dm_link.specs.Plain.{PlainLink}
 use Rattle.dm_message.specs.declared.MsgId.{MsgId}
 use Rattle.dm_message.specs.declared.Message.{Message}
 use Rattle.dm_message.specs.Plain as said
-use Rattle.dm_forward.specs.declared.record.Record.TheVariants as record_
+use Rattle.dm_records.specs.declared.record.Record.TheVariants as record_
 use Rattle.dm_onekernel.specs.declared.boot.Boot.{Boot}
 use Rattle.dm_laws.proofs.Equal.{pid_eq-same}
-use Rattle.dm_rule.specs.declared.line.Line.TheVariants as line
+use Rattle.dm_line.specs.declared.line.Line.TheVariants as line
 use Rattle.dm_rule.specs.Parts.{Says}
 use Rattle.dm_rule.specs.Point.{Point}
 use Rattle.dm_rule.specs.Rule.{Room}
-use Rattle.dm_rule.specs.Sets.{at_record, without_front}
+use Rattle.dm_line.specs.Sets.{at_record, without_front}
 use Rattle.dm_rule.specs.View as view
 use Rattle.dm_rule.specs.View.{Known, View, handled}
 use Rattle.dm_rulelaws.proofs.GoesFront.{begun, told_receiver}
-use Rattle.dm_placed.specs.Placed.{Placed}
-use Rattle.dm_placed.proofs.Lines.{mirrors_view}
-use Rattle.dm_placed.proofs.Serves.{plainly}
-use Rattle.dm_placed.proofs.Whats.{user_what}
+use Rattle.dm_places.specs.Placed.{Placed}
+use Rattle.dm_places.proofs.Lines.{mirrors_view}
+use Rattle.dm_places.proofs.Serves.{plainly}
+use Rattle.dm_places.proofs.Whats.{user_what}
 use Rattle.dm_kernel.specs.declared.part.Part.TheVariants as part
 use Rattle.dm_kernel.specs.Handle.{here_handles, queued}
 use Rattle.dm_kernel.specs.State.{KernelState, turned, with_here}

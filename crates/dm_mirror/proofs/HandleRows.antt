@@ -16,13 +16,13 @@ use Rattle.dm_onekernel.specs.Kernel.{Life, OneKernel}
 use Rattle.dm_onekernel.specs.Options.{bind}
 use Rattle.dm_onekernel.specs.Step as kernel
 use Rattle.dm_laws.proofs.Equal.{id_eq-is, pid_eq-is}
-use Rattle.dm_rule.specs.declared.line.Line.TheVariants as line
+use Rattle.dm_line.specs.declared.line.Line.TheVariants as line
 use Rattle.dm_rule.specs.Addresses.{addresses_after}
 use Rattle.dm_rule.specs.Point.{Point, after, moved}
 use Rattle.dm_rule.specs.Rule as rule
 use Rattle.dm_room.specs.Room.{Taken}
 use Rattle.dm_rule.specs.Rule.{Room, blocks_of, taken_at, taken_by, takes_room}
-use Rattle.dm_rule.specs.Sets.{without_front}
+use Rattle.dm_line.specs.Sets.{without_front}
 use Rattle.dm_rule.specs.Spots.{Spot, Queue, Held, Inbox, Untaken, times, standing}
 use Rattle.dm_rule.specs.View.{View, Known, Unknown, Here, Frozen, Incoming, Forward, Ended, after_label, handled, is_kernels}
 use Rattle.dm_rule.specs.Phases.{Phase, Rests, is_away, is_here, knows}
@@ -30,12 +30,12 @@ use Rattle.dm_rule.proofs.PhasesRests.{rests_here}
 use Rattle.dm_rule.proofs.PhasesStand.{InPhases}
 use Rattle.dm_rulelaws.specs.Fits.{is_server}
 use Rattle.dm_rulelaws.proofs.GoesFront.{begun}
-use Rattle.dm_placed.specs.Laws.{StepNeeds}
-use Rattle.dm_placed.specs.Placed.{Placed, Mirrors}
-use Rattle.dm_placed.specs.PlacedStep.{placed_step, with_sent, without_message}
-use Rattle.dm_placed.proofs.Lines.{mirrors_view, moves_label}
-use Rattle.dm_placed.proofs.Serves.{plainly}
-use Rattle.dm_placed.proofs.Steps.{placed_follows}
+use Rattle.dm_places.specs.Laws.{StepNeeds}
+use Rattle.dm_places.specs.Placed.{Placed, Mirrors}
+use Rattle.dm_places.specs.PlacedStep.{placed_step, with_sent, without_message}
+use Rattle.dm_places.proofs.Lines.{mirrors_view, moves_label}
+use Rattle.dm_places.proofs.Serves.{plainly}
+use Rattle.dm_places.proofs.Steps.{placed_follows}
 use Rattle.dm_kernel.specs.Handle.{handles}
 use Rattle.dm_kernel.specs.State as machine
 use Rattle.dm_kernel.specs.State.{KernelState}

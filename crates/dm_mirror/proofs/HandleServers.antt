@@ -41,13 +41,13 @@ use Rattle.dm_rule.proofs.Bags.{bag_none}
 use Rattle.dm_rulelaws.specs.Fits.{is_server, IsPending, WhatFits}
 use Rattle.dm_rulelaws.specs.Found.{is_fixed}
 use Rattle.dm_rulelaws.proofs.GoesFront.{begun, home_of}
-use Rattle.dm_placed.specs.Laws.{StepNeeds}
-use Rattle.dm_placed.specs.Placed.{Placed, MirrorsKernel}
-use Rattle.dm_placed.specs.PlacedStep as placed
-use Rattle.dm_placed.specs.PlacedStep.{board_took, manager_took}
-use Rattle.dm_placed.proofs.Keeps.{of_map, parts}
-use Rattle.dm_placed.proofs.Serves.{plainly}
-use Rattle.dm_placed.proofs.Whats.{user_what, created_what, no_room_what}
+use Rattle.dm_places.specs.Laws.{StepNeeds}
+use Rattle.dm_places.specs.Placed.{Placed, MirrorsKernel}
+use Rattle.dm_places.specs.PlacedStep as placed
+use Rattle.dm_places.specs.PlacedStep.{board_took, manager_took}
+use Rattle.dm_places.proofs.Keeps.{of_map, parts}
+use Rattle.dm_places.proofs.Serves.{plainly}
+use Rattle.dm_places.proofs.Whats.{user_what, created_what, no_room_what}
 use Rattle.dm_kernel.specs.declared.kernel.Servers.{Servers}
 use Rattle.dm_kernel.specs.declared.part.Part as parts_
 use Rattle.dm_kernel.specs.Handle as machine

@@ -35,10 +35,10 @@ use Rattle.dm_rulelaws.proofs.OwnTold.{OwnTold}
 use Rattle.dm_rulelaws.proofs.Queued.{IsQueued}
 use Rattle.dm_rulelaws.proofs.Runs.{Run}
 use Rattle.dm_rulelaws.proofs.GoesFront.{Front}
-use Rattle.dm_placed.specs.Placed.{Placed, Mirrors, MirrorsKernel}
-use Rattle.dm_placed.specs.PlacedStep.{with_sent, without_message}
-use Rattle.dm_placed.proofs.Keeps.{parts, there_of}
-use Rattle.dm_placed.proofs.Serves.{plainly, plainly_is}
+use Rattle.dm_places.specs.Placed.{Placed, Mirrors, MirrorsKernel}
+use Rattle.dm_places.specs.PlacedStep.{with_sent, without_message}
+use Rattle.dm_places.proofs.Keeps.{parts, there_of}
+use Rattle.dm_places.proofs.Serves.{plainly, plainly_is}
 use Rattle.dm_kernel.specs.Handle.{handles}
 use Rattle.dm_kernel.specs.State.{KernelState, Turned}
 use Rattle.dm_kernel.specs.Turn.{turn, turns}

@@ -16,10 +16,10 @@ use Rattle.dm_onekernel.specs.declared.boot.Boot.{Boot}
 use Rattle.dm_kernel.specs.Lawful.{IsLawfulState}
 use Rattle.dm_kernel.specs.State.{KernelState}
 use Rattle.dm_node.specs.State.{NodeState, with_message}
-use Rattle.dm_rule.specs.Sets.{at_machine}
+use Rattle.dm_line.specs.Sets.{at_machine}
 use Rattle.dm_rule.specs.View.{Pair, View, after_put, routed_on}
 use Rattle.dm_rule.specs.Point.{Point}
-use Rattle.dm_placed.specs.Placed.{Placed}
+use Rattle.dm_places.specs.Placed.{Placed}
 use Rattle.dm_world.specs.World.{WorldState}
 use Rattle.dm_mirror.specs.Stands.{AreMessages, History, NodeStands}
 use Rattle.dm_mirror.proofs.RouteCore.{CoreStands}

@@ -4,10 +4,10 @@ use Rattle.std.specs.Prelude.{if◌then◌else◌}
 use Rattle.std.proofs.lemmas.Bool.Decides.{eqb_tells}
 use Rattle.dm_onekernel.specs.declared.boot.Boot.{Boot}
 use Rattle.dm_rule.specs.Point.{Point}
-use Rattle.dm_rule.specs.Sets.{at_machine}
+use Rattle.dm_line.specs.Sets.{at_machine}
 use Rattle.dm_rule.specs.Spots.{Untaken}
 use Rattle.dm_rule.specs.View.{Pair}
-use Rattle.dm_placed.specs.Placed.{Placed, Mirrors}
+use Rattle.dm_places.specs.Placed.{Placed, Mirrors}
 use Rattle.dm_kernel.specs.Lawful.{IsLawfulState}
 use Rattle.dm_kernel.specs.State.{KernelState}
 use Rattle.dm_node.specs.State.{NodeState}

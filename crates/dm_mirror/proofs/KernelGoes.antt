@@ -8,7 +8,7 @@ use Rattle.dm_link.specs.Names.{pid_eq}
 use Rattle.dm_message.specs.declared.Message.{Message}
 use Rattle.dm_process.specs.declared.process.Process.{Process}
 use Rattle.dm_room.specs.Room.{with_released}
-use Rattle.dm_forward.specs.declared.record.Record.TheVariants as record_
+use Rattle.dm_records.specs.declared.record.Record.TheVariants as record_
 use Rattle.dm_onekernel.specs.declared.boot.Boot.{Boot}
 use Rattle.dm_onekernel.specs.declared.label.Why.{Why}
 use Rattle.dm_onekernel.specs.Kernel.{Life, Alive}
@@ -22,8 +22,8 @@ use Rattle.dm_rule.specs.Rule.{blocks_of, taken_by, takes_room}
 use Rattle.dm_rule.specs.Spots.{Spot, Queue, Held}
 use Rattle.dm_rule.specs.View as view
 use Rattle.dm_rulelaws.specs.Fits.{is_server}
-use Rattle.dm_placed.specs.Placed.{Placed}
-use Rattle.dm_placed.proofs.Queues.{with_queue}
+use Rattle.dm_places.specs.Placed.{Placed}
+use Rattle.dm_places.proofs.Queues.{with_queue}
 use Rattle.dm_mirror.specs.Made.{MadeStands}
 use Rattle.dm_mirror.specs.Stands.{AreMessages, KnownStands, KernelStands}
 use Rattle.dm_mirror.proofs.KernelSets.{IsAway, Leaves, Stays, set_stands, room_same, room_released, takes_as}

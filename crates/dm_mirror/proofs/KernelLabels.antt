@@ -18,18 +18,18 @@ use Rattle.dm_onekernel.specs.Kernel.{Life, OneKernel}
 use Rattle.dm_onekernel.specs.Service as service
 use Rattle.dm_onekernel.specs.Step as kernel
 use Rattle.dm_laws.proofs.Equal.{id_eq-is, pid_eq-same}
-use Rattle.dm_rule.specs.declared.line.Line.{Line}
-use Rattle.dm_rule.specs.declared.line.Line.TheVariants as line
+use Rattle.dm_line.specs.declared.line.Line.{Line}
+use Rattle.dm_line.specs.declared.line.Line.TheVariants as line
 use Rattle.dm_rule.specs.Point.{Point, moved, after}
-use Rattle.dm_rule.specs.Sets.{at_machine, at_record, without, without_front, moved_back}
+use Rattle.dm_line.specs.Sets.{at_machine, at_record, without, without_front, moved_back}
 use Rattle.dm_rule.specs.Spots.{Spot, Queue, Held, Inbox, Untaken, untaken, ids_at, standing, StandsNowhere, StandsOutside, StandsRight}
 use Rattle.dm_rule.specs.View as view
 use Rattle.dm_rule.specs.View.{View, Pair, serving, ended, handled, is_kernels}
-use Rattle.dm_placed.specs.Placed.{Placed, Mirrors, MirrorsKernel}
-use Rattle.dm_placed.specs.PlacedStep.{placed_step, with_message, with_process, with_sent, without_message}
-use Rattle.dm_placed.specs.Laws.{StepNeeds}
-use Rattle.dm_placed.proofs.Lines.{mirrors_view, moves_label}
-use Rattle.dm_placed.proofs.Steps.{placed_follows}
+use Rattle.dm_places.specs.Placed.{Placed, Mirrors, MirrorsKernel}
+use Rattle.dm_places.specs.PlacedStep.{placed_step, with_message, with_process, with_sent, without_message}
+use Rattle.dm_places.specs.Laws.{StepNeeds}
+use Rattle.dm_places.proofs.Lines.{mirrors_view, moves_label}
+use Rattle.dm_places.proofs.Steps.{placed_follows}
 use Rattle.dm_mirror.proofs.KernelSets.{ViewLeaves, KernelLeaves, PlacedLeaves, off_if, on_if, eq_apart, eq_self}
 
 -- lists in which nothing changes but at these spots

@@ -13,7 +13,7 @@ use Rattle.dm_message.specs.declared.What.{What}
 use Rattle.dm_message.specs.declared.What.TheVariants as what
 use Rattle.dm_message.specs.declared.kind.MessageKind.TheVariants as kind
 use Rattle.dm_process.specs.declared.process.Process.{Process}
-use Rattle.dm_forward.specs.declared.record.Record.TheVariants as record_
+use Rattle.dm_records.specs.declared.record.Record.TheVariants as record_
 use Rattle.dm_migrate.specs.Departure.{CanMove, ask_of, frozen}
 use Rattle.dm_room.specs.Room.{Taken}
 use Rattle.dm_onekernel.specs.declared.boot.Boot.{Boot}
@@ -24,19 +24,19 @@ use Rattle.dm_kernel.specs.Departing.{freezes, with_frozen}
 use Rattle.dm_kernel.specs.State.{KernelState, own, turned, with_sent}
 use Rattle.dm_kernel.specs.declared.part.Part.TheVariants as part
 use Rattle.dm_laws.proofs.Equal.{id_eq-same, pid_eq-is, pid_eq-same}
-use Rattle.dm_rule.specs.declared.line.Line.TheVariants as line
-use Rattle.dm_rule.specs.declared.line.Stage.TheVariants as stage
+use Rattle.dm_line.specs.declared.line.Line.TheVariants as line
+use Rattle.dm_line.specs.declared.line.Stage.TheVariants as stage
 use Rattle.dm_rule.specs.Migrating.{to_kernel}
 use Rattle.dm_rule.specs.Parts as rule
 use Rattle.dm_rule.specs.Point.{Point, moved}
 use Rattle.dm_rule.specs.Rule.{Room, blocks_of, taken_by, takes_room}
-use Rattle.dm_rule.specs.Sets.{at_machine, at_record, without, without_front}
+use Rattle.dm_line.specs.Sets.{at_machine, at_record, without, without_front}
 use Rattle.dm_rule.specs.Spots.{times}
 use Rattle.dm_rule.specs.View.{Here, Frozen, Known, Of, front_told, own_id, target_of, without_first}
 use Rattle.dm_rulelaws.specs.Fits.{is_server}
 use Rattle.dm_rulelaws.specs.Found.{has_nothing_held, is_fixed}
-use Rattle.dm_placed.specs.Placed.{Placed}
-use Rattle.dm_placed.proofs.Lines.{mirrors_view}
+use Rattle.dm_places.specs.Placed.{Placed}
+use Rattle.dm_places.proofs.Lines.{mirrors_view}
 use Rattle.dm_mirror.specs.Own.{told_of}
 use Rattle.dm_mirror.specs.Stands.{KnownStands, LeavesStand, RoomStands}
 use Rattle.dm_mirror.specs.Tokens.{AllRecords}

@@ -8,8 +8,8 @@ use Rattle.dm_link.specs.declared.Pid.{Pid}
 use Rattle.dm_link.specs.Names.{pid_eq}
 use Rattle.dm_message.specs.declared.MsgId.{MsgId}
 use Rattle.dm_process.specs.declared.process.Process.{Process}
-use Rattle.dm_forward.specs.declared.record.Record.TheVariants as record_
-use Rattle.dm_forward.specs.Records.{incoming_of}
+use Rattle.dm_records.specs.declared.record.Record.TheVariants as record_
+use Rattle.dm_records.specs.Records.{incoming_of}
 use Rattle.dm_migrate.specs.Departure.{Departure}
 use Rattle.dm_onekernel.specs.declared.boot.Boot.{Boot}
 use Rattle.dm_onekernel.specs.Step as kernel
@@ -23,7 +23,7 @@ use Rattle.dm_rule.specs.Rule.{taken_at}
 use Rattle.dm_rule.specs.Spots.{Spot, times, standing}
 use Rattle.dm_rule.specs.View.{Known, Unknown, Here, Frozen, Incoming, Forward, Ended, Of, Told, View}
 use Rattle.dm_rulelaws.specs.Fits.{is_server}
-use Rattle.dm_placed.specs.Placed.{Placed}
+use Rattle.dm_places.specs.Placed.{Placed}
 use Rattle.dm_mirror.specs.Own.{AllOwnStand}
 use Rattle.dm_mirror.specs.Stands.{AreMessages, HereStands, KnownStands, KernelStands, LeavesStand, RoomStands, servers_at}
 use Rattle.dm_mirror.specs.Tokens.{AllRecords, Carries, TokensStand, destination_of}

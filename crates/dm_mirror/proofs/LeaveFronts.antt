@@ -32,7 +32,7 @@ use Rattle.dm_rule.proofs.PhasesStand.{token_at, token_is}
 use Rattle.dm_rule.proofs.Standing.{StandsAsBag-one, StandsAsBag-elsewhere, spot_cases}
 use Rattle.dm_rulelaws.proofs.OwnTold.{OwnTold}
 use Rattle.dm_rulelaws.proofs.Runs.{Run}
-use Rattle.dm_placed.specs.Placed.{Placed, Mirrors}
+use Rattle.dm_places.specs.Placed.{Placed, Mirrors}
 use Rattle.dm_mirror.specs.Own.{AllOwnStand, about_of, told_of}
 use Rattle.dm_mirror.specs.Stands.{AreMessages, KernelStands}
 use Rattle.dm_mirror.specs.Tokens.{AllRecords, TokensStand}

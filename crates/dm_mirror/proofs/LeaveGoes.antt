@@ -14,8 +14,8 @@ use Rattle.dm_message.specs.declared.What.TheVariants as what
 use Rattle.dm_message.specs.declared.kind.MessageKind.TheVariants as kind
 use Rattle.dm_process.specs.declared.process.Process.{Process}
 use Rattle.dm_room.specs.Room.{Taken, with_released}
-use Rattle.dm_forward.specs.declared.record.Record.TheVariants as record_
-use Rattle.dm_forward.specs.Records.{frozen_of, incoming_of}
+use Rattle.dm_records.specs.declared.record.Record.TheVariants as record_
+use Rattle.dm_records.specs.Records.{frozen_of, incoming_of}
 use Rattle.dm_migrate.specs.declared.arriving.Wanted.TheVariants as wanted
 use Rattle.dm_migrate.specs.Departure.{all_sent_on}
 use Rattle.dm_onekernel.specs.declared.boot.Boot.{Boot}
@@ -30,20 +30,20 @@ use Rattle.dm_kernel.specs.Departing.{leaves, without_leaving}
 use Rattle.dm_kernel.specs.State as machine
 use Rattle.dm_kernel.specs.State.{KernelState, own, turned, with_sent}
 use Rattle.dm_laws.proofs.Equal.{pid_eq-same}
-use Rattle.dm_rule.specs.declared.line.Line.TheVariants as line
-use Rattle.dm_rule.specs.declared.line.Stage.TheVariants as stage
+use Rattle.dm_line.specs.declared.line.Line.TheVariants as line
+use Rattle.dm_line.specs.declared.line.Stage.TheVariants as stage
 use Rattle.dm_rule.specs.Migrating as migrating
 use Rattle.dm_rule.specs.Migrating.{sends_on, to_kernel}
 use Rattle.dm_rule.specs.Parts as rule
 use Rattle.dm_rule.specs.Point.{Point, moved}
 use Rattle.dm_rule.specs.Rule.{Room, blocks_of, taken_at, taken_by, takes_room}
-use Rattle.dm_rule.specs.Sets.{at_machine}
+use Rattle.dm_line.specs.Sets.{at_machine}
 use Rattle.dm_rule.specs.Spots.{Spot, Held, Inbox, Queue, Untaken, standing, times}
 use Rattle.dm_rule.specs.View.{Forward, Frozen, Known, gone_to, own_id, without_first}
-use Rattle.dm_placed.specs.Following.{MirrorsPoint, sent_all}
-use Rattle.dm_placed.specs.Placed.{Placed}
-use Rattle.dm_placed.proofs.Followed.{sent_on_mirrors}
-use Rattle.dm_placed.proofs.Lines.{mirrors_view}
+use Rattle.dm_places.specs.Following.{MirrorsPoint, sent_all}
+use Rattle.dm_places.specs.Placed.{Placed}
+use Rattle.dm_places.proofs.Followed.{sent_on_mirrors}
+use Rattle.dm_places.proofs.Lines.{mirrors_view}
 use Rattle.dm_mirror.specs.Made.{MadeStands}
 use Rattle.dm_mirror.specs.Own.{told_of}
 use Rattle.dm_mirror.specs.Stands.{AreMessages, KnownStands, RoomStands}

@@ -28,10 +28,10 @@ use Rattle.dm_rule.proofs.Letters.{letters}
 use Rattle.dm_rule.proofs.PhasesStand.{held_plain, queued_plain}
 use Rattle.dm_rule.proofs.Standing.{StandsAsBag-elsewhere}
 use Rattle.dm_rulelaws.proofs.Runs.{Run}
-use Rattle.dm_placed.specs.Placed.{Placed, Mirrors}
-use Rattle.dm_placed.specs.Following.{is_among, sent_all}
-use Rattle.dm_placed.proofs.Followed.{among_times}
-use Rattle.dm_placed.proofs.Keeps.{parts}
+use Rattle.dm_places.specs.Placed.{Placed, Mirrors}
+use Rattle.dm_places.specs.Following.{is_among, sent_all}
+use Rattle.dm_places.proofs.Followed.{among_times}
+use Rattle.dm_places.proofs.Keeps.{parts}
 use Rattle.dm_mirror.specs.Own.{AllOwnStand, told_of}
 use Rattle.dm_mirror.specs.Stands.{AreMessages}
 use Rattle.dm_mirror.specs.Tokens.{AllRecords}

@@ -19,7 +19,7 @@ use Rattle.dm_migrate.specs.Arrival.{Arrival}
 use Rattle.dm_message.specs.Kinds.{kind_of}
 use Rattle.dm_message.specs.Plain.{PlainMessage, plain_message}
 use Rattle.dm_process.specs.declared.process.Process.{Process}
-use Rattle.dm_forward.specs.Records.{incoming_of}
+use Rattle.dm_records.specs.Records.{incoming_of}
 use Rattle.dm_onekernel.specs.declared.boot.Boot.{Boot}
 use Rattle.dm_onekernel.specs.Boot.{switchboard, manager}
 use Rattle.dm_onekernel.specs.Options.{bind}
@@ -31,12 +31,12 @@ use Rattle.dm_rule.specs.Addresses.{Gets, Receiver, Sender, gets, given, own_giv
 use Rattle.dm_rule.specs.Migrating.{process_told, server_told}
 use Rattle.dm_rule.specs.Point.{Point}
 use Rattle.dm_rule.specs.Rule.{hears, kernel_hears}
-use Rattle.dm_rule.specs.Sets.{at_machine}
+use Rattle.dm_line.specs.Sets.{at_machine}
 use Rattle.dm_rule.specs.View.{Known, Of, Told, own_id, is_kernels}
 use Rattle.dm_rule.proofs.Letters.{not_kernels}
 use Rattle.dm_rulelaws.specs.Found.{is_fixed}
 use Rattle.dm_rulelaws.proofs.Runs.{Run}
-use Rattle.dm_placed.specs.Placed.{Placed, Mirrors, enclosed}
+use Rattle.dm_places.specs.Placed.{Placed, Mirrors, enclosed}
 use Rattle.dm_mirror.specs.Own.{AllOwnStand, about_of, told_of}
 use Rattle.dm_mirror.specs.Tokens.{AllRecords, Carries, destination_of}
 use Rattle.dm_mirror.proofs.HandleFrames.{machine_self, machine_off}

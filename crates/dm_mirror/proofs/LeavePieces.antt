@@ -17,7 +17,7 @@ use Rattle.dm_message.specs.declared.kind.MessageKind.TheVariants as kind
 use Rattle.dm_message.specs.Kinds.{kind_of}
 use Rattle.dm_message.specs.Plain.{plain_what, with_what}
 use Rattle.dm_process.specs.declared.process.Process.{Process}
-use Rattle.dm_forward.specs.Records.{frozen_of, incoming_of}
+use Rattle.dm_records.specs.Records.{frozen_of, incoming_of}
 use Rattle.dm_migrate.specs.Departure.{Departure}
 use Rattle.dm_migrate.specs.Pieces.{block_of, chunk_of, state_of}
 use Rattle.dm_onekernel.specs.declared.boot.Boot.{Boot}
@@ -30,7 +30,7 @@ use Rattle.dm_kernel.specs.Departing.{gives_piece}
 use Rattle.dm_kernel.specs.Handle.{kernel_handles}
 use Rattle.dm_kernel.specs.State as machine
 use Rattle.dm_kernel.specs.State.{KernelState, own, with_sent}
-use Rattle.dm_rule.specs.declared.line.Line.TheVariants as line
+use Rattle.dm_line.specs.declared.line.Line.TheVariants as line
 use Rattle.dm_rule.specs.Addresses.{Addresses, Receiver, Sender, gets, own_gives, unmoved}
 use Rattle.dm_rule.specs.Migrating as migrating
 use Rattle.dm_rule.specs.Migrating.{kernel_told, to_kernel}
@@ -38,14 +38,14 @@ use Rattle.dm_rule.specs.Parts as rule
 use Rattle.dm_rule.specs.Phases.{is_between, is_of_source}
 use Rattle.dm_rule.specs.Point.{Point}
 use Rattle.dm_rule.specs.Rule.{fits, free_room, kernel_hears}
-use Rattle.dm_rule.specs.Sets.{at_machine, without_front}
+use Rattle.dm_line.specs.Sets.{at_machine, without_front}
 use Rattle.dm_rule.specs.Spots.{Inbox, standing, times}
 use Rattle.dm_rule.specs.View as view
 use Rattle.dm_rule.specs.View.{Frozen, Here, Known, Of, Told, Unknown, View, after_proto, handled, own_id}
 use Rattle.dm_rulelaws.specs.Fits.{is_server}
 use Rattle.dm_rulelaws.proofs.Runs.{Run}
-use Rattle.dm_placed.specs.Placed.{Placed, enclosed}
-use Rattle.dm_placed.proofs.Lines.{mirrors_view}
+use Rattle.dm_places.specs.Placed.{Placed, enclosed}
+use Rattle.dm_places.proofs.Lines.{mirrors_view}
 use Rattle.dm_mirror.specs.Own.{about_of, told_of}
 use Rattle.dm_mirror.specs.Stands.{KnownStands}
 use Rattle.dm_mirror.specs.Tokens.{AllRecords, Carries, destination_of}

@@ -12,24 +12,24 @@ use Rattle.dm_message.specs.declared.MsgId.{MsgId}
 use Rattle.dm_message.specs.declared.What.{What}
 use Rattle.dm_message.specs.declared.What.TheVariants as what
 use Rattle.dm_message.specs.declared.kind.MessageKind.TheVariants as kind
-use Rattle.dm_forward.specs.declared.record.Record.TheVariants as record_
-use Rattle.dm_forward.specs.Records.{frozen_of, with_record}
+use Rattle.dm_records.specs.declared.record.Record.TheVariants as record_
+use Rattle.dm_records.specs.Records.{frozen_of, with_record}
 use Rattle.dm_onekernel.specs.declared.boot.Boot.{Boot}
 use Rattle.dm_onekernel.specs.Options.{bind}
 use Rattle.dm_kernel.specs.Departing.{stays}
 use Rattle.dm_kernel.specs.State as machine
 use Rattle.dm_kernel.specs.State.{KernelState}
 use Rattle.dm_laws.proofs.Equal.{pid_eq-same}
-use Rattle.dm_rule.specs.declared.line.Line.TheVariants as line
+use Rattle.dm_line.specs.declared.line.Line.TheVariants as line
 use Rattle.dm_rule.specs.Parts as rule
 use Rattle.dm_rule.specs.Point.{Point, moved}
 use Rattle.dm_rule.specs.Rule.{takes_room}
-use Rattle.dm_rule.specs.Sets.{at_machine, at_record}
+use Rattle.dm_line.specs.Sets.{at_machine, at_record}
 use Rattle.dm_rule.specs.Spots.{standing, times}
 use Rattle.dm_rule.specs.View.{Here, Known, without_first}
 use Rattle.dm_rule.proofs.Standing.{times-append}
-use Rattle.dm_placed.specs.Placed.{Placed}
-use Rattle.dm_placed.proofs.Lines.{mirrors_view}
+use Rattle.dm_places.specs.Placed.{Placed}
+use Rattle.dm_places.proofs.Lines.{mirrors_view}
 use Rattle.dm_mirror.specs.Own.{told_of}
 use Rattle.dm_mirror.specs.Stands.{AreMessages, KnownStands}
 use Rattle.dm_mirror.specs.Tokens.{AllRecords}

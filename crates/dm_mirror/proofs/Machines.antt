@@ -16,7 +16,7 @@ use Rattle.dm_rule.specs.Parts.{Spelled}
 use Rattle.dm_rule.specs.Point.{Point, first_point}
 use Rattle.dm_rule.specs.Rule.{group_of}
 use Rattle.dm_rulelaws.proofs.BasedConstants.{constant_group}
-use Rattle.dm_placed.specs.Placed.{Placed}
+use Rattle.dm_places.specs.Placed.{Placed}
 
 -- there are as many machines as at first
 pub machines_group : (b : Boot) (pt : Point) (d : Step) (w : Spelled) → group_of b pt d ≡ Some w → w.point.kernel.machines ≡ pt.kernel.machines

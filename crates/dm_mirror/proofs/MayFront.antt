@@ -29,8 +29,8 @@ use Rattle.dm_rulelaws.specs.Found.{is_fixed}
 use Rattle.dm_rulelaws.proofs.Runs.{Run}
 use Rattle.dm_rulelaws.proofs.GoesAlways.{front}
 use Rattle.dm_rulelaws.proofs.GoesFront.{ForOther, ForOthers, ForProcess, ForWhom, for_whom, home_of, told_receiver}
-use Rattle.dm_placed.specs.Placed.{Placed, Mirrors}
-use Rattle.dm_placed.proofs.Whats.{create_what, created_what, no_room_what, user_what}
+use Rattle.dm_places.specs.Placed.{Placed, Mirrors}
+use Rattle.dm_places.proofs.Whats.{create_what, created_what, no_room_what, user_what}
 use Rattle.dm_kernel.specs.May.{FitsBoard, FitsKernel, FitsManager}
 use Rattle.dm_kernel.specs.State.{KernelState}
 use Rattle.dm_kernel.proofs.Fitting.{managed_fits, user_fits}

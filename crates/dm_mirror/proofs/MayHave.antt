@@ -11,7 +11,7 @@ use Rattle.dm_message.specs.declared.Message.{Message}
 use Rattle.dm_message.specs.declared.MsgId.{MsgId}
 use Rattle.dm_process.specs.declared.process.Process.{Process}
 use Rattle.dm_room.specs.Room.{HasTaken}
-use Rattle.dm_forward.specs.declared.record.Record.TheVariants as record_
+use Rattle.dm_records.specs.declared.record.Record.TheVariants as record_
 use Rattle.dm_onekernel.specs.declared.boot.Boot.{Boot}
 use Rattle.dm_onekernel.specs.Boot.{first_number}
 use Rattle.dm_onekernel.specs.Kernel.{Life, Alive}
@@ -23,7 +23,7 @@ use Rattle.dm_rule.specs.Rule.{blocks_of, taken_at, taken_by, taken_of_home, tak
 use Rattle.dm_rule.specs.View.{Known}
 use Rattle.dm_rule.specs.View as view
 use Rattle.dm_rulelaws.specs.Fits.{is_server}
-use Rattle.dm_placed.specs.Placed.{Placed, Mirrors}
+use Rattle.dm_places.specs.Placed.{Placed, Mirrors}
 use Rattle.dm_kernel.specs.Lawful.{IsLawfulState}
 use Rattle.dm_kernel.specs.May.{MayAct}
 use Rattle.dm_kernel.specs.State as machine

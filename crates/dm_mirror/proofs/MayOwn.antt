@@ -15,7 +15,7 @@ use Rattle.dm_message.specs.Plain.{plain_message}
 use Rattle.dm_process.specs.declared.process.Process.{Process}
 use Rattle.dm_procman.specs.Managing.{plain_child, plain_pending}
 use Rattle.dm_switchboard.specs.Board.{plain_named}
-use Rattle.dm_forward.specs.declared.record.Record.TheVariants as record_
+use Rattle.dm_records.specs.declared.record.Record.TheVariants as record_
 use Rattle.dm_onekernel.specs.declared.boot.Boot.{Boot}
 use Rattle.dm_onekernel.specs.Boot.{switchboard, manager}
 use Rattle.dm_onekernel.specs.Kernel.{Manager, Switchboard}
@@ -27,7 +27,7 @@ use Rattle.dm_rulelaws.specs.Found.{is_fixed}
 use Rattle.dm_rulelaws.proofs.GoesAlways.{stands_first}
 use Rattle.dm_rulelaws.proofs.OwnTold.{OwnTold, own_sort, own_server}
 use Rattle.dm_rulelaws.proofs.Runs.{Run}
-use Rattle.dm_placed.specs.Placed.{Placed, Mirrors}
+use Rattle.dm_places.specs.Placed.{Placed, Mirrors}
 use Rattle.dm_kernel.specs.declared.kernel.Servers.{Servers}
 use Rattle.dm_kernel.specs.May.{FitsBoard, FitsBoardWhat, FitsEnded, FitsHere, FitsKnown, FitsManager, FitsManagerWhat}
 use Rattle.dm_kernel.specs.State as machine

@@ -18,8 +18,8 @@ use Rattle.dm_message.specs.Kinds.{kind_of}
 use Rattle.dm_message.specs.Lawful.{IsLawfulMessage}
 use Rattle.dm_process.specs.declared.process.Process.{Process}
 use Rattle.dm_process.specs.Lawful.{IsLawfulProcess}
-use Rattle.dm_forward.specs.declared.record.Record.TheVariants as record_
-use Rattle.dm_forward.specs.Records.{frozen_of, incoming_of}
+use Rattle.dm_records.specs.declared.record.Record.TheVariants as record_
+use Rattle.dm_records.specs.Records.{frozen_of, incoming_of}
 use Rattle.dm_migrate.specs.declared.arriving.Wanted.{Wanted}
 use Rattle.dm_migrate.specs.Answer.{IsAskOfProcess}
 use Rattle.dm_migrate.specs.Arrival.{Arrival}
@@ -34,7 +34,7 @@ use Rattle.dm_rule.specs.View.{View, Known, Unknown, Here, Frozen, Incoming, For
 use Rattle.dm_rule.proofs.PhasesStand.{token_at, token_is}
 use Rattle.dm_rulelaws.specs.Fits.{is_server}
 use Rattle.dm_rulelaws.proofs.Runs.{Run}
-use Rattle.dm_placed.specs.Placed.{Placed}
+use Rattle.dm_places.specs.Placed.{Placed}
 use Rattle.dm_kernel.specs.May.{IsSuch}
 use Rattle.dm_kernel.specs.State as machine
 use Rattle.dm_kernel.specs.State.{KernelState}

@@ -12,7 +12,7 @@ use Rattle.dm_message.specs.declared.What.TheVariants as what
 use Rattle.dm_message.specs.declared.kind.MessageKind.TheVariants as kind
 use Rattle.dm_message.specs.Kinds.{kind_of}
 use Rattle.dm_process.specs.declared.process.Process.{Process}
-use Rattle.dm_forward.specs.Records.{frozen_of, incoming_of}
+use Rattle.dm_records.specs.Records.{frozen_of, incoming_of}
 use Rattle.dm_migrate.specs.declared.arriving.Wanted.TheVariants.{Chunk, Block, Nothing}
 use Rattle.dm_migrate.specs.Answer.{IsAskOfProcess}
 use Rattle.dm_migrate.specs.Arrival.{Arrival, IsNextPiece, restarted}
@@ -28,7 +28,7 @@ use Rattle.dm_rule.specs.View.{Frozen, Unknown}
 use Rattle.dm_rulelaws.specs.Fits.{is_server}
 use Rattle.dm_rulelaws.proofs.OwnTold.{own_sort}
 use Rattle.dm_rulelaws.proofs.Runs.{Run}
-use Rattle.dm_placed.specs.Placed.{Placed, Mirrors}
+use Rattle.dm_places.specs.Placed.{Placed, Mirrors}
 use Rattle.dm_kernel.specs.May.{FitsKernel, MayLeave, MayRestart}
 use Rattle.dm_kernel.specs.State.{KernelState}
 use Rattle.dm_mirror.specs.Made.{MadeStands}

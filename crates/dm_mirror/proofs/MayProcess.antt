@@ -16,7 +16,7 @@ use Rattle.dm_process.specs.declared.process.Direction.TheVariants as direction
 use Rattle.dm_process.specs.declared.process.Process.{Process}
 use Rattle.dm_process.specs.declared.process.Status.{Status}
 use Rattle.dm_process.specs.declared.process.Status.TheVariants as status
-use Rattle.dm_forward.specs.declared.record.Record.TheVariants as record_
+use Rattle.dm_records.specs.declared.record.Record.TheVariants as record_
 use Rattle.dm_datamove.specs.Landing.{IsAnswerOf, IsAwaited}
 use Rattle.dm_datamove.specs.Serving.{IsWithin}
 use Rattle.dm_onekernel.specs.declared.boot.Boot.{Boot}
@@ -30,8 +30,8 @@ use Rattle.dm_rule.specs.View.{Known}
 use Rattle.dm_rule.specs.View as view
 use Rattle.dm_rulelaws.specs.Fits.{WhatFits, awaits, has_bytes, is_server, piece_fits, status_awaits}
 use Rattle.dm_rulelaws.proofs.FitsRises.{both}
-use Rattle.dm_placed.specs.Placed.{Placed, Mirrors}
-use Rattle.dm_placed.proofs.Whats.{block_what, gone_what, kill_what, read_what, resume_what, stop_what, user_what, write_what, written_what}
+use Rattle.dm_places.specs.Placed.{Placed, Mirrors}
+use Rattle.dm_places.proofs.Whats.{block_what, gone_what, kill_what, read_what, resume_what, stop_what, user_what, write_what, written_what}
 use Rattle.dm_kernel.specs.May.{FitsEnded, FitsHere, FitsKnown}
 use Rattle.dm_kernel.specs.State as machine
 use Rattle.dm_kernel.specs.State.{KernelState}

@@ -19,7 +19,7 @@ use Rattle.dm_rulelaws.specs.Fits.{is_server}
 use Rattle.dm_rulelaws.proofs.OwnTold.{OwnTold}
 use Rattle.dm_rulelaws.proofs.Runs.{Run}
 use Rattle.dm_rulelaws.proofs.GoesFront.{for_whom}
-use Rattle.dm_placed.specs.Placed.{Placed, Mirrors}
+use Rattle.dm_places.specs.Placed.{Placed, Mirrors}
 use Rattle.dm_kernel.specs.Lawful.{IsLawfulState}
 use Rattle.dm_kernel.specs.May.{FitsKnown, FrontMay, MayHandle, MayTurn}
 use Rattle.dm_kernel.specs.State.{KernelState}

@@ -13,12 +13,13 @@ use Rattle.dm_onekernel.specs.Boot.{IsValid}
 use Rattle.dm_schedule.specs.declared.Step.{Step}
 use Rattle.dm_schedule.specs.declared.Directive.{Directive}
 use Rattle.dm_schedule.specs.declared.Directive.TheVariants as directive
-use Rattle.dm_rule.specs.Good.{Two, Todo, Next, below, pairs_with, pairs_of, first_undelivered, here_or_later, next_delivery, round_begun, next_turn, in_round, or, begin_round, begin_rounds, next_round, following}
+use Rattle.dm_line.specs.Todo.{Two, Todo, Next, below, pairs_with, pairs_of, here_or_later, next_delivery, round_begun, next_turn, in_round, or, begin_round, begin_rounds, next_round, following}
+use Rattle.dm_rule.specs.Good.{first_undelivered}
 use Rattle.dm_rule.specs.Good as rule
 use Rattle.dm_rule.specs.Laws.{IsStep, Leads}
 use Rattle.dm_rule.specs.Point.{Point, first_point}
 use Rattle.dm_rulelaws.proofs.BasedAlways.{based_always}
-use Rattle.dm_placed.specs.Placed.{Placed}
+use Rattle.dm_places.specs.Placed.{Placed}
 use Rattle.dm_world.specs.World.{WorldState}
 use Rattle.dm_world.specs.Next.{first_unseen}
 use Rattle.dm_world.specs.Next as world

@@ -15,7 +15,7 @@ use Rattle.dm_onekernel.specs.Boot.{starting_at, slots_of, links_are_valid, proc
 use Rattle.dm_onekernel.specs.Kernel.{Life}
 use Rattle.dm_onekernel.specs.Options.{bind}
 use Rattle.dm_onekernel.specs.Start.{first_life, life_at}
-use Rattle.dm_placed.specs.PlacedStart.{started, started_at}
+use Rattle.dm_places.specs.PlacedStart.{started, started_at}
 use Rattle.dm_laws.proofs.Equal.{pid_eq-is}
 use Rattle.dm_rulelaws.proofs.FitsRises.{both}
 use Rattle.dm_rulelaws.proofs.FitsStart.{get_some}

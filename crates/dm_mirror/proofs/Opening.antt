@@ -7,13 +7,13 @@ use Rattle.std.proofs.lemmas.List.{append-nil}
 use Rattle.dm_link.specs.declared.Pid.{Pid}
 use Rattle.dm_link.specs.Names.{pid_eq}
 use Rattle.dm_process.specs.declared.process.Process.{Process}
-use Rattle.dm_forward.specs.declared.record.Record.TheVariants.{Here}
+use Rattle.dm_records.specs.declared.record.Record.TheVariants.{Here}
 use Rattle.dm_onekernel.specs.declared.boot.BootImage.{BootImage}
 use Rattle.dm_onekernel.specs.declared.boot.BootProcess.{BootProcess}
 use Rattle.dm_onekernel.specs.declared.boot.Boot.{Boot}
 use Rattle.dm_onekernel.specs.Boot.{starting_at, blocks_at, blocks_of_image, processes_are_valid, process_named}
 use Rattle.dm_laws.proofs.Equal.{pid_eq-is}
-use Rattle.dm_placed.specs.PlacedStart.{started}
+use Rattle.dm_places.specs.PlacedStart.{started}
 use Rattle.dm_rule.specs.View.{ring_at}
 use Rattle.dm_kernel.specs.State.{KernelState, Known}
 use Rattle.dm_kernel.specs.Begun.{begins, child_of, with_all, with_child}

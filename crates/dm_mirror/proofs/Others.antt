@@ -8,7 +8,7 @@ use Rattle.dm_link.specs.declared.Pid.{Pid}
 use Rattle.dm_link.specs.Names.{pid_of}
 use Rattle.dm_message.specs.declared.Message.{Message}
 use Rattle.dm_message.specs.declared.MsgId.{MsgId}
-use Rattle.dm_forward.specs.declared.record.Record.TheVariants as record_
+use Rattle.dm_records.specs.declared.record.Record.TheVariants as record_
 use Rattle.dm_process.specs.declared.process.Process.{Process}
 use Rattle.dm_stream.specs.Receiving.{Receiving, kept_under}
 use Rattle.dm_stream.specs.Sending.{Sending}
@@ -22,7 +22,7 @@ use Rattle.dm_rule.specs.Rule.{Room, and, blocks_of, has, takes_room, taken_at, 
 use Rattle.dm_rule.specs.Spots.{Queue, Held, Inbox, Untaken, times, standing}
 use Rattle.dm_rule.specs.View.{Pair}
 use Rattle.dm_rule.specs.View as view
-use Rattle.dm_placed.specs.Placed.{Placed}
+use Rattle.dm_places.specs.Placed.{Placed}
 use Rattle.dm_kernel.specs.State as machine
 use Rattle.dm_kernel.specs.State.{KernelState}
 use Rattle.dm_kernel.specs.Begun.{room_of}

@@ -18,7 +18,7 @@ use Rattle.dm_stream.specs.Sending.{Sending, window, due, outstanding, with_give
 use Rattle.dm_stream.specs.Receiving.{arrival, after_arrival, next, after_next}
 use Rattle.dm_stream.specs.declared.receiver.Arrived.{Arrived}
 use Rattle.dm_stream.specs.declared.receiver.Arrived.TheVariants.{Taken, Old, Early}
-use Rattle.dm_rule.specs.declared.line.Line.TheVariants as line
+use Rattle.dm_line.specs.declared.line.Line.TheVariants as line
 use Rattle.dm_kernel.specs.declared.part.Part.{Part}
 use Rattle.dm_kernel.specs.declared.part.Part.TheVariants as part
 use Rattle.dm_node.specs.State.{NodeState, here, with_sender, with_message, with_receiver}

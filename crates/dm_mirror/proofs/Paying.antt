@@ -8,7 +8,7 @@ use Rattle.dm_link.specs.Names.{pid_eq, pid_of}
 use Rattle.dm_message.specs.declared.MsgId.{MsgId}
 use Rattle.dm_message.specs.Plain as what
 use Rattle.dm_message.specs.Plain.{PlainMessage, PlainWhat}
-use Rattle.dm_regs.specs.Instructions.{instruction}
+use Rattle.dm_processor.specs.Instructions.{instruction}
 use Rattle.dm_onekernel.specs.declared.boot.Boot.{Boot}
 use Rattle.dm_onekernel.specs.declared.boot.BootImage.{BootImage}
 use Rattle.dm_onekernel.specs.declared.label.Label.{Label}
@@ -26,8 +26,8 @@ use Rattle.dm_onekernel.specs.Switchboard as board
 use Rattle.dm_onekernel.specs.Manager as manage
 use Rattle.dm_onekernel.specs.Step as kernel
 use Rattle.dm_laws.proofs.Steps.{alive-is}
-use Rattle.dm_rule.specs.declared.line.Line.{Line}
-use Rattle.dm_rule.specs.declared.line.Line.TheVariants as line
+use Rattle.dm_line.specs.declared.line.Line.{Line}
+use Rattle.dm_line.specs.declared.line.Line.TheVariants as line
 use Rattle.dm_rule.specs.Point.{Point, label_of, kernel_after}
 use Rattle.dm_rule.specs.Parts.{Part, Says, Routes, Again, Owns, Transmits}
 use Rattle.dm_rule.specs.Rule as rule
@@ -301,7 +301,6 @@ net_label (line.NoMove i) is = absurd is
 net_label (line.Proto i) is = absurd is
 net_label (line.NoChild p) is = absurd is
 net_label (line.Pinned p) is = absurd is
-net_label (line.End z) is = absurd is
 
 net_free : (l : Line) → IsNetLine l → is_free l ≡ true
 net_free (line.Taken a c n) is = refl
@@ -328,7 +327,6 @@ net_free (line.NoMove i) is = absurd is
 net_free (line.Proto i) is = absurd is
 net_free (line.NoChild p) is = absurd is
 net_free (line.Pinned p) is = absurd is
-net_free (line.End z) is = absurd is
 
 pub net_paid : (ps : List Part) (s : OneKernel) → IsNet ps → Paid s ps
 net_paid [] s is = tt

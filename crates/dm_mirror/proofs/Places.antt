@@ -13,8 +13,8 @@ use Rattle.dm_rule.proofs.Telling.{tells_right_always}
 use Rattle.dm_rulelaws.specs.Fits.{is_server}
 use Rattle.dm_rulelaws.proofs.GoesRuns.{Both}
 use Rattle.dm_rulelaws.proofs.RunsAlways.{run_always}
-use Rattle.dm_placed.specs.Following.{GroupNeeds}
-use Rattle.dm_placed.proofs.AnyRun.{group_needs, places_follow_by}
+use Rattle.dm_places.specs.Following.{GroupNeeds}
+use Rattle.dm_places.proofs.AnyRun.{group_needs, places_follow_by}
 use Rattle.dm_mirror.specs.Laws.{PlacesFollow}
 use Rattle.dm_mirror.proofs.Going.{leads_last}
 

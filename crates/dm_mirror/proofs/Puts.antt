@@ -19,11 +19,11 @@ use Rattle.dm_node.specs.declared.out.Out.{Out}
 use Rattle.dm_node.specs.declared.out.Out.TheVariants.{Says, Sends}
 use Rattle.dm_node.specs.Out.{packet_of}
 use Rattle.dm_node.specs.Wired.{Spoken, spoken, says, with_packet, packet_line}
-use Rattle.dm_rule.specs.declared.line.Line.{Line}
-use Rattle.dm_rule.specs.declared.line.Line.TheVariants as line
-use Rattle.dm_rule.specs.declared.line.Load.TheVariants as load
-use Rattle.dm_rule.specs.Sets.{at_machine, at_pair}
-use Rattle.dm_rule.specs.declared.line.Load.{Load}
+use Rattle.dm_line.specs.declared.line.Line.{Line}
+use Rattle.dm_line.specs.declared.line.Line.TheVariants as line
+use Rattle.dm_line.specs.declared.line.Load.TheVariants as load
+use Rattle.dm_line.specs.Sets.{at_machine, at_pair}
+use Rattle.dm_line.specs.declared.line.Load.{Load}
 use Rattle.dm_rule.specs.Spots.{Spot, Queue, Held, Inbox, Untaken, standing, times}
 use Rattle.dm_rule.specs.View.{About, Pair, View, after_packet, begins}
 use Rattle.dm_rule.proofs.Lines.{pair_keeps}
@@ -31,7 +31,7 @@ use Rattle.dm_message.specs.declared.MsgId.{MsgId}
 use Rattle.dm_rule.specs.Parts.{Part, Spelled, behind, lines_of, spelled}
 use Rattle.dm_rule.specs.Point.{Point, after}
 use Rattle.dm_rule.proofs.PairsStand.{two_of}
-use Rattle.dm_placed.specs.Placed.{Placed}
+use Rattle.dm_places.specs.Placed.{Placed}
 use Rattle.dm_world.specs.World.{WorldState}
 use Rattle.dm_mirror.specs.Stands.{History, NodeStands, PairStands, StandsWith, load_of, stream_of}
 use Rattle.dm_mirror.proofs.Streams.{Joined, pair_stands, pair_stays, with_back, with_bytes, with_line}

@@ -9,9 +9,9 @@ use Rattle.dm_message.specs.declared.What.TheVariants as what
 use Rattle.dm_message.specs.Kinds.{IsKindOfPlain, kind_of, plain_kind}
 use Rattle.dm_message.specs.Plain.{PlainMessage, PlainWhat, plain_message, plain_what, with_what}
 use Rattle.dm_onekernel.specs.Options.{bind}
-use Rattle.dm_rule.specs.declared.line.Line.{Line}
-use Rattle.dm_rule.specs.declared.line.Line.TheVariants as line
-use Rattle.dm_rule.specs.declared.line.Load.TheVariants as load
+use Rattle.dm_line.specs.declared.line.Line.{Line}
+use Rattle.dm_line.specs.declared.line.Line.TheVariants as line
+use Rattle.dm_line.specs.declared.line.Load.TheVariants as load
 use Rattle.dm_rule.specs.Addresses.{Receiver}
 use Rattle.dm_rule.specs.Parts.{goes_out, lines_of, packet_line, puts}
 use Rattle.dm_rule.specs.Point.{Point, after, moved}
@@ -19,7 +19,7 @@ use Rattle.dm_rule.specs.View.{Told, own_id}
 use Rattle.dm_link.specs.declared.Pid.{Pid}
 use Rattle.dm_message.specs.declared.MsgId.{MsgId}
 use Rattle.dm_message.specs.declared.kind.MessageKind.{MessageKind}
-use Rattle.dm_placed.specs.Placed.{Placed, Mirrors}
+use Rattle.dm_places.specs.Placed.{Placed, Mirrors}
 use Rattle.dm_mirror.specs.Tokens.{AllRecords}
 use Rattle.dm_mirror.proofs.Turning.{Route, First, On, Own, MayPut, message_of, rule_part_of}
 

@@ -21,7 +21,7 @@ use Rattle.dm_node.specs.Out.{Acts, Goes, Worn}
 use Rattle.dm_node.specs.Acts as node
 use Rattle.dm_node.specs.May as node_may
 use Rattle.dm_node.proofs.Here.{StaysAt, asks_move_stays, turn_stays}
-use Rattle.dm_rule.specs.declared.line.Line.TheVariants as line
+use Rattle.dm_line.specs.declared.line.Line.TheVariants as line
 use Rattle.dm_world.specs.World.{WorldState, Said, Says, acted, delivers, reads, turned, world_step}
 use Rattle.dm_world.specs.May.{MayDeliver, MayRead, MayStep}
 use Rattle.dm_world.specs.Readable.{AreReadBack, IsReadable, gave, gave_bytes, gave_read, gave_some}

@@ -2,14 +2,14 @@
 use Rattle.std.specs.Prelude.{◌≡◌, ℕ, ◌≤◌, Bool, false, length, ◌⊎◌}
 use Rattle.std.specs.declared.option.Option.TheVariants.{Some}
 use Rattle.dm_onekernel.specs.declared.boot.Boot.{Boot}
-use Rattle.dm_rule.specs.Sets.{at_machine}
+use Rattle.dm_line.specs.Sets.{at_machine}
 use Rattle.dm_rule.specs.Parts as rule
 use Rattle.dm_rule.specs.Point.{Point}
 use Rattle.dm_rule.specs.Worn.{is_full}
 use Rattle.dm_node.specs.Acts.{routes}
 use Rattle.dm_node.specs.Out.{Acted, Goes, Worn}
 use Rattle.dm_node.specs.Wired.{spoken}
-use Rattle.dm_placed.specs.Placed.{Placed}
+use Rattle.dm_places.specs.Placed.{Placed}
 use Rattle.dm_world.specs.World.{WorldState}
 use Rattle.dm_mirror.specs.Stands.{History, StandsWith}
 use Rattle.dm_mirror.proofs.Turning.{Route, message_of, rule_part_of}

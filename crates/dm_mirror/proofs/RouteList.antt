@@ -10,9 +10,9 @@ use Rattle.dm_message.specs.Lawful.{IsLawfulMessage}
 use Rattle.dm_onekernel.specs.declared.boot.Boot.{Boot}
 use Rattle.dm_onekernel.specs.Kernel.{OneKernel}
 use Rattle.dm_kernel.specs.declared.part.Part.{Part}
-use Rattle.dm_rule.specs.declared.line.Line.{Line}
-use Rattle.dm_rule.specs.declared.line.Line.TheVariants as line
-use Rattle.dm_rule.specs.declared.line.Stage.TheVariants as stage
+use Rattle.dm_line.specs.declared.line.Line.{Line}
+use Rattle.dm_line.specs.declared.line.Line.TheVariants as line
+use Rattle.dm_line.specs.declared.line.Stage.TheVariants as stage
 use Rattle.dm_rule.specs.Parts as rule
 use Rattle.dm_rule.specs.Parts.{Spelled, goes_out, spelled}
 use Rattle.dm_rule.specs.Point.{Point, after, moved}
@@ -28,7 +28,7 @@ use Rattle.dm_node.specs.declared.out.Out.TheVariants as out
 use Rattle.dm_node.specs.Acts.{acts, routes}
 use Rattle.dm_node.specs.Out.{Acted, Acts, Goes, Worn, behind, then_}
 use Rattle.dm_node.specs.Wired.{Spoken, spoken}
-use Rattle.dm_placed.specs.Placed.{Placed}
+use Rattle.dm_places.specs.Placed.{Placed}
 use Rattle.dm_world.specs.World.{WorldState}
 use Rattle.dm_mirror.specs.Stands.{History, StandsWith}
 use Rattle.dm_mirror.specs.Tokens.{AllRecords}

@@ -13,12 +13,12 @@ use Rattle.dm_message.specs.Kinds.{kind_of}
 use Rattle.dm_laws.proofs.Equal.{id_eq-is}
 use Rattle.dm_rule.specs.Addresses.{Gets, Receiver, Sender, first_gives, given, own_gives}
 use Rattle.dm_rule.specs.Point.{Point}
-use Rattle.dm_rule.specs.Sets.{at_machine}
+use Rattle.dm_line.specs.Sets.{at_machine}
 use Rattle.dm_rule.specs.View.{Told, is_kernels, is_own, own_id}
 use Rattle.dm_rule.proofs.Letters.{not_kernels}
 use Rattle.dm_rule.proofs.States.{put_told_off}
 use Rattle.dm_rule.proofs.Telling.{Sane}
-use Rattle.dm_placed.specs.Placed.{Placed, Mirrors}
+use Rattle.dm_places.specs.Placed.{Placed, Mirrors}
 use Rattle.dm_mirror.specs.Tokens.{AllRecords}
 use Rattle.dm_mirror.proofs.Turning.{Route, First, On, Own, MayOwn, MayPut, AllMayPut, Late, Nothing, Leaves, LateMay, late_owns, message_of, owns}
 use Rattle.dm_mirror.proofs.Turning as turning

@@ -10,21 +10,21 @@ use Rattle.dm_message.specs.Kinds.{kind_of, plain_kind}
 use Rattle.dm_message.specs.Plain.{PlainMessage}
 use Rattle.dm_onekernel.specs.Options.{bind}
 use Rattle.dm_laws.proofs.Steps.{bind-is}
-use Rattle.dm_rule.specs.declared.line.Line.{Line}
-use Rattle.dm_rule.specs.declared.line.Line.TheVariants as line
-use Rattle.dm_rule.specs.declared.line.Load.TheVariants as load
-use Rattle.dm_rule.specs.declared.line.Stage.TheVariants as stage
+use Rattle.dm_line.specs.declared.line.Line.{Line}
+use Rattle.dm_line.specs.declared.line.Line.TheVariants as line
+use Rattle.dm_line.specs.declared.line.Load.TheVariants as load
+use Rattle.dm_line.specs.declared.line.Stage.TheVariants as stage
 use Rattle.dm_rule.specs.Addresses.{Receiver}
 use Rattle.dm_rule.specs.Parts as rule
 use Rattle.dm_rule.specs.Parts.{Spelled, behind, goes_out, puts, spelled}
 use Rattle.dm_rule.specs.Point.{Point, after, moved}
-use Rattle.dm_rule.specs.Sets.{at_machine}
+use Rattle.dm_line.specs.Sets.{at_machine}
 use Rattle.dm_rule.specs.Spots.{Spot, Queue, Held, Inbox, Untaken, standing}
 use Rattle.dm_rule.specs.View.{Told, View, is_own, own_id}
 use Rattle.dm_rule.proofs.MovesSent.{fits_packet, fits_put}
 use Rattle.dm_rule.proofs.States.{PairsFit}
 use Rattle.dm_rule.proofs.Telling.{Sane}
-use Rattle.dm_placed.specs.Placed.{Placed, Mirrors}
+use Rattle.dm_places.specs.Placed.{Placed, Mirrors}
 use Rattle.dm_mirror.specs.Tokens.{AllRecords}
 use Rattle.dm_mirror.proofs.Turning.{Route, First, On, Own, Late, Nothing, Leaves, MayPut, late_point, late_rule_parts, message_of, rule_part_of}
 use Rattle.dm_mirror.proofs.Turning as turning

@@ -11,7 +11,7 @@ use Rattle.dm_message.specs.declared.kind.MessageKind.{MessageKind}
 use Rattle.dm_message.specs.Ids.{id_eq}
 use Rattle.dm_message.specs.Kinds.{kind_of, plain_kind}
 use Rattle.dm_message.specs.Plain.{plain_message}
-use Rattle.dm_forward.specs.Records.{incoming_of}
+use Rattle.dm_records.specs.Records.{incoming_of}
 use Rattle.dm_onekernel.specs.declared.boot.Boot.{Boot}
 use Rattle.dm_onekernel.specs.Options.{bind}
 use Rattle.dm_kernel.specs.State as machine
@@ -24,11 +24,11 @@ use Rattle.dm_rule.specs.View.{Of, Told, View, after_put, first_told, is_kernels
 use Rattle.dm_rule.proofs.PhasesLines.{put_at, put_spots}
 use Rattle.dm_rule.proofs.States.{PairsFit, put_told_off}
 use Rattle.dm_rule.proofs.Telling.{Sane, plain_not}
-use Rattle.dm_placed.specs.Placed.{Placed, Mirrors}
-use Rattle.dm_placed.specs.PlacedStep.{with_message}
-use Rattle.dm_placed.specs.Laws.{KeepsPlaces}
-use Rattle.dm_placed.proofs.Lines.{lines_keep, routed_keeps, told_keeps}
-use Rattle.dm_placed.proofs.OwnPuts.{own_put_mirrors}
+use Rattle.dm_places.specs.Placed.{Placed, Mirrors}
+use Rattle.dm_places.specs.PlacedStep.{with_message}
+use Rattle.dm_places.specs.Laws.{KeepsPlaces}
+use Rattle.dm_places.proofs.Lines.{lines_keep, routed_keeps, told_keeps}
+use Rattle.dm_places.proofs.OwnPuts.{own_put_mirrors}
 use Rattle.dm_world.specs.World.{WorldState}
 use Rattle.dm_mirror.specs.Own.{AllOwnStand, OwnStands, told_of}
 use Rattle.dm_mirror.specs.Stands.{History, StandsWith}

@@ -16,19 +16,19 @@ use Rattle.dm_node.specs.declared.out.Out.{Out}
 use Rattle.dm_node.specs.declared.out.Out.TheVariants.{Says, Sends}
 use Rattle.dm_node.specs.Out.{Acts, Goes, Worn, behind, packet_of}
 use Rattle.dm_node.specs.Acts.{gives, is_worn, none_waits, put_line, routes, routes_away, routes_home, sends_due}
-use Rattle.dm_rule.specs.declared.line.Line.{Line}
-use Rattle.dm_rule.specs.declared.line.Line.TheVariants as line
-use Rattle.dm_rule.specs.declared.line.Load.TheVariants as load
-use Rattle.dm_rule.specs.Good.{or}
+use Rattle.dm_line.specs.declared.line.Line.{Line}
+use Rattle.dm_line.specs.declared.line.Line.TheVariants as line
+use Rattle.dm_line.specs.declared.line.Load.TheVariants as load
+use Rattle.dm_line.specs.Todo.{or}
 use Rattle.dm_rule.specs.View.{after_put, view_after}
 use Rattle.dm_rule.specs.Parts.{goes_out}
 use Rattle.dm_rule.specs.Parts as rule
 use Rattle.dm_rule.specs.Point.{Point, moved}
-use Rattle.dm_rule.specs.Sets.{at_machine}
+use Rattle.dm_line.specs.Sets.{at_machine}
 use Rattle.dm_rule.proofs.States.{PairsFit}
 use Rattle.dm_rule.proofs.Telling.{Sane}
 use Rattle.dm_rule.specs.Worn.{is_full, worn_in}
-use Rattle.dm_placed.specs.Placed.{Placed}
+use Rattle.dm_places.specs.Placed.{Placed}
 use Rattle.dm_world.specs.World.{WorldState}
 use Rattle.dm_mirror.specs.Stands.{History, PairStands, StandsWith}
 use Rattle.dm_mirror.proofs.RouteGoes.{RouteGoes, RouteOn, RouteWorn, with_acted}

@@ -16,11 +16,11 @@ use Rattle.dm_onekernel.specs.Kernel.{OneKernel}
 use Rattle.dm_onekernel.specs.Options.{bind}
 use Rattle.dm_laws.proofs.Equal.{id_eq-is, pid_eq-is}
 use Rattle.dm_laws.proofs.Steps.{bind-is}
-use Rattle.dm_rule.specs.declared.line.Line.{Line}
-use Rattle.dm_rule.specs.declared.line.Line.TheVariants as line
+use Rattle.dm_line.specs.declared.line.Line.{Line}
+use Rattle.dm_line.specs.declared.line.Line.TheVariants as line
 use Rattle.dm_rule.specs.Parts.{Part, Says}
 use Rattle.dm_rule.specs.Point.{Point, after, after_line, kernel_after, label_of, moved}
-use Rattle.dm_rule.specs.Sets.{at_machine, at_record, without_front, without_id}
+use Rattle.dm_line.specs.Sets.{at_machine, at_record, without_front, without_id}
 use Rattle.dm_rule.specs.Spots.{Spot, Queue, Held, Inbox, Untaken, times, standing}
 use Rattle.dm_rule.specs.View as view
 use Rattle.dm_rule.specs.View.{View, Told, after_label, view_after, handled, queued_for, dropped_for, receiver_of, is_kernels}

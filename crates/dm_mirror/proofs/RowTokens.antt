@@ -15,7 +15,7 @@ use Rattle.dm_message.specs.declared.kind.MessageKind.TheVariants as kind
 use Rattle.dm_message.specs.Kinds.{kind_of}
 use Rattle.dm_message.specs.Plain.{plain_message, plain_what, with_what}
 use Rattle.dm_process.specs.declared.process.Process.{Process}
-use Rattle.dm_forward.specs.Records.{incoming_of}
+use Rattle.dm_records.specs.Records.{incoming_of}
 use Rattle.dm_migrate.specs.Arrival.{Arrival}
 use Rattle.dm_kernel.specs.State as machine
 use Rattle.dm_rule.specs.Phases.{Phase, Moves, comes, is_apart, is_away, is_between, is_early, is_of_source, is_restart, knows, leaves, receiver_in, sender_in, told_between}
@@ -23,7 +23,7 @@ use Rattle.dm_rule.specs.Point.{Point}
 use Rattle.dm_rule.specs.Spots.{Spot, standing}
 use Rattle.dm_rule.specs.View.{View, Known, Unknown, Here, Frozen, Incoming, Forward, Ended, Of, Told, is_kernels}
 use Rattle.dm_rule.proofs.PhasesStand.{InPhases, token_is, token_at}
-use Rattle.dm_placed.specs.Placed.{Placed}
+use Rattle.dm_places.specs.Placed.{Placed}
 use Rattle.dm_mirror.specs.Own.{AllOwnStand, told_of}
 use Rattle.dm_mirror.specs.Tokens.{AllRecords, Carries, TokenStands, TokensStand, destination_of}
 use Rattle.dm_mirror.proofs.Turning.{has_process, is_moving}

@@ -5,9 +5,9 @@ use Rattle.std.specs.declared.option.Option.TheVariants.{None, Some}
 use Rattle.dm_onekernel.specs.Kernel.{OneKernel}
 use Rattle.dm_onekernel.specs.Options.{bind}
 use Rattle.dm_laws.proofs.Steps.{bind-is}
-use Rattle.dm_rule.specs.declared.line.Line.{Line}
-use Rattle.dm_rule.specs.declared.line.Line.TheVariants as line
-use Rattle.dm_rule.specs.Good.{Two, or}
+use Rattle.dm_line.specs.declared.line.Line.{Line}
+use Rattle.dm_line.specs.declared.line.Line.TheVariants as line
+use Rattle.dm_line.specs.Todo.{Two, or}
 use Rattle.dm_rule.specs.Parts as rule
 use Rattle.dm_rule.specs.Parts.{Spelled, spelled}
 use Rattle.dm_rule.specs.Point.{Point, label_of, kernel_after, after_line, after, moved}
@@ -84,7 +84,6 @@ no_put numbers v (line.NoMove id) e = refl
 no_put numbers v (line.Proto id) e = refl
 no_put numbers v (line.NoChild p) e = refl
 no_put numbers v (line.Pinned p) e = refl
-no_put numbers v (line.End x) e = refl
 
 -- such lines wear no pair out
 pub worn_behind : (numbers : ℕ) (ls : List Line) (pt next : Point) (ms : List Line) (ps : List rule.Part) → AllSayable (map rule.Says ls ++ ps) → after pt ls ≡ Some next

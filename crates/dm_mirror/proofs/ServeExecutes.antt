@@ -7,10 +7,10 @@ use Rattle.std.proofs.lemmas.Bool.Decides.{nat_tests}
 use Rattle.dm_link.specs.declared.Pid.{Pid}
 use Rattle.dm_message.specs.declared.Message.{Message}
 use Rattle.dm_message.specs.Plain.{PlainMessage, plain_message}
-use Rattle.dm_regs.specs.declared.registers.Regs.{Regs}
-use Rattle.dm_regs.specs.declared.registers.Fault.{Fault}
-use Rattle.dm_regs.specs.Instructions.{Row, instruction}
-use Rattle.dm_regs.specs.Instructions as row
+use Rattle.dm_processor.specs.declared.registers.Regs.{Regs}
+use Rattle.dm_processor.specs.declared.registers.Fault.{Fault}
+use Rattle.dm_processor.specs.Instructions.{Row, instruction}
+use Rattle.dm_processor.specs.Instructions as row
 use Rattle.dm_process.specs.declared.process.Process.{Process}
 use Rattle.dm_process.specs.declared.process.Status.TheVariants as status
 use Rattle.dm_onekernel.specs.declared.boot.Boot.{Boot}
@@ -34,10 +34,10 @@ use Rattle.dm_laws.proofs.Steps.{bind-is}
 use Rattle.dm_rule.specs.Parts as rule_part
 use Rattle.dm_rule.specs.Point.{Point}
 use Rattle.dm_rule.specs.Rule as rule
-use Rattle.dm_placed.specs.Placed.{Placed}
-use Rattle.dm_placed.specs.PlacedStep as placed
-use Rattle.dm_placed.proofs.Matches.{acted_with, call_matches, fault_matches}
-use Rattle.dm_placed.proofs.Queues.{with_queue, calls_with}
+use Rattle.dm_places.specs.Placed.{Placed}
+use Rattle.dm_places.specs.PlacedStep as placed
+use Rattle.dm_places.proofs.Matches.{acted_with, call_matches, fault_matches}
+use Rattle.dm_places.proofs.Queues.{with_queue, calls_with}
 use Rattle.dm_kernel.specs.declared.part.Part.TheVariants as part
 use Rattle.dm_kernel.specs.State as machine
 use Rattle.dm_kernel.specs.State.{KernelState, Turned, turned, with_here}

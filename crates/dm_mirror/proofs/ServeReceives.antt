@@ -21,7 +21,7 @@ use Rattle.dm_process.specs.Mail.{first_on, what_is_on, without_first_on}
 use Rattle.dm_process.specs.declared.process.Process.{Process}
 use Rattle.dm_process.specs.declared.process.Status.{Status}
 use Rattle.dm_process.specs.declared.process.Status.TheVariants as status
-use Rattle.dm_forward.specs.declared.record.Record.TheVariants as record_
+use Rattle.dm_records.specs.declared.record.Record.TheVariants as record_
 use Rattle.dm_onekernel.specs.declared.boot.Boot.{Boot}
 use Rattle.dm_onekernel.specs.declared.label.Label.TheVariants as label
 use Rattle.dm_onekernel.specs.declared.label.Reply.{Reply}
@@ -40,18 +40,18 @@ use Rattle.dm_syscall.specs.Completing as completing
 use Rattle.dm_syscall.specs.Completing.{Completion, IsAwaited, plain_completed}
 use Rattle.dm_syscall.proofs.Completes.{status_plainly}
 use Rattle.dm_laws.proofs.Equal.{id_eq-is, pid_eq-same}
-use Rattle.dm_rule.specs.declared.line.Line.TheVariants as line
+use Rattle.dm_line.specs.declared.line.Line.TheVariants as line
 use Rattle.dm_rule.specs.Point.{Point, moved}
 use Rattle.dm_rule.specs.Rule as rule
-use Rattle.dm_rule.specs.Sets.{moved_back, without_id}
+use Rattle.dm_line.specs.Sets.{moved_back, without_id}
 use Rattle.dm_rule.specs.Spots.{Spot, Queue, times, standing, StandsRight}
 use Rattle.dm_rule.specs.View.{View, serving}
 use Rattle.dm_rule.proofs.Standing.{once_at}
 use Rattle.dm_rulelaws.proofs.FitsRises.{set_at}
-use Rattle.dm_placed.specs.Placed.{Placed}
-use Rattle.dm_placed.specs.PlacedStep as placed
-use Rattle.dm_placed.proofs.Matches.{Ends, completed_matches}
-use Rattle.dm_placed.proofs.Queues.{with_queue}
+use Rattle.dm_places.specs.Placed.{Placed}
+use Rattle.dm_places.specs.PlacedStep as placed
+use Rattle.dm_places.proofs.Matches.{Ends, completed_matches}
+use Rattle.dm_places.proofs.Queues.{with_queue}
 use Rattle.dm_kernel.specs.State as machine
 use Rattle.dm_kernel.specs.State.{KernelState, Turned, turned, with_here}
 use Rattle.dm_kernel.specs.Serve as serve

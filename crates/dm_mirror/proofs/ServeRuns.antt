@@ -11,16 +11,16 @@ use Rattle.dm_message.specs.declared.What.{What}
 use Rattle.dm_message.specs.declared.What.TheVariants as what
 use Rattle.dm_message.specs.Ids.{id_eq}
 use Rattle.dm_message.specs.Plain.{plain_message, plain_what, with_what}
-use Rattle.dm_regs.specs.declared.registers.Regs.{Regs}
-use Rattle.dm_regs.specs.declared.registers.Fault.{Fault}
-use Rattle.dm_regs.specs.Instructions.{Row, instruction}
-use Rattle.dm_regs.specs.Instructions as row
+use Rattle.dm_processor.specs.declared.registers.Regs.{Regs}
+use Rattle.dm_processor.specs.declared.registers.Fault.{Fault}
+use Rattle.dm_processor.specs.Instructions.{Row, instruction}
+use Rattle.dm_processor.specs.Instructions as row
 use Rattle.dm_process.specs.Mail.{first_on, is_on, what_is_on, without_first_on}
 use Rattle.dm_process.specs.Process.{status_is_runnable}
 use Rattle.dm_process.specs.declared.process.Process.{Process}
 use Rattle.dm_process.specs.declared.process.Status.{Status}
 use Rattle.dm_process.specs.declared.process.Status.TheVariants as status
-use Rattle.dm_forward.specs.declared.record.Record.TheVariants as record_
+use Rattle.dm_records.specs.declared.record.Record.TheVariants as record_
 use Rattle.dm_onekernel.specs.declared.boot.Boot.{Boot}
 use Rattle.dm_onekernel.specs.Options.{bind}
 use Rattle.dm_onekernel.specs.Kernel.{Life, Alive, OneKernel}
@@ -32,15 +32,15 @@ use Rattle.dm_onekernel.specs.Step.{Machine}
 use Rattle.dm_laws.proofs.Equal.{pid_eq-same, id_eq-is, id_eq-same}
 use Rattle.dm_rule.specs.Point.{Point}
 use Rattle.dm_rule.specs.Rule as rule
-use Rattle.dm_rule.specs.Sets.{without_id}
+use Rattle.dm_line.specs.Sets.{without_id}
 use Rattle.dm_rule.specs.Spots.{times}
 use Rattle.dm_rule.specs.View as view
 use Rattle.dm_rule.specs.View.{View}
 use Rattle.dm_rulelaws.specs.Fits.{is_server}
 use Rattle.dm_rulelaws.specs.KnownStands.{rings}
 use Rattle.dm_rulelaws.specs.KnownStands as rings
-use Rattle.dm_placed.specs.Placed.{Placed, MirrorsKernel}
-use Rattle.dm_placed.proofs.Queues.{with_queue}
+use Rattle.dm_places.specs.Placed.{Placed, MirrorsKernel}
+use Rattle.dm_places.proofs.Queues.{with_queue}
 use Rattle.dm_kernel.specs.declared.run.Halt.TheVariants as halt
 use Rattle.dm_kernel.specs.State as machine
 use Rattle.dm_kernel.specs.State.{KernelState}

@@ -11,7 +11,7 @@ use Rattle.dm_message.specs.declared.MsgId.{MsgId}
 use Rattle.dm_message.specs.Ids.{id_eq}
 use Rattle.dm_message.specs.Plain.{PlainMessage, plain_message}
 use Rattle.dm_process.specs.declared.process.Process.{Process}
-use Rattle.dm_forward.specs.declared.record.Record.TheVariants as record_
+use Rattle.dm_records.specs.declared.record.Record.TheVariants as record_
 use Rattle.dm_onekernel.specs.declared.boot.Boot.{Boot}
 use Rattle.dm_onekernel.specs.declared.label.Label.TheVariants as label
 use Rattle.dm_onekernel.specs.declared.label.Why.{Why}
@@ -26,20 +26,20 @@ use Rattle.dm_laws.proofs.Entered.{counts, is_counted}
 use Rattle.dm_laws.proofs.Equal.{id_eq-same, pid_eq-same}
 use Rattle.dm_laws.proofs.Sound.{not_counted, counts_process, not_server}
 use Rattle.dm_laws.proofs.Steps.{after_ran, nexts}
-use Rattle.dm_rule.specs.declared.line.Line.TheVariants as line
+use Rattle.dm_line.specs.declared.line.Line.TheVariants as line
 use Rattle.dm_rule.specs.Parts as rule_part
 use Rattle.dm_rule.specs.Point.{Point, moved}
 use Rattle.dm_rule.specs.Rule as rule
-use Rattle.dm_rule.specs.Sets.{moved_back, without}
+use Rattle.dm_line.specs.Sets.{moved_back, without}
 use Rattle.dm_rule.specs.Spots.{Spot, Queue, times, standing}
 use Rattle.dm_rule.specs.View as view
 use Rattle.dm_rule.specs.View.{View, receiver_of, is_kernels}
 use Rattle.dm_rulelaws.proofs.FitsRises.{set_at}
 use Rattle.dm_rulelaws.proofs.GoesTurns.{droppable_on}
-use Rattle.dm_placed.specs.Placed.{Placed}
-use Rattle.dm_placed.specs.PlacedStep as placed
-use Rattle.dm_placed.proofs.Keeps.{parts}
-use Rattle.dm_placed.proofs.Queues.{with_queue}
+use Rattle.dm_places.specs.Placed.{Placed}
+use Rattle.dm_places.specs.PlacedStep as placed
+use Rattle.dm_places.proofs.Keeps.{parts}
+use Rattle.dm_places.proofs.Queues.{with_queue}
 use Rattle.dm_kernel.specs.declared.part.Part.{Part}
 use Rattle.dm_kernel.specs.declared.part.Part.TheVariants as part
 use Rattle.dm_kernel.specs.State as machine

@@ -21,7 +21,7 @@ use Rattle.dm_onekernel.specs.Plain.{plain_process, plain_status}
 use Rattle.dm_onekernel.specs.PlainProcess.{PlainProcess}
 use Rattle.dm_onekernel.specs.Step as kernel
 use Rattle.dm_laws.proofs.Equal.{pid_eq-is, pid_eq-same}
-use Rattle.dm_rule.specs.declared.line.Line.TheVariants as line
+use Rattle.dm_line.specs.declared.line.Line.TheVariants as line
 use Rattle.dm_rule.specs.Point.{Point}
 use Rattle.dm_rule.specs.Rule as rule
 use Rattle.dm_rule.specs.View.{View}
@@ -35,9 +35,9 @@ use Rattle.dm_rulelaws.specs.KnownStands.{rings}
 use Rattle.dm_rulelaws.proofs.FitsRises.{both}
 use Rattle.dm_rulelaws.proofs.Runs.{Run}
 use Rattle.dm_rulelaws.proofs.GoesTurns.{queue_drops}
-use Rattle.dm_placed.specs.Placed.{Placed, Mirrors}
-use Rattle.dm_placed.proofs.Lines.{mirrors_view}
-use Rattle.dm_forward.specs.declared.record.Record.TheVariants as record_
+use Rattle.dm_places.specs.Placed.{Placed, Mirrors}
+use Rattle.dm_places.proofs.Lines.{mirrors_view}
+use Rattle.dm_records.specs.declared.record.Record.TheVariants as record_
 use Rattle.dm_kernel.specs.declared.part.Part.TheVariants as part
 use Rattle.dm_kernel.specs.Begun.{room_of}
 use Rattle.dm_kernel.specs.Lawful.{IsLawfulState}

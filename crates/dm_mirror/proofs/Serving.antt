@@ -11,22 +11,22 @@ use Rattle.dm_message.specs.declared.MsgId.{MsgId}
 use Rattle.dm_message.specs.Ids.{id_eq}
 use Rattle.dm_message.specs.Plain.{PlainMessage}
 use Rattle.dm_process.specs.declared.process.Process.{Process}
-use Rattle.dm_forward.specs.declared.record.Record.TheVariants as record_
+use Rattle.dm_records.specs.declared.record.Record.TheVariants as record_
 use Rattle.dm_onekernel.specs.declared.boot.Boot.{Boot}
 use Rattle.dm_onekernel.specs.Kernel.{Alive, OneKernel}
 use Rattle.dm_onekernel.specs.Plain.{plain_process}
 use Rattle.dm_laws.proofs.Equal.{id_eq-is, pid_eq-same}
 use Rattle.dm_laws.proofs.Sound.{Sound}
-use Rattle.dm_rule.specs.declared.line.Line.{Line}
+use Rattle.dm_line.specs.declared.line.Line.{Line}
 use Rattle.dm_rule.specs.Parts as rule
 use Rattle.dm_rule.specs.Point.{Point, after}
-use Rattle.dm_rule.specs.Sets.{moved_back}
+use Rattle.dm_line.specs.Sets.{moved_back}
 use Rattle.dm_rule.specs.Spots.{Spot, Queue, times, standing, StandsOutside, StandsRight}
 use Rattle.dm_rule.specs.View.{View, receiver_of, is_kernels}
 use Rattle.dm_rule.proofs.Standing.{once_at}
 use Rattle.dm_rulelaws.proofs.GoesTurns.{Droppable, IsFor}
-use Rattle.dm_placed.specs.Placed.{Placed, Mirrors}
-use Rattle.dm_placed.proofs.Queues.{with_queue}
+use Rattle.dm_places.specs.Placed.{Placed, Mirrors}
+use Rattle.dm_places.proofs.Queues.{with_queue}
 use Rattle.dm_kernel.specs.declared.part.Part.TheVariants as part
 use Rattle.dm_kernel.specs.State.{KernelState, Turned, with_here}
 use Rattle.dm_mirror.specs.Own.{AllOwnStand}

@@ -24,10 +24,10 @@ use Rattle.dm_onekernel.specs.Start.{first_life}
 use Rattle.dm_kernel.specs.State.{KernelState}
 use Rattle.dm_kernel.specs.Begun.{begins, child_of, empty, opened, room_of, with_all, with_child}
 use Rattle.dm_kernel.proofs.LawfulStart.{opened_lawful}
-use Rattle.dm_forward.specs.declared.record.Record.TheVariants as record_
+use Rattle.dm_records.specs.declared.record.Record.TheVariants as record_
 use Rattle.dm_node.specs.State.{fresh_sender}
-use Rattle.dm_placed.specs.PlacedStart.{placed_start, started}
-use Rattle.dm_placed.proofs.Starts.{start_mirrors}
+use Rattle.dm_places.specs.PlacedStart.{placed_start, started}
+use Rattle.dm_places.proofs.Starts.{start_mirrors}
 use Rattle.dm_rule.specs.Point.{first_point}
 use Rattle.dm_rule.specs.View.{Known}
 use Rattle.dm_rule.specs.View as view

@@ -9,21 +9,21 @@ use Rattle.dm_link.specs.declared.Pid.{Pid}
 use Rattle.dm_link.specs.Names.{pid_of}
 use Rattle.dm_message.specs.declared.Message.{Message}
 use Rattle.dm_message.specs.declared.MsgId.{MsgId}
-use Rattle.dm_forward.specs.declared.record.Record.TheVariants as record_
+use Rattle.dm_records.specs.declared.record.Record.TheVariants as record_
 use Rattle.dm_onekernel.specs.declared.boot.Boot.{Boot}
 use Rattle.dm_onekernel.specs.Boot.{first_number}
 use Rattle.dm_kernel.specs.State as machine
 use Rattle.dm_kernel.specs.State.{KernelState}
 use Rattle.dm_kernel.specs.Begun.{room_of}
 use Rattle.dm_node.specs.State.{NodeState}
-use Rattle.dm_rule.specs.Sets.{at_machine, at_pair}
+use Rattle.dm_line.specs.Sets.{at_machine, at_pair}
 use Rattle.dm_rule.specs.Spots.{Spot, standing}
 use Rattle.dm_rule.specs.View.{View, Known, Unknown, Here, Frozen, Incoming, Forward, Ended}
 use Rattle.dm_rule.specs.Point.{Point}
 use Rattle.dm_rule.specs.Rule.{and, taken_at, taken_by, taken_of_home}
-use Rattle.dm_placed.specs.Placed.{Placed, Mirrors}
+use Rattle.dm_places.specs.Placed.{Placed, Mirrors}
 use Rattle.dm_world.specs.World.{WorldState}
-use Rattle.dm_forward.specs.Records.{incoming_of}
+use Rattle.dm_records.specs.Records.{incoming_of}
 use Rattle.dm_mirror.specs.Stands.{AreMessages, History, KernelStands, KnownStands, NodeStands, PairStands, RoomStands}
 use Rattle.dm_mirror.specs.Tokens.{AllRecords, Carries, TokensStand, destination_of}
 use Rattle.dm_rule.proofs.PairsStand.{two_of}

@@ -20,12 +20,12 @@ use Rattle.dm_packet.specs.Packets.{spelling}
 use Rattle.dm_wire.specs.Sent as wire
 use Rattle.dm_onekernel.specs.declared.boot.Boot.{Boot}
 use Rattle.dm_node.specs.Out.{packet_of}
-use Rattle.dm_rule.specs.declared.line.Load.{Load}
-use Rattle.dm_rule.specs.declared.line.Load.TheVariants as load
+use Rattle.dm_line.specs.declared.line.Load.{Load}
+use Rattle.dm_line.specs.declared.line.Load.TheVariants as load
 use Rattle.dm_rule.specs.View.{Pair, Sent, gone_after}
 use Rattle.dm_rule.specs.Point.{Point}
 use Rattle.dm_rule.specs.Rule.{has}
-use Rattle.dm_placed.specs.Placed.{Placed}
+use Rattle.dm_places.specs.Placed.{Placed}
 use Rattle.dm_world.specs.World.{WorldState}
 use Rattle.dm_mirror.specs.Stands.{AreMessages, History, PairStands, bytes_of, id_of, line_of, load_of, stream_of}
 

@@ -19,18 +19,18 @@ use Rattle.dm_node.specs.declared.out.Out.TheVariants.{Sends}
 use Rattle.dm_node.specs.Out.{packet_of}
 use Rattle.dm_node.specs.Acts.{again, all_out, count_out, counts_out, first_out, sends, tick}
 use Rattle.dm_node.specs.Wired.{spoken}
-use Rattle.dm_rule.specs.declared.line.Line.{Line}
-use Rattle.dm_rule.specs.declared.line.Line.TheVariants as line
-use Rattle.dm_rule.specs.declared.line.Load.TheVariants as load
+use Rattle.dm_line.specs.declared.line.Line.{Line}
+use Rattle.dm_line.specs.declared.line.Line.TheVariants as line
+use Rattle.dm_line.specs.declared.line.Load.TheVariants as load
 use Rattle.dm_rule.specs.View.{View, NothingElse, after_packet, begins}
 use Rattle.dm_rule.specs.Parts as rule
 use Rattle.dm_rule.specs.Parts.{Part, Transmits, Spelled, behind, spelled}
 use Rattle.dm_rule.specs.Point.{Point}
 use Rattle.dm_rule.specs.Rule as rules
 use Rattle.dm_rule.specs.Rule.{group_of, headed, numbers_from, repeats, resends}
-use Rattle.dm_placed.specs.Placed.{Placed}
+use Rattle.dm_places.specs.Placed.{Placed}
 use Rattle.dm_world.specs.World.{WorldState, acted}
-use Rattle.dm_rule.specs.Sets.{at_machine}
+use Rattle.dm_line.specs.Sets.{at_machine}
 use Rattle.dm_mirror.specs.Stands.{CountsStand, History, PairStands, StandsWith, stream_of}
 use Rattle.dm_mirror.specs.Run.{GoesOn}
 use Rattle.dm_mirror.proofs.Streams.{joined, put_back, went_again}

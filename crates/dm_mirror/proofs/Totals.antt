@@ -13,11 +13,11 @@ use Rattle.dm_onekernel.specs.declared.label.Label.{Label}
 use Rattle.dm_onekernel.specs.declared.label.Label.TheVariants as label
 use Rattle.dm_schedule.specs.declared.Step.{Step}
 use Rattle.dm_schedule.specs.declared.Step.TheVariants as step
-use Rattle.dm_rule.specs.declared.line.Line.{Line}
-use Rattle.dm_rule.specs.declared.line.Line.TheVariants as line
-use Rattle.dm_rule.specs.declared.line.Stage.{Stage}
-use Rattle.dm_rule.specs.declared.line.Stage.TheVariants as stage
-use Rattle.dm_rule.specs.Sets.{at_pair}
+use Rattle.dm_line.specs.declared.line.Line.{Line}
+use Rattle.dm_line.specs.declared.line.Line.TheVariants as line
+use Rattle.dm_line.specs.declared.line.Stage.{Stage}
+use Rattle.dm_line.specs.declared.line.Stage.TheVariants as stage
+use Rattle.dm_line.specs.Sets.{at_pair}
 use Rattle.dm_rule.specs.View.{View, About, Pair, Told, view_after, handled}
 use Rattle.dm_rule.specs.View as view
 use Rattle.dm_rule.proofs.Turns.{served_keeps}
@@ -184,7 +184,6 @@ line_grows v (line.NoMove i) = grows_same v (handled v i) refl
 line_grows v (line.Proto i) = grows_same v (view_after v (line.Proto i)) (proto_pair (handled v i) (v.told i))
 line_grows v (line.NoChild p) = grows_same v v refl
 line_grows v (line.Pinned p) = grows_same v v refl
-line_grows v (line.End z) = grows_same v v refl
 
 -- a route adds one
 pub put_adds : (v : View) (a b : ℕ) (i : MsgId) (k : MessageKind) (q : Pid) → ids_of (view.after_put v a b i k q) a b ≡ ids_of v a b + 1

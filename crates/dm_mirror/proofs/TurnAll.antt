@@ -17,8 +17,8 @@ use Rattle.dm_rule.specs.View.{Known, Unknown, Here, Frozen, Incoming, Forward, 
 use Rattle.dm_rulelaws.specs.Found.{is_fixed}
 use Rattle.dm_rulelaws.proofs.OwnTold.{OwnTold}
 use Rattle.dm_rulelaws.proofs.Runs.{Run}
-use Rattle.dm_placed.specs.Placed.{Placed, Mirrors}
-use Rattle.dm_placed.proofs.Keeps.{parts}
+use Rattle.dm_places.specs.Placed.{Placed, Mirrors}
+use Rattle.dm_places.proofs.Keeps.{parts}
 use Rattle.dm_mirror.specs.Made.{MadeStands}
 use Rattle.dm_mirror.specs.Own.{AllOwnStand}
 use Rattle.dm_mirror.specs.Stands.{KernelStands}

@@ -11,14 +11,14 @@ use Rattle.dm_onekernel.specs.Kernel.{OneKernel}
 use Rattle.dm_onekernel.specs.Options.{bind}
 use Rattle.dm_laws.proofs.Steps.{bind-is}
 use Rattle.dm_schedule.specs.declared.Step.{Step}
-use Rattle.dm_rule.specs.declared.line.Line.{Line}
-use Rattle.dm_rule.specs.declared.line.Line.TheVariants as line
-use Rattle.dm_rule.specs.declared.line.Stage.TheVariants as stage
+use Rattle.dm_line.specs.declared.line.Line.{Line}
+use Rattle.dm_line.specs.declared.line.Line.TheVariants as line
+use Rattle.dm_line.specs.declared.line.Stage.TheVariants as stage
 use Rattle.dm_rule.specs.Parts as rule
 use Rattle.dm_rule.specs.Parts.{Spelled, spelled}
 use Rattle.dm_rule.specs.Point.{Point, after_line, moved}
 use Rattle.dm_rule.specs.Rule.{group_of, headed, outcome}
-use Rattle.dm_rule.specs.Sets.{at_machine}
+use Rattle.dm_line.specs.Sets.{at_machine}
 use Rattle.dm_rule.specs.Spots.{standing}
 use Rattle.dm_rule.specs.View.{About, Pair, begins}
 use Rattle.dm_rule.specs.Worn.{worn_in}
@@ -27,8 +27,8 @@ use Rattle.dm_rule.proofs.States.{PairsFit}
 use Rattle.dm_rule.proofs.Telling.{AllSayable, Sane, outcome_sayable, sane_line}
 use Rattle.dm_rulelaws.specs.Found.{machine_of}
 use Rattle.dm_rulelaws.proofs.Runs.{Run}
-use Rattle.dm_placed.specs.Placed.{Placed, Mirrors}
-use Rattle.dm_placed.proofs.Lines.{lines_keep}
+use Rattle.dm_places.specs.Placed.{Placed, Mirrors}
+use Rattle.dm_places.proofs.Lines.{lines_keep}
 use Rattle.dm_kernel.specs.declared.part.Part.{Part}
 use Rattle.dm_kernel.specs.declared.part.Part.TheVariants as part
 use Rattle.dm_kernel.specs.Lawful.{IsLawfulPart, IsLawfulTurned}

@@ -12,23 +12,23 @@ use Rattle.dm_message.specs.declared.kind.MessageKind.TheVariants as kind
 use Rattle.dm_message.specs.Kinds.{kind_of}
 use Rattle.dm_message.specs.Plain.{plain_message}
 use Rattle.dm_process.specs.declared.process.Process.{Process}
-use Rattle.dm_forward.specs.Records.{incoming_of}
+use Rattle.dm_records.specs.Records.{incoming_of}
 use Rattle.dm_onekernel.specs.declared.boot.Boot.{Boot}
 use Rattle.dm_onekernel.specs.Boot.{manager}
 use Rattle.dm_schedule.specs.declared.Step.{Step}
 use Rattle.dm_schedule.specs.declared.Step.TheVariants as step
-use Rattle.dm_rule.specs.declared.line.Line.{Line}
-use Rattle.dm_rule.specs.declared.line.Line.TheVariants as line
-use Rattle.dm_rule.specs.declared.line.Stage.TheVariants as stage
+use Rattle.dm_line.specs.declared.line.Line.{Line}
+use Rattle.dm_line.specs.declared.line.Line.TheVariants as line
+use Rattle.dm_line.specs.declared.line.Stage.TheVariants as stage
 use Rattle.dm_rule.specs.Addresses.{Receiver, Sender, given, own_gives}
 use Rattle.dm_rule.specs.Parts as rule
 use Rattle.dm_rule.specs.Phases.{is_between}
 use Rattle.dm_rule.specs.Point.{Point, after, moved}
 use Rattle.dm_rule.specs.Rule.{outcome}
-use Rattle.dm_rule.specs.Sets.{at_machine}
+use Rattle.dm_line.specs.Sets.{at_machine}
 use Rattle.dm_rule.specs.Spots.{Spot, Queue, Held, Inbox, Untaken, standing}
 use Rattle.dm_rule.specs.View.{Known, Unknown, Here, Frozen, Incoming, Forward, Ended, Of, Told, own_id}
-use Rattle.dm_placed.specs.Placed.{Placed, Mirrors, enclosed}
+use Rattle.dm_places.specs.Placed.{Placed, Mirrors, enclosed}
 use Rattle.dm_kernel.specs.declared.part.Part.{Part}
 use Rattle.dm_kernel.specs.declared.part.Part.TheVariants as part
 use Rattle.dm_kernel.specs.State.{KernelState, Turned}
@@ -238,7 +238,6 @@ is_still (line.NoMove id) = false
 is_still (line.Proto id) = false
 is_still (line.NoChild p) = false
 is_still (line.Pinned p) = false
-is_still (line.End e) = false
 
 abbrev pub are_still : List Line → Bool
 are_still [] = true

@@ -5,14 +5,14 @@ use Rattle.dm_link.specs.Lawful.{IsMachine}
 use Rattle.dm_onekernel.specs.declared.boot.Boot.{Boot}
 use Rattle.dm_onekernel.specs.Boot.{IsValid}
 use Rattle.dm_schedule.specs.declared.Step.TheVariants as step
-use Rattle.dm_rule.specs.declared.line.Line.TheVariants as line
+use Rattle.dm_line.specs.declared.line.Line.TheVariants as line
 use Rattle.dm_rule.specs.Point.{Point, moved}
 use Rattle.dm_rule.specs.View.{NothingElse, Target}
 use Rattle.dm_rulelaws.proofs.GoesAlways.{goes_on}
 use Rattle.dm_rulelaws.proofs.GoesRuns.{RunGoes}
 use Rattle.dm_rulelaws.proofs.OwnTold.{OwnTold}
 use Rattle.dm_rulelaws.proofs.Runs.{Run}
-use Rattle.dm_placed.specs.Placed.{Placed}
+use Rattle.dm_places.specs.Placed.{Placed}
 use Rattle.dm_kernel.specs.declared.part.Part.TheVariants as part
 use Rattle.dm_kernel.specs.Asking.{asks_move}
 use Rattle.dm_kernel.specs.May.{MayTurn}

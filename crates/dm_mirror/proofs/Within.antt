@@ -14,7 +14,7 @@ use Rattle.dm_onekernel.specs.Boot.{first_number}
 use Rattle.dm_onekernel.specs.Kernel.{Life, OneKernel}
 use Rattle.dm_laws.proofs.Runs.{reached}
 use Rattle.dm_laws.proofs.Sound.{Sound}
-use Rattle.dm_rule.specs.declared.line.Line.{Line}
+use Rattle.dm_line.specs.declared.line.Line.{Line}
 use Rattle.dm_rule.specs.Addresses.{Receiver}
 use Rattle.dm_rule.specs.Homes.{to_of}
 use Rattle.dm_rule.specs.Point.{Point, after, labels}

@@ -6,15 +6,15 @@ use Rattle.dm_onekernel.specs.Boot.{IsValid}
 use Rattle.dm_schedule.specs.declared.Step.{Step}
 use Rattle.dm_schedule.specs.declared.Directive.{Directive}
 use Rattle.std.specs.List.{All}
-use Rattle.dm_rule.specs.declared.line.Line.{Line}
+use Rattle.dm_line.specs.declared.line.Line.{Line}
 use Rattle.dm_rule.specs.Ends as rule_ends
-use Rattle.dm_rule.specs.Good.{Todo, Next, all_of}
+use Rattle.dm_line.specs.Todo.{Todo, Next, all_of}
 use Rattle.dm_rule.specs.Good as rule
 use Rattle.dm_rule.specs.Laws.{IsStep, Leads}
 use Rattle.dm_rule.specs.Point.{Point, first_point}
 use Rattle.dm_rulelaws.specs.Order.{LeadsBy}
-use Rattle.dm_placed.specs.Following.{MirrorsPoint}
-use Rattle.dm_placed.specs.Placed.{Placed}
+use Rattle.dm_places.specs.Following.{MirrorsPoint}
+use Rattle.dm_places.specs.Placed.{Placed}
 use Rattle.dm_world.specs.World.{WorldState, first_world}
 use Rattle.dm_world.specs.May.{MayStep}
 use Rattle.dm_world.specs.Next as world

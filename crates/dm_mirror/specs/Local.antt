@@ -8,7 +8,7 @@ use Rattle.dm_wire.specs.Wire.{after_mark}
 use Rattle.dm_onekernel.specs.declared.boot.Boot.{Boot}
 use Rattle.dm_schedule.specs.declared.Step.{Step}
 use Rattle.dm_schedule.specs.declared.Step.TheVariants as step
-use Rattle.dm_rule.specs.declared.line.Line.TheVariants as line
+use Rattle.dm_line.specs.declared.line.Line.TheVariants as line
 use Rattle.dm_rule.specs.View.{actor}
 use Rattle.dm_node.specs.State.{here}
 use Rattle.dm_world.specs.World.{WorldState, Said, Says, world_step}

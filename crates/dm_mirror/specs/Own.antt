@@ -10,7 +10,7 @@ use Rattle.dm_message.specs.Kinds.{kind_of}
 use Rattle.dm_message.specs.Plain.{plain_message}
 use Rattle.dm_onekernel.specs.Boot.{manager}
 use Rattle.dm_rule.specs.View.{About, NothingElse, Target, Of, Place, Told, View, is_kernels}
-use Rattle.dm_placed.specs.Placed.{Placed}
+use Rattle.dm_places.specs.Placed.{Placed}
 
 -- what a message is about, by what it carries
 abbrev pub about_of : What → About

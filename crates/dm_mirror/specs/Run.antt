@@ -8,8 +8,9 @@ use Rattle.dm_laws.specs.Laws.{receptions}
 use Rattle.dm_message.specs.declared.MsgId.{MsgId}
 use Rattle.dm_schedule.specs.declared.Step.{Step}
 use Rattle.dm_schedule.specs.declared.Directive.{Directive}
-use Rattle.dm_rule.specs.declared.line.Line.{Line}
-use Rattle.dm_rule.specs.Good.{Todo, all_of, IsRun}
+use Rattle.dm_line.specs.declared.line.Line.{Line}
+use Rattle.dm_line.specs.Todo.{Todo, all_of}
+use Rattle.dm_rule.specs.Good.{IsRun}
 use Rattle.dm_rule.specs.Laws.{Leads}
 use Rattle.dm_rule.specs.Parts.{Spelled}
 use Rattle.dm_rule.specs.Point.{Point, first_point, labels}

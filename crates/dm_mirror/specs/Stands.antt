@@ -9,7 +9,7 @@ use Rattle.dm_message.specs.declared.Message.{Message}
 use Rattle.dm_message.specs.declared.MsgId.{MsgId}
 use Rattle.dm_message.specs.Lawful.{IsLawfulMessage}
 use Rattle.dm_room.specs.Room.{Taken}
-use Rattle.dm_forward.specs.declared.record.Record.TheVariants as record_
+use Rattle.dm_records.specs.declared.record.Record.TheVariants as record_
 use Rattle.dm_stream.specs.Packets as stream
 use Rattle.dm_stream.specs.Receiving.{kept_under}
 use Rattle.dm_stream.specs.Stream.{Stream}
@@ -29,13 +29,13 @@ use Rattle.dm_kernel.specs.Begun.{room_of}
 use Rattle.dm_kernel.specs.Lawful.{IsLawfulState}
 use Rattle.dm_node.specs.State.{NodeState}
 use Rattle.dm_node.specs.Out.{packet_of}
-use Rattle.dm_rule.specs.declared.line.Load.{Load}
-use Rattle.dm_rule.specs.declared.line.Load.TheVariants as load
+use Rattle.dm_line.specs.declared.line.Load.{Load}
+use Rattle.dm_line.specs.declared.line.Load.TheVariants as load
 use Rattle.dm_rule.specs.View.{Sent, Known, Unknown, Here, Frozen, Incoming, Forward, Ended}
 use Rattle.dm_rule.specs.Point.{Point}
 use Rattle.dm_rule.specs.Rule.{Room, taken_at, has}
 use Rattle.dm_rulelaws.specs.Fits.{is_server}
-use Rattle.dm_placed.specs.Placed.{Placed, Mirrors}
+use Rattle.dm_places.specs.Placed.{Placed, Mirrors}
 use Rattle.dm_world.specs.World.{WorldState}
 use Rattle.dm_mirror.specs.Own.{AllOwnStand}
 use Rattle.dm_mirror.specs.Tokens.{TokensStand}

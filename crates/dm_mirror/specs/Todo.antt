@@ -3,7 +3,7 @@ use Rattle.std.specs.Prelude.{◌≢◌, ⊤, ℕ, ◌<◌}
 use Rattle.std.specs.List.{All}
 use Rattle.dm_schedule.specs.declared.Directive.{Directive}
 use Rattle.dm_schedule.specs.declared.Directive.TheVariants as directive
-use Rattle.dm_rule.specs.Good.{Two, Todo}
+use Rattle.dm_line.specs.Todo.{Two, Todo}
 use Rattle.dm_rule.specs.Laws.{IsStep}
 
 -- two different machines

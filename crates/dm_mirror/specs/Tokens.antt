@@ -9,7 +9,7 @@ use Rattle.dm_message.specs.declared.MsgId.{MsgId}
 use Rattle.dm_message.specs.declared.What.{What}
 use Rattle.dm_message.specs.declared.What.TheVariants as what
 use Rattle.dm_process.specs.declared.process.Process.{Process}
-use Rattle.dm_forward.specs.Records.{incoming_of}
+use Rattle.dm_records.specs.Records.{incoming_of}
 use Rattle.dm_migrate.specs.declared.arriving.Wanted.{Wanted}
 use Rattle.dm_migrate.specs.declared.arriving.Wanted.TheVariants.{Chunk, Block, Nothing}
 use Rattle.dm_migrate.specs.Arrival.{Arrival}
@@ -19,7 +19,7 @@ use Rattle.dm_kernel.specs.State as machine
 use Rattle.dm_rule.specs.Phases.{is_between, is_of_source}
 use Rattle.dm_rule.specs.Spots.{Spot, standing}
 use Rattle.dm_rule.specs.View.{Of, Told, View}
-use Rattle.dm_placed.specs.Placed.{Placed}
+use Rattle.dm_places.specs.Placed.{Placed}
 
 -- the chunks of a process's state
 abbrev pub chunks : Process → ℕ

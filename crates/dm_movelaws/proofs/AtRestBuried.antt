@@ -16,13 +16,13 @@ use Rattle.dm_onekernel.specs.Step as kernel
 use Rattle.dm_schedule.specs.declared.Step.{Step}
 use Rattle.dm_laws.proofs.Grown.{LifeGrows}
 use Rattle.dm_laws.proofs.Runs.{after_step}
-use Rattle.dm_rule.specs.declared.line.Line.TheVariants as line
-use Rattle.dm_rule.specs.declared.line.Stage.TheVariants as stage
+use Rattle.dm_line.specs.declared.line.Line.TheVariants as line
+use Rattle.dm_line.specs.declared.line.Stage.TheVariants as stage
 use Rattle.dm_rule.specs.Parts.{Spelled}
 use Rattle.dm_rule.specs.Phases.{is_away}
 use Rattle.dm_rule.specs.Point.{Point, kernel_after, label_of}
 use Rattle.dm_rule.specs.Rule.{group_of}
-use Rattle.dm_rule.specs.Sets.{at_record, without_id, without_front}
+use Rattle.dm_line.specs.Sets.{at_record, without_id, without_front}
 use Rattle.dm_rule.specs.View.{View, Told, Known, Unknown, Here, Frozen, Incoming, Forward, Ended, handled, receiver_of, served_told, view_after, target_of, front_told, front_of, gone_to}
 use Rattle.dm_rule.specs.View as view
 use Rattle.dm_rule.proofs.PhasesAlways.{Phased}

@@ -17,16 +17,16 @@ use Rattle.dm_onekernel.specs.Options.{bind}
 use Rattle.dm_laws.proofs.Steps.{bind-is}
 use Rattle.dm_schedule.specs.declared.Step.{Step}
 use Rattle.dm_schedule.specs.declared.Step.TheVariants as step
-use Rattle.dm_rule.specs.declared.line.Line.{Line}
-use Rattle.dm_rule.specs.declared.line.Line.TheVariants as line
-use Rattle.dm_rule.specs.declared.line.Load.TheVariants as load
-use Rattle.dm_rule.specs.declared.line.Stage.{Stage}
-use Rattle.dm_rule.specs.declared.line.Stage.TheVariants as stage
+use Rattle.dm_line.specs.declared.line.Line.{Line}
+use Rattle.dm_line.specs.declared.line.Line.TheVariants as line
+use Rattle.dm_line.specs.declared.line.Load.TheVariants as load
+use Rattle.dm_line.specs.declared.line.Stage.{Stage}
+use Rattle.dm_line.specs.declared.line.Stage.TheVariants as stage
 use Rattle.dm_rule.specs.Addresses.{Addresses, Receiver, child_number}
 use Rattle.dm_rule.specs.Migrating.{migrates, migrates_child}
 use Rattle.dm_rule.specs.Parts.{Part, Says, Routes, Again, Owns, Transmits, Spelled, lines_of, puts, goes_out, packet_line, behind, spelled}
 use Rattle.dm_rule.specs.Point.{Point, after_line, after}
-use Rattle.dm_rule.specs.Sets.{at_record}
+use Rattle.dm_line.specs.Sets.{at_record}
 use Rattle.dm_rule.specs.View.{View, Told, About, NothingElse, Target, Of, Known, Unknown, Here, Frozen, Incoming, Forward, Ended, view_after, handled, receiver_of}
 use Rattle.dm_rule.specs.View as view
 use Rattle.dm_rule.proofs.Groups.{IsNetLine, IsNet}
@@ -186,7 +186,6 @@ line_only before v (line.Here id) e h = only_as before v (view_after v (line.Her
 line_only before v (line.NoMove id) e h = only_as before v (view_after v (line.NoMove id)) refl h
 line_only before v (line.NoChild p) e h = only_as before v (view_after v (line.NoChild p)) refl h
 line_only before v (line.Pinned p) e h = only_as before v (view_after v (line.Pinned p)) refl h
-line_only before v (line.End x) e h = only_as before v (view_after v (line.End x)) refl h
 
 -- parts that end nothing
 one_view : (pt next : Point) (l : Line) → after pt (l ∷ []) ≡ Some next → next.view ≡ view_after pt.view l
@@ -259,7 +258,6 @@ net_stays (line.Here id) h = absurd h
 net_stays (line.NoMove id) h = absurd h
 net_stays (line.NoChild p) h = absurd h
 net_stays (line.Pinned p) h = absurd h
-net_stays (line.End x) h = absurd h
 net_stays line.Nothing h = refl
 
 pub nets_stay : (ps : List Part) → IsNet ps → AllStay ps

@@ -16,12 +16,12 @@ use Rattle.dm_onekernel.specs.Options.{bind}
 use Rattle.dm_laws.proofs.Steps.{bind-is}
 use Rattle.dm_schedule.specs.declared.Step.{Step}
 use Rattle.dm_schedule.specs.declared.Step.TheVariants as step
-use Rattle.dm_rule.specs.declared.line.Line.{Line}
-use Rattle.dm_rule.specs.declared.line.Line.TheVariants as line
-use Rattle.dm_rule.specs.declared.line.Load.{Load}
-use Rattle.dm_rule.specs.declared.line.Load.TheVariants as load
-use Rattle.dm_rule.specs.declared.line.Stage.{Stage}
-use Rattle.dm_rule.specs.declared.line.Stage.TheVariants as stage
+use Rattle.dm_line.specs.declared.line.Line.{Line}
+use Rattle.dm_line.specs.declared.line.Line.TheVariants as line
+use Rattle.dm_line.specs.declared.line.Load.{Load}
+use Rattle.dm_line.specs.declared.line.Load.TheVariants as load
+use Rattle.dm_line.specs.declared.line.Stage.{Stage}
+use Rattle.dm_line.specs.declared.line.Stage.TheVariants as stage
 use Rattle.dm_rule.specs.Addresses.{Receiver}
 use Rattle.dm_rule.specs.Laws.{IsStep, Leads}
 use Rattle.dm_rule.specs.Migrating.{migrates}
@@ -29,7 +29,7 @@ use Rattle.dm_rule.specs.Parts.{Part, Says, Routes, Again, Owns, Transmits, Spel
 use Rattle.dm_rule.specs.Point.{Point, first_point, moved, after_line, after}
 use Rattle.dm_rule.specs.Rule as rule
 use Rattle.dm_rule.specs.Rule.{group_of}
-use Rattle.dm_rule.specs.Sets.{at_pair}
+use Rattle.dm_line.specs.Sets.{at_pair}
 use Rattle.dm_rule.specs.View.{View, Pair, Told, About, NothingElse, Target, Of, view_after, after_head, after_put, with_pair, handled, receiver_of}
 use Rattle.dm_rule.specs.View as view
 use Rattle.dm_rule.proofs.Groups.{IsNetLine, IsNet, group_is, arrives_net, resends_net}
@@ -170,7 +170,6 @@ calm_line n v (line.Here id) calm h = alike n v (view_after v (line.Here id)) re
 calm_line n v (line.NoMove id) calm h = alike n v (view_after v (line.NoMove id)) refl refl h
 calm_line n v (line.NoChild p) calm h = alike n v (view_after v (line.NoChild p)) refl refl h
 calm_line n v (line.Pinned p) calm h = alike n v (view_after v (line.Pinned p)) refl refl h
-calm_line n v (line.End x) calm h = alike n v (view_after v (line.End x)) refl refl h
 calm_line n v line.Nothing calm h = alike n v (view_after v line.Nothing) refl refl h
 
 -- all parts are such lines, puts by the acting machine, and packets
@@ -209,7 +208,6 @@ calm_of (line.Here id) e = refl
 calm_of (line.NoMove id) e = refl
 calm_of (line.NoChild p) e = refl
 calm_of (line.Pinned p) e = refl
-calm_of (line.End x) e = refl
 calm_of line.Nothing e = refl
 
 net_calm : (l : Line) → IsNetLine l → is_calm l ≡ true
@@ -236,7 +234,6 @@ net_calm (line.Here id) h = absurd h
 net_calm (line.NoMove id) h = absurd h
 net_calm (line.NoChild p) h = absurd h
 net_calm (line.Pinned p) h = absurd h
-net_calm (line.End x) h = absurd h
 net_calm line.Nothing h = refl
 
 fit_calm : (f : ℕ → ℕ → Pair) (ps : List Part) → AllFit f ps → AllCalm ps

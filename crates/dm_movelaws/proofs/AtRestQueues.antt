@@ -16,14 +16,14 @@ use Rattle.dm_laws.proofs.Equal as equal
 use Rattle.dm_laws.proofs.Equal.{id_eq-same, pid_eq-same}
 use Rattle.dm_schedule.specs.declared.Step.{Step}
 use Rattle.dm_schedule.specs.declared.Step.TheVariants as step
-use Rattle.dm_rule.specs.declared.line.Line.{Line}
-use Rattle.dm_rule.specs.declared.line.Line.TheVariants as line
+use Rattle.dm_line.specs.declared.line.Line.{Line}
+use Rattle.dm_line.specs.declared.line.Line.TheVariants as line
 use Rattle.dm_rule.specs.Migrating.{migrates}
 use Rattle.dm_rule.specs.Parts.{Part, Says, Routes, Again, Owns, Transmits, Spelled, spelled}
 use Rattle.dm_rule.specs.Point.{Point, moved}
 use Rattle.dm_rule.specs.Rule as rule
 use Rattle.dm_rule.specs.Rule.{group_of}
-use Rattle.dm_rule.specs.Sets.{at_record, without_front}
+use Rattle.dm_line.specs.Sets.{at_record, without_front}
 use Rattle.dm_rule.specs.Spots.{times}
 use Rattle.dm_rule.specs.View.{View, Told, About, NothingElse, Target, Of, Known, Unknown, Here, Frozen, Incoming, Forward, Ended, view_after, handled, receiver_of}
 use Rattle.dm_rule.specs.View as view
@@ -209,7 +209,6 @@ line_cleared o a (line.NoMove id) ps pt z h ends is = stays_cleared o a (Says (l
 line_cleared o a (line.Proto id) ps pt z h ends is = stays_cleared o a (Says (line.Proto id) ∷ ps) pt z h (refl, ends) is
 line_cleared o a (line.NoChild p) ps pt z h ends is = stays_cleared o a (Says (line.NoChild p) ∷ ps) pt z h (refl, ends) is
 line_cleared o a (line.Pinned p) ps pt z h ends is = stays_cleared o a (Says (line.Pinned p) ∷ ps) pt z h (refl, ends) is
-line_cleared o a (line.End x) ps pt z h ends is = stays_cleared o a (Says (line.End x) ∷ ps) pt z h (refl, ends) is
 
 last_cleared : (o : Point) (a : ℕ) (ps : List Part) (pt : Point) (z : Spelled) → Starts o a pt.view → LastEnds o a ps → spelled pt ps ≡ Some z → Cleared o.view.known z.point.view
 last_cleared o a [] pt z h ends is = stays_cleared o a [] pt z h tt is

@@ -12,8 +12,8 @@ use Rattle.dm_message.specs.declared.kind.MessageKind.{MessageKind}
 use Rattle.dm_message.specs.declared.kind.MessageKind.TheVariants as kind
 use Rattle.dm_onekernel.specs.Kernel.{OneKernel}
 use Rattle.dm_laws.proofs.Steps.{bind-is}
-use Rattle.dm_rule.specs.declared.line.Line.{Line}
-use Rattle.dm_rule.specs.declared.line.Line.TheVariants as line
+use Rattle.dm_line.specs.declared.line.Line.{Line}
+use Rattle.dm_line.specs.declared.line.Line.TheVariants as line
 use Rattle.dm_rule.specs.Addresses.{Addresses, Holder, Slot, Owner, Receiver, Sender, Enclosed, Child, Name, Answer, Gets, gets, holder_eq, unmoved, given, gives, belongs_to, leads_to, is_pid, is_behind, tells_back, is_told_back, forwards, all_follow, child_number, place_of_child, own_gives, first_gives, place_told, updated, updated_to, addresses_after}
 use Rattle.dm_rule.specs.Point.{Point, label_of, kernel_after, moved, after_line, after}
 use Rattle.dm_rule.specs.View.{View, Told, About}
@@ -163,7 +163,6 @@ by_line pt (line.NoMove id) h mine e = omega arith
 by_line pt (line.Proto id) h mine e = omega arith
 by_line pt (line.NoChild p) h mine e = omega arith
 by_line pt (line.Pinned p) h mine e = omega arith
-by_line pt (line.End x) h mine e = omega arith
 
 -- and so all lines of a group
 in_some : (o : Option Point) (f : Point → Bool) (next : Point) → o ≡ Some next → in_next o f ≡ false → f next ≡ false

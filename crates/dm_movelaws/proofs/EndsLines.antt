@@ -13,10 +13,10 @@ use Rattle.dm_onekernel.specs.declared.label.Label.{Label}
 use Rattle.dm_onekernel.specs.declared.label.Label.TheVariants as label
 use Rattle.dm_onekernel.specs.Kernel.{OneKernel}
 use Rattle.dm_onekernel.specs.Step as kernel
-use Rattle.dm_rule.specs.declared.line.Line.{Line}
-use Rattle.dm_rule.specs.declared.line.Line.TheVariants as line
-use Rattle.dm_rule.specs.declared.line.Stage.TheVariants as stage
-use Rattle.dm_rule.specs.Sets.{at_record, without_id}
+use Rattle.dm_line.specs.declared.line.Line.{Line}
+use Rattle.dm_line.specs.declared.line.Line.TheVariants as line
+use Rattle.dm_line.specs.declared.line.Stage.TheVariants as stage
+use Rattle.dm_line.specs.Sets.{at_record, without_id}
 use Rattle.dm_rule.specs.View.{View, About, NothingElse, Target, Of, Known, Told, view_after, handled, receiver_of, after_put}
 use Rattle.dm_rule.specs.View as view
 use Rattle.dm_rule.specs.Point.{Point, label_of, kernel_after}
@@ -71,7 +71,6 @@ QuietLine p v (line.Acked a b n) = ⊥
 QuietLine p v (line.SentOn q n) = ⊥
 QuietLine p v (line.Lacks q a b) = ⊥
 QuietLine p v (line.Stays q) = ⊥
-QuietLine p v (line.End x) = ⊥
 
 pub told_one : (o : Option Told) (t u : Told) → o ≡ Some t → o ≡ Some u → t ≡ u
 told_one o t u e f = let g : Some t ≡ Some u = sym e ∙ f in cc
@@ -170,7 +169,6 @@ line_smooth p pt s (line.Acked a b n) h quiet is = absurd quiet
 line_smooth p pt s (line.SentOn q n) h quiet is = absurd quiet
 line_smooth p pt s (line.Lacks q a b) h quiet is = absurd quiet
 line_smooth p pt s (line.Stays q) h quiet is = absurd quiet
-line_smooth p pt s (line.End x) h quiet is = absurd quiet
 line_smooth p pt s (line.Migration stage.Frozen q) h quiet is = absurd quiet
 line_smooth p pt s (line.Migration stage.Asked q) h quiet is = smooth_same p pt.view
 line_smooth p pt s (line.Migration stage.Accepted q) h quiet is = absurd quiet

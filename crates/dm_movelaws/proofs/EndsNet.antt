@@ -8,9 +8,9 @@ use Rattle.dm_link.specs.declared.Pid.{Pid}
 use Rattle.dm_message.specs.declared.MsgId.{MsgId}
 use Rattle.dm_schedule.specs.declared.Step.{Step}
 use Rattle.dm_schedule.specs.declared.Step.TheVariants as step
-use Rattle.dm_rule.specs.declared.line.Line.{Line}
-use Rattle.dm_rule.specs.declared.line.Line.TheVariants as line
-use Rattle.dm_rule.specs.Sets.{at_machine, at_pair}
+use Rattle.dm_line.specs.declared.line.Line.{Line}
+use Rattle.dm_line.specs.declared.line.Line.TheVariants as line
+use Rattle.dm_line.specs.Sets.{at_machine, at_pair}
 use Rattle.dm_rule.specs.View.{View, Pair, Told, view_after, after_head, taken_id, with_pair}
 use Rattle.dm_rule.specs.Point.{Point, moved}
 use Rattle.dm_rule.specs.Parts.{Part, Says, Routes, Again, Owns, Transmits, Spelled, packet_line, spelled}
@@ -163,7 +163,6 @@ net_smooth p v (line.NoMove i) h = absurd h
 net_smooth p v (line.Proto i) h = absurd h
 net_smooth p v (line.NoChild q) h = absurd h
 net_smooth p v (line.Pinned q) h = absurd h
-net_smooth p v (line.End x) h = absurd h
 
 net_still : (p : Pid) (v : View) (l : Line) → IsNetLine l → Still p v (view_after v l)
 net_still p v (line.Taken a b n) h = λ m. taken_still p (taken_view v a b n) b (slice_get (v.pair a b).ids (v.pair a b).taken) m
@@ -190,7 +189,6 @@ net_still p v (line.NoMove i) h = absurd h
 net_still p v (line.Proto i) h = absurd h
 net_still p v (line.NoChild q) h = absurd h
 net_still p v (line.Pinned q) h = absurd h
-net_still p v (line.End x) h = absurd h
 
 -- what a group keeps
 pub record Level (p : Pid) (v w : View) : Type 0 where

@@ -9,7 +9,7 @@ use Rattle.dm_message.specs.declared.MsgId.{MsgId}
 use Rattle.dm_message.specs.Ids.{id_eq}
 use Rattle.dm_laws.proofs.Equal.{id_eq-is, id_eq-same, id_eq-swap}
 use Rattle.dm_rule.specs.Parts.{Part}
-use Rattle.dm_rule.specs.Sets.{without_id}
+use Rattle.dm_line.specs.Sets.{without_id}
 use Rattle.dm_rule.specs.Spots.{Spot, times, standing}
 use Rattle.dm_rule.specs.View.{View, Told}
 use Rattle.dm_rule.proofs.Lines.{not_true, without_counts}

@@ -14,12 +14,12 @@ use Rattle.dm_onekernel.specs.declared.label.Label.{Label}
 use Rattle.dm_onekernel.specs.Kernel.{OneKernel}
 use Rattle.dm_onekernel.specs.Options.{bind}
 use Rattle.dm_laws.proofs.Equal.{id_eq-same, pid_eq-is, pid_eq-same}
-use Rattle.dm_rule.specs.declared.line.Line.{Line}
+use Rattle.dm_line.specs.declared.line.Line.{Line}
 use Rattle.dm_rule.specs.View.{View, Told, Of, Known, view_after, handled_first}
 use Rattle.dm_rule.specs.Point.{Point, label_of, kernel_after, moved, after_line}
 use Rattle.dm_rule.specs.Parts.{Part, Says, Spelled, spelled}
 use Rattle.dm_rule.specs.Phases.{is_between}
-use Rattle.dm_rule.specs.Sets.{at_record}
+use Rattle.dm_line.specs.Sets.{at_record}
 use Rattle.dm_rule.specs.Spots.{Spot, Inbox, times, ids_at, standing}
 use Rattle.dm_rule.proofs.Hushed.{is_put}
 use Rattle.dm_rule.proofs.Lines.{not_true, at_record_at, at_record_off}

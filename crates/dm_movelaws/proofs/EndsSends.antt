@@ -12,10 +12,10 @@ use Rattle.dm_message.specs.Ids.{id_eq}
 use Rattle.dm_onekernel.specs.Options.{bind}
 use Rattle.dm_laws.proofs.Equal.{id_eq-is, id_eq-same}
 use Rattle.dm_laws.proofs.Steps.{bind-is}
-use Rattle.dm_rule.specs.declared.line.Line.{Line}
-use Rattle.dm_rule.specs.declared.line.Line.TheVariants as line
-use Rattle.dm_rule.specs.declared.line.Load.TheVariants as load
-use Rattle.dm_rule.specs.Sets.{at_machine, at_record}
+use Rattle.dm_line.specs.declared.line.Line.{Line}
+use Rattle.dm_line.specs.declared.line.Line.TheVariants as line
+use Rattle.dm_line.specs.declared.line.Load.TheVariants as load
+use Rattle.dm_line.specs.Sets.{at_machine, at_record}
 use Rattle.dm_rule.specs.View.{View, Told, Known, Here, view_after, after_put, handled, handled_first, held_for, forwarded_for, receiver_of, released, with_ring, knowing}
 use Rattle.dm_rule.specs.View as view
 use Rattle.dm_rule.specs.Point.{Point, moved, after}

@@ -13,7 +13,7 @@ use Rattle.dm_message.specs.Kinds.{plain_kind}
 use Rattle.dm_message.specs.Plain as what
 use Rattle.dm_message.specs.Plain.{PlainMessage, PlainWhat}
 use Rattle.dm_laws.proofs.Equal.{id_eq-is}
-use Rattle.dm_rule.specs.declared.line.Line.{Line}
+use Rattle.dm_line.specs.declared.line.Line.{Line}
 use Rattle.dm_rule.specs.Point.{Point}
 use Rattle.dm_rule.specs.Spots.{Spot, times, ids_at, standing}
 use Rattle.dm_rule.specs.View.{View, Told, view_after, own_id}

@@ -15,10 +15,10 @@ use Rattle.dm_schedule.specs.declared.Step.{Step}
 use Rattle.dm_schedule.specs.declared.Step.TheVariants as step
 use Rattle.dm_laws.proofs.Equal.{id_eq-is}
 use Rattle.dm_laws.proofs.Steps.{bind-is}
-use Rattle.dm_rule.specs.declared.line.Line.{Line}
-use Rattle.dm_rule.specs.declared.line.Line.TheVariants as line
-use Rattle.dm_rule.specs.declared.line.Stage.TheVariants as stage
-use Rattle.dm_rule.specs.Sets.{at_pair}
+use Rattle.dm_line.specs.declared.line.Line.{Line}
+use Rattle.dm_line.specs.declared.line.Line.TheVariants as line
+use Rattle.dm_line.specs.declared.line.Stage.TheVariants as stage
+use Rattle.dm_line.specs.Sets.{at_pair}
 use Rattle.dm_rule.specs.Addresses.{Receiver}
 use Rattle.dm_rule.specs.Laws.{IsStep}
 use Rattle.dm_rule.specs.Migrating.{migrates}
@@ -93,7 +93,6 @@ line_ids v (line.NoMove i) e a b = refl
 line_ids v (line.Proto i) e a b = ap (λ (f : ℕ → ℕ → Pair). (f a b).ids) (pair_same v (line.Proto i) refl)
 line_ids v (line.NoChild p) e a b = refl
 line_ids v (line.Pinned p) e a b = refl
-line_ids v (line.End x) e a b = refl
 
 -- no line but a head sets the machine that acts
 abbrev is_head : Line → Bool
@@ -157,7 +156,6 @@ line_acting v (line.NoMove i) e = refl
 line_acting v (line.Proto i) e = proto_acting (handled v i) (v.told i)
 line_acting v (line.NoChild p) e = refl
 line_acting v (line.Pinned p) e = refl
-line_acting v (line.End x) e = refl
 
 -- what stands between the lines of a group
 pub record Acts (n : ℕ) (f : MsgId → Option Told) (v : View) : Type 0 where

@@ -11,9 +11,9 @@ use Rattle.dm_message.specs.declared.kind.MessageKind.{MessageKind}
 use Rattle.dm_message.specs.declared.kind.MessageKind.TheVariants as kind
 use Rattle.dm_onekernel.specs.PlainProcess.{PlainProcess}
 use Rattle.dm_laws.proofs.Equal.{pid_eq-is}
-use Rattle.dm_rule.specs.declared.line.Line.{Line}
-use Rattle.dm_rule.specs.declared.line.Line.TheVariants as line
-use Rattle.dm_rule.specs.declared.line.Stage.TheVariants as stage
+use Rattle.dm_line.specs.declared.line.Line.{Line}
+use Rattle.dm_line.specs.declared.line.Line.TheVariants as line
+use Rattle.dm_line.specs.declared.line.Stage.TheVariants as stage
 use Rattle.dm_rule.specs.Migrating.{to_kernel, accepts, takes_chunk, takes_block, leaves, sends_on, kernel_told, chunks_of, pieces_of}
 use Rattle.dm_rule.specs.View.{View, Told, Of, Known, Unknown, Here, Frozen, Incoming, Forward, Ended, view_after, handled_first, rejoins, front_of, gone_to}
 use Rattle.dm_rule.specs.Point.{Point, moved}

@@ -9,10 +9,10 @@ use Rattle.dm_link.specs.Names.{pid_eq}
 use Rattle.dm_message.specs.declared.MsgId.{MsgId}
 use Rattle.dm_onekernel.specs.declared.label.Label.{Label}
 use Rattle.dm_onekernel.specs.declared.label.Label.TheVariants as label
-use Rattle.dm_rule.specs.declared.line.Line.{Line}
-use Rattle.dm_rule.specs.declared.line.Line.TheVariants as line
-use Rattle.dm_rule.specs.declared.line.Stage.TheVariants as stage
-use Rattle.dm_rule.specs.Sets.{at_record}
+use Rattle.dm_line.specs.declared.line.Line.{Line}
+use Rattle.dm_line.specs.declared.line.Line.TheVariants as line
+use Rattle.dm_line.specs.declared.line.Stage.TheVariants as stage
+use Rattle.dm_line.specs.Sets.{at_record}
 use Rattle.dm_rule.specs.View.{View, About, NothingElse, Target, Of, Known, Unknown, Here, Ended, Told, view_after, handled, receiver_of}
 use Rattle.dm_rule.specs.View as view
 use Rattle.dm_rule.specs.Point.{Point}
@@ -106,7 +106,6 @@ line_still p pt (line.Acked a b n) quiet need = absurd quiet
 line_still p pt (line.SentOn q n) quiet need = absurd quiet
 line_still p pt (line.Lacks q a b) quiet need = absurd quiet
 line_still p pt (line.Stays q) quiet need = absurd quiet
-line_still p pt (line.End x) quiet need = absurd quiet
 line_still p pt (line.Migration stage.Frozen q) quiet need = absurd quiet
 line_still p pt (line.Migration stage.Asked q) quiet need = λ m. refl
 line_still p pt (line.Migration stage.Accepted q) quiet need = absurd quiet
@@ -143,7 +142,6 @@ quiet_ends p v (line.Acked a b n) f quiet ext = refl
 quiet_ends p v (line.SentOn q n) f quiet ext = refl
 quiet_ends p v (line.Lacks q a b) f quiet ext = refl
 quiet_ends p v (line.Stays q) f quiet ext = absurd quiet
-quiet_ends p v (line.End x) f quiet ext = refl
 quiet_ends p v (line.Migration stage.Frozen q) f quiet ext = refl
 quiet_ends p v (line.Migration stage.Asked q) f quiet ext = refl
 quiet_ends p v (line.Migration stage.Accepted q) f quiet ext = refl

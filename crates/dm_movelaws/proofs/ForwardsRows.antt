@@ -11,7 +11,7 @@ use Rattle.dm_message.specs.declared.kind.MessageKind.TheVariants as kind
 use Rattle.dm_message.specs.Kinds.{plain_kind}
 use Rattle.dm_message.specs.Plain as what
 use Rattle.dm_message.specs.Plain.{PlainMessage, PlainWhat}
-use Rattle.dm_regs.specs.Instructions.{instruction}
+use Rattle.dm_processor.specs.Instructions.{instruction}
 use Rattle.dm_onekernel.specs.declared.boot.BootImage.{BootImage}
 use Rattle.dm_onekernel.specs.declared.boot.Boot.{Boot}
 use Rattle.dm_onekernel.specs.declared.label.Label.{Label}
@@ -30,9 +30,9 @@ use Rattle.dm_onekernel.specs.Step.{machine_of, with_machine}
 use Rattle.dm_link.specs.Names.{pid_of}
 use Rattle.dm_schedule.specs.declared.Step.{Step}
 use Rattle.dm_schedule.specs.declared.Step.TheVariants as step
-use Rattle.dm_rule.specs.declared.line.Line.{Line}
-use Rattle.dm_rule.specs.declared.line.Line.TheVariants as line
-use Rattle.dm_rule.specs.declared.line.Stage.TheVariants as stage
+use Rattle.dm_line.specs.declared.line.Line.{Line}
+use Rattle.dm_line.specs.declared.line.Line.TheVariants as line
+use Rattle.dm_line.specs.declared.line.Stage.TheVariants as stage
 use Rattle.dm_rule.specs.Addresses.{Addresses, Sender, is_told_back, child_number}
 use Rattle.dm_rule.specs.Migrating as migrating
 use Rattle.dm_rule.specs.Migrating.{forwards_on, sends_on, kernel_told, leaves, moves_to, accepts, takes_chunk, takes_block, here_told, ended_told, process_told, server_told, migrates, migrates_child}

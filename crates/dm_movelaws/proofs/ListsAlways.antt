@@ -14,7 +14,7 @@ use Rattle.dm_laws.proofs.Equal.{id_eq-same}
 use Rattle.dm_laws.proofs.Steps.{bind-is}
 use Rattle.dm_schedule.specs.declared.Step.{Step}
 use Rattle.dm_schedule.specs.declared.Step.TheVariants as step
-use Rattle.dm_rule.specs.declared.line.Line.TheVariants as line
+use Rattle.dm_line.specs.declared.line.Line.TheVariants as line
 use Rattle.dm_rule.specs.Laws.{Leads}
 use Rattle.dm_rule.specs.Migrating.{migrates}
 use Rattle.dm_rule.specs.Parts.{Part, Says, Spelled, spelled}

@@ -17,16 +17,16 @@ use Rattle.dm_laws.proofs.Equal.{id_eq-is}
 use Rattle.dm_laws.proofs.Steps.{bind-is}
 use Rattle.dm_schedule.specs.declared.Step.{Step}
 use Rattle.dm_schedule.specs.declared.Step.TheVariants as step
-use Rattle.dm_rule.specs.declared.line.Line.{Line}
-use Rattle.dm_rule.specs.declared.line.Line.TheVariants as line
-use Rattle.dm_rule.specs.declared.line.Load.{Load}
-use Rattle.dm_rule.specs.declared.line.Load.TheVariants as load
-use Rattle.dm_rule.specs.declared.line.Stage.{Stage}
-use Rattle.dm_rule.specs.declared.line.Stage.TheVariants as stage
+use Rattle.dm_line.specs.declared.line.Line.{Line}
+use Rattle.dm_line.specs.declared.line.Line.TheVariants as line
+use Rattle.dm_line.specs.declared.line.Load.{Load}
+use Rattle.dm_line.specs.declared.line.Load.TheVariants as load
+use Rattle.dm_line.specs.declared.line.Stage.{Stage}
+use Rattle.dm_line.specs.declared.line.Stage.TheVariants as stage
 use Rattle.dm_rule.specs.Addresses.{Receiver}
 use Rattle.dm_rule.specs.Parts.{Part, Says, Routes, Again, Owns, Transmits, Spelled, lines_of, puts, goes_out, packet_line, behind, spelled}
 use Rattle.dm_rule.specs.Point.{Point, after_line, after}
-use Rattle.dm_rule.specs.Sets.{at_record, without_id, without_front}
+use Rattle.dm_line.specs.Sets.{at_record, without_id, without_front}
 use Rattle.dm_rule.specs.View.{View, Told, About, NothingElse, Target, Of, view_after, handled, receiver_of, first_told}
 use Rattle.dm_rule.specs.View as view
 use Rattle.dm_rule.proofs.Groups.{IsNetLine, IsNet}
@@ -80,7 +80,6 @@ net_ok ok (line.Here id) h = absurd h
 net_ok ok (line.NoMove id) h = absurd h
 net_ok ok (line.NoChild p) h = absurd h
 net_ok ok (line.Pinned p) h = absurd h
-net_ok ok (line.End x) h = absurd h
 net_ok ok line.Nothing h = tt
 
 pub nets_ok : (ok : MsgId → Type 0) (ps : List Part) → IsNet ps → AllOk ok ps
@@ -255,7 +254,6 @@ line_queues before v (line.Here id) e h = quiet_queues before v (line.Here id) r
 line_queues before v (line.NoMove id) e h = quiet_queues before v (line.NoMove id) refl refl h
 line_queues before v (line.NoChild p) e h = h
 line_queues before v (line.Pinned p) e h = h
-line_queues before v (line.End x) e h = h
 
 -- lines, one after another
 abbrev LinesOk : (MsgId → Type 0) → List Line → Type 0

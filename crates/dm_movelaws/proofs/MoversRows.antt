@@ -14,8 +14,8 @@ use Rattle.dm_message.specs.Plain.{PlainMessage, PlainWhat}
 use Rattle.dm_process.specs.Directions.{direction_numbered}
 use Rattle.dm_process.specs.declared.process.Direction.{Direction}
 use Rattle.dm_process.specs.declared.process.Direction.TheVariants as direction
-use Rattle.dm_regs.specs.Instructions.{Row, instruction}
-use Rattle.dm_regs.specs.Instructions as row
+use Rattle.dm_processor.specs.Instructions.{Row, instruction}
+use Rattle.dm_processor.specs.Instructions as row
 use Rattle.dm_onekernel.specs.Boot.{switchboard, manager}
 use Rattle.dm_onekernel.specs.declared.label.Label.{Label}
 use Rattle.dm_onekernel.specs.declared.label.Label.TheVariants as label

@@ -13,7 +13,7 @@ use Rattle.dm_onekernel.specs.Step as kernel
 use Rattle.dm_onekernel.specs.Step.{replay}
 use Rattle.dm_laws.proofs.Steps.{bind-is}
 use Rattle.dm_schedule.specs.declared.Step.{Step}
-use Rattle.dm_rule.specs.declared.line.Line.{Line}
+use Rattle.dm_line.specs.declared.line.Line.{Line}
 use Rattle.dm_rule.specs.Point.{Point, label_of, with_label, labels, kernel_after, first_point}
 use Rattle.dm_rulelaws.specs.Order.{LeadsBy}
 use Rattle.dm_rulelaws.proofs.RunLabels.{labels-append, replay-append}

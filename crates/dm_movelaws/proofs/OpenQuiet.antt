@@ -18,9 +18,9 @@ use Rattle.dm_onekernel.specs.Step as kernel
 use Rattle.dm_laws.proofs.Steps.{bind-is}
 use Rattle.dm_schedule.specs.declared.Step.{Step}
 use Rattle.dm_schedule.specs.declared.Step.TheVariants as step
-use Rattle.dm_rule.specs.declared.line.Line.{Line}
-use Rattle.dm_rule.specs.declared.line.Line.TheVariants as line
-use Rattle.dm_rule.specs.declared.line.Stage.TheVariants as stage
+use Rattle.dm_line.specs.declared.line.Line.{Line}
+use Rattle.dm_line.specs.declared.line.Line.TheVariants as line
+use Rattle.dm_line.specs.declared.line.Stage.TheVariants as stage
 use Rattle.dm_rule.specs.Addresses.{Receiver, Addresses, child_number}
 use Rattle.dm_rule.specs.Migrating.{to_kernel, sends_on, accepts, takes_chunk, takes_block, leaves, kernel_told, chunks_of, pieces_of, process_told, server_told, migrates, migrates_child}
 use Rattle.dm_rule.specs.Parts.{Part, Says, Routes, Again, Owns, Transmits, Spelled, lines_of, puts, goes_out, packet_line, behind, spelled}

@@ -21,8 +21,8 @@ use Rattle.dm_onekernel.specs.Step.{replay}
 use Rattle.dm_laws.proofs.Runs.{ended_stays}
 use Rattle.dm_laws.proofs.Steps.{bind-is}
 use Rattle.dm_schedule.specs.declared.Step.{Step}
-use Rattle.dm_rule.specs.declared.line.Line.{Line}
-use Rattle.dm_rule.specs.declared.line.Line.TheVariants as line
+use Rattle.dm_line.specs.declared.line.Line.{Line}
+use Rattle.dm_line.specs.declared.line.Line.TheVariants as line
 use Rattle.dm_rule.specs.Parts.{Spelled}
 use Rattle.dm_rule.specs.Phases.{Phase, Nowhere, Rests, Over, Moves, is_between, is_restart, is_early, is_away, leaves, comes, knows, IsIn}
 use Rattle.dm_rule.specs.Point.{Point, first_point, label_of, labels, kernel_after, moved, after_line, after}

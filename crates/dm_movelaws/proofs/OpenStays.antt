@@ -13,7 +13,7 @@ use Rattle.dm_onekernel.specs.Kernel.{OneKernel}
 use Rattle.dm_onekernel.specs.Options.{bind}
 use Rattle.dm_laws.proofs.Steps.{bind-is}
 use Rattle.dm_schedule.specs.declared.Step.{Step}
-use Rattle.dm_rule.specs.declared.line.Line.{Line}
+use Rattle.dm_line.specs.declared.line.Line.{Line}
 use Rattle.dm_rule.specs.Parts.{Spelled}
 use Rattle.dm_rule.specs.Phases.{Phase, Nowhere, Rests, Over, Moves, leaves, IsIn}
 use Rattle.dm_rule.specs.Point.{Point, label_of, kernel_after, moved, after_line, after, first_point}

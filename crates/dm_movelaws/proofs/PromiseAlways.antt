@@ -13,7 +13,7 @@ use Rattle.dm_onekernel.specs.Boot.{IsValid}
 use Rattle.dm_onekernel.specs.Kernel.{OneKernel}
 use Rattle.dm_laws.proofs.Equal.{pid_eq-same}
 use Rattle.dm_schedule.specs.declared.Step.{Step}
-use Rattle.dm_rule.specs.declared.line.Line.TheVariants as line
+use Rattle.dm_line.specs.declared.line.Line.TheVariants as line
 use Rattle.dm_rule.specs.Addresses.{Slot, belongs_to, leads_to}
 use Rattle.dm_rule.specs.Laws.{Leads}
 use Rattle.dm_rule.specs.Point.{Point, first_point}

@@ -6,8 +6,8 @@ use Rattle.dm_link.specs.Names.{Place}
 use Rattle.dm_message.specs.declared.MsgId.{MsgId}
 use Rattle.dm_onekernel.specs.declared.boot.Boot.{Boot}
 use Rattle.dm_schedule.specs.declared.Step.{Step}
-use Rattle.dm_rule.specs.declared.line.Line.{Line}
-use Rattle.dm_rule.specs.declared.line.Line.TheVariants as line
+use Rattle.dm_line.specs.declared.line.Line.{Line}
+use Rattle.dm_line.specs.declared.line.Line.TheVariants as line
 use Rattle.dm_rule.specs.Laws.{Leads, IsStep}
 use Rattle.dm_rule.specs.Parts.{Spelled}
 use Rattle.dm_rule.specs.Point.{Point, after}

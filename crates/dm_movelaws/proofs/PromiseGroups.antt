@@ -19,8 +19,8 @@ use Rattle.dm_laws.proofs.Equal.{id_eq-is}
 use Rattle.dm_laws.proofs.Steps.{bind-is}
 use Rattle.dm_schedule.specs.declared.Step.{Step}
 use Rattle.dm_schedule.specs.declared.Step.TheVariants as step
-use Rattle.dm_rule.specs.declared.line.Line.{Line}
-use Rattle.dm_rule.specs.declared.line.Line.TheVariants as line
+use Rattle.dm_line.specs.declared.line.Line.{Line}
+use Rattle.dm_line.specs.declared.line.Line.TheVariants as line
 use Rattle.dm_rule.specs.View.{View, Pair, marked, Told, is_kernels, after_head}
 use Rattle.dm_rule.specs.Addresses.{Addresses, child_number}
 use Rattle.dm_rule.specs.Point.{Point, after_line, moved}

@@ -18,8 +18,8 @@ use Rattle.dm_laws.proofs.Equal.{id_eq-is}
 use Rattle.dm_laws.proofs.Runs.{after_step}
 use Rattle.dm_laws.proofs.Sound.{Sound}
 use Rattle.dm_laws.proofs.Steps.{bind-is}
-use Rattle.dm_rule.specs.declared.line.Line.{Line}
-use Rattle.dm_rule.specs.declared.line.Line.TheVariants as line
+use Rattle.dm_line.specs.declared.line.Line.{Line}
+use Rattle.dm_line.specs.declared.line.Line.TheVariants as line
 use Rattle.dm_rule.specs.View.{View, Told, view_after}
 use Rattle.dm_rule.specs.View as view
 use Rattle.dm_rule.specs.Addresses.{Addresses, Holder, Slot, Gets, given, gives, forwards, tells_back, all_follow, first_gives, own_gives, is_told_back, is_behind, is_pid, belongs_to, leads_to, updated, updated_to, place_told, addresses_after}
@@ -72,7 +72,6 @@ told_stays v (line.NoMove id) j t e = ap (λ (f : MsgId → Option Told). f j) (
 told_stays v (line.Proto id) j t e = ap (λ (f : MsgId → Option Told). f j) (hushed v (line.Proto id) refl).told ∙ e
 told_stays v (line.NoChild r) j t e = ap (λ (f : MsgId → Option Told). f j) (hushed v (line.NoChild r) refl).told ∙ e
 told_stays v (line.Pinned r) j t e = ap (λ (f : MsgId → Option Told). f j) (hushed v (line.Pinned r) refl).told ∙ e
-told_stays v (line.End y) j t e = ap (λ (f : MsgId → Option Told). f j) (hushed v (line.End y) refl).told ∙ e
 
 -- a slot's address
 same_address : (a : Addresses) (p : Pid) (k : ℕ) (gs : List Gets) → gives_to (Slot p k) gs ≡ false → (a (Slot p k)).moves ≤ (given a gs (Slot p k)).moves
@@ -168,7 +167,6 @@ moves_grow pt (line.NoMove id) p k e = omega arith
 moves_grow pt (line.Proto id) p k e = omega arith
 moves_grow pt (line.NoChild r) p k e = omega arith
 moves_grow pt (line.Pinned r) p k e = omega arith
-moves_grow pt (line.End y) p k e = omega arith
 
 -- what each line needs of the kernel, and keeps
 pub record Grounds (s : OneKernel) : Type 0 where
@@ -221,7 +219,6 @@ spared_by pt (line.NoMove id) p k x of e = cc
 spared_by pt (line.Proto id) p k x of e = cc
 spared_by pt (line.NoChild r) p k x of e = cc
 spared_by pt (line.Pinned r) p k x of e = cc
-spared_by pt (line.End y) p k x of e = cc
 
 line_before : (pt next : Point) (l : Line) (p q : Pid) (k moves : ℕ) → after_line pt l ≡ Some next → Grounds pt.kernel → fills pt (Slot p k) l ≡ false → Before next p q k moves → Before pt p q k moves
 line_before pt next l p q k moves is h e before =

@@ -12,11 +12,11 @@ use Rattle.dm_message.specs.Ids.{id_eq}
 use Rattle.dm_onekernel.specs.Options.{bind}
 use Rattle.dm_laws.proofs.Equal.{id_eq-is, id_eq-same}
 use Rattle.dm_laws.proofs.Steps.{bind-is}
-use Rattle.dm_rule.specs.declared.line.Line.{Line}
-use Rattle.dm_rule.specs.declared.line.Line.TheVariants as line
-use Rattle.dm_rule.specs.declared.line.Load.{Load}
-use Rattle.dm_rule.specs.declared.line.Load.TheVariants as load
-use Rattle.dm_rule.specs.declared.line.Stage.TheVariants as stage
+use Rattle.dm_line.specs.declared.line.Line.{Line}
+use Rattle.dm_line.specs.declared.line.Line.TheVariants as line
+use Rattle.dm_line.specs.declared.line.Load.{Load}
+use Rattle.dm_line.specs.declared.line.Load.TheVariants as load
+use Rattle.dm_line.specs.declared.line.Stage.TheVariants as stage
 use Rattle.dm_rule.specs.View.{View, Told, is_kernels, own_id, view_after}
 use Rattle.dm_rule.specs.Addresses.{Receiver}
 use Rattle.dm_rule.specs.Point.{Point, label_of, kernel_after, after, moved}
@@ -59,7 +59,6 @@ is_loose_line line.Nothing = true
 is_loose_line (line.Resent m n) = true
 is_loose_line (line.NoChild p) = true
 is_loose_line (line.Pinned p) = true
-is_loose_line (line.End x) = true
 is_loose_line (line.Migration stage.Asked p) = true
 is_loose_line (line.Migration stage.Left p) = true
 is_loose_line (line.Queued i) = false
@@ -103,7 +102,6 @@ line_loose j v line.Nothing e = tt
 line_loose j v (line.Resent m n) e = tt
 line_loose j v (line.NoChild p) e = tt
 line_loose j v (line.Pinned p) e = tt
-line_loose j v (line.End x) e = tt
 line_loose j v (line.Migration stage.Asked p) e = tt
 line_loose j v (line.Migration stage.Left p) e = tt
 line_loose j v (line.Queued i) e = absurd (false≢true e)
@@ -143,7 +141,6 @@ spares_quiet j v line.Nothing e = (refl, refl)
 spares_quiet j v (line.Resent m n) e = (refl, refl)
 spares_quiet j v (line.NoChild p) e = (refl, refl)
 spares_quiet j v (line.Pinned p) e = (refl, refl)
-spares_quiet j v (line.End x) e = (refl, refl)
 spares_quiet j v (line.Migration stage.Asked p) e = (refl, refl)
 spares_quiet j v (line.Migration stage.Left p) e = (refl, refl)
 spares_quiet j v (line.Queued i) e = (refl, refl)

@@ -8,9 +8,9 @@ use Rattle.dm_message.specs.declared.MsgId.{MsgId}
 use Rattle.dm_message.specs.Ids.{id_eq}
 use Rattle.dm_onekernel.specs.declared.label.Label.{Label}
 use Rattle.dm_laws.proofs.Equal.{pid_eq-is}
-use Rattle.dm_rule.specs.declared.line.Line.{Line}
-use Rattle.dm_rule.specs.declared.line.Line.TheVariants as line
-use Rattle.dm_rule.specs.declared.line.Stage.TheVariants as stage
+use Rattle.dm_line.specs.declared.line.Line.{Line}
+use Rattle.dm_line.specs.declared.line.Line.TheVariants as line
+use Rattle.dm_line.specs.declared.line.Stage.TheVariants as stage
 use Rattle.dm_rule.specs.View.{View, view_after, handled, handled_first, released, receiver_of}
 use Rattle.dm_rule.specs.Spots.{Spot, Queue, Held, Inbox, Untaken, times, ids_at, standing}
 use Rattle.dm_rule.proofs.Lines.{at_machine_at, at_machine_off, at_record_off, eq_is, parts}
@@ -51,7 +51,6 @@ Spares j v line.Nothing = ⊤
 Spares j v (line.Resent m n) = ⊤
 Spares j v (line.NoChild p) = ⊤
 Spares j v (line.Pinned p) = ⊤
-Spares j v (line.End x) = ⊤
 Spares j v (line.Migration stage.Asked p) = ⊤
 Spares j v (line.Migration stage.Left p) = ⊤
 Spares j v (line.Queued i) = id_eq i j ≡ false
@@ -128,7 +127,6 @@ line_stands v j line.Nothing e step_ h = h
 line_stands v j (line.Resent m n) e step_ h = h
 line_stands v j (line.NoChild p) e step_ h = h
 line_stands v j (line.Pinned p) e step_ h = h
-line_stands v j (line.End x) e step_ h = h
 line_stands v j (line.Migration stage.Asked p) e step_ h = h
 line_stands v j (line.Migration stage.Left p) e step_ h = stands_off v (view_after v (line.Migration stage.Left p)) j (λ z. left_off v p z) h
 line_stands v j (line.Queued i) e step_ h = stands_as (handled v i) (view_after v (line.Queued i)) j (λ z. queued_spots (handled v i) i j (receiver_of (v.told i)) e z) (handled_stands v i j e h)

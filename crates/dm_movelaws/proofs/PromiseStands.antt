@@ -18,10 +18,10 @@ use Rattle.dm_onekernel.specs.Step as kernel
 use Rattle.dm_laws.proofs.Equal.{pid_eq-is, id_eq-is, id_eq-same}
 use Rattle.dm_schedule.specs.declared.Step.{Step}
 use Rattle.dm_schedule.specs.declared.Step.TheVariants as step
-use Rattle.dm_rule.specs.declared.line.Line.{Line}
-use Rattle.dm_rule.specs.declared.line.Line.TheVariants as line
-use Rattle.dm_rule.specs.declared.line.Load.{Load}
-use Rattle.dm_rule.specs.Sets.{at_record, without_id}
+use Rattle.dm_line.specs.declared.line.Line.{Line}
+use Rattle.dm_line.specs.declared.line.Line.TheVariants as line
+use Rattle.dm_line.specs.declared.line.Load.{Load}
+use Rattle.dm_line.specs.Sets.{at_record, without_id}
 use Rattle.dm_rule.specs.View.{View, Told, NothingElse, is_kernels, view_after, after_head, handled, handled_first, taken_id, receiver_of, held_for}
 use Rattle.dm_rule.specs.View as view
 use Rattle.dm_rule.specs.Point.{Point}
@@ -204,4 +204,3 @@ net_stands v (line.NoMove i) j is h = absurd is
 net_stands v (line.Proto i) j is h = absurd is
 net_stands v (line.NoChild p) j is h = absurd is
 net_stands v (line.Pinned p) j is h = absurd is
-net_stands v (line.End x) j is h = absurd is

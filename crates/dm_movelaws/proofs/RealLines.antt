@@ -19,9 +19,9 @@ use Rattle.dm_laws.proofs.Grown.{LifeGrows}
 use Rattle.dm_laws.proofs.Runs.{after_step}
 use Rattle.dm_laws.proofs.Sound.{Sound}
 use Rattle.dm_laws.proofs.Steps.{bind-is}
-use Rattle.dm_rule.specs.declared.line.Line.{Line}
-use Rattle.dm_rule.specs.declared.line.Line.TheVariants as line
-use Rattle.dm_rule.specs.declared.line.Stage.TheVariants as stage
+use Rattle.dm_line.specs.declared.line.Line.{Line}
+use Rattle.dm_line.specs.declared.line.Line.TheVariants as line
+use Rattle.dm_line.specs.declared.line.Stage.TheVariants as stage
 use Rattle.dm_rule.specs.Addresses.{Receiver}
 use Rattle.dm_rule.specs.Parts.{Part, Says, Routes, Again, Owns, Transmits, Spelled, lines_of, puts, packet_line, behind, spelled}
 use Rattle.dm_rule.specs.Point.{Point, label_of, kernel_after, moved, after}
@@ -188,7 +188,6 @@ line_topic o pt (line.Here i) known need h = h.topic
 line_topic o pt (line.NoMove i) known need h = h.topic
 line_topic o pt (line.NoChild p) known need h = h.topic
 line_topic o pt (line.Pinned p) known need h = h.topic
-line_topic o pt (line.End x) known need h = h.topic
 
 no_put : (o : Point) (l : Line) → LineReal o l → is_put l ≡ false
 no_put o (line.Put a b i k q) h = absurd h

@@ -18,9 +18,9 @@ use Rattle.dm_laws.proofs.Equal.{pid_eq-same}
 use Rattle.dm_laws.proofs.Steps.{bind-is, alive-is}
 use Rattle.dm_schedule.specs.declared.Step.{Step}
 use Rattle.dm_schedule.specs.declared.Step.TheVariants as step
-use Rattle.dm_rule.specs.declared.line.Line.{Line}
-use Rattle.dm_rule.specs.declared.line.Line.TheVariants as line
-use Rattle.dm_rule.specs.declared.line.Stage.TheVariants as stage
+use Rattle.dm_line.specs.declared.line.Line.{Line}
+use Rattle.dm_line.specs.declared.line.Line.TheVariants as line
+use Rattle.dm_line.specs.declared.line.Stage.TheVariants as stage
 use Rattle.dm_rule.specs.Addresses.{Addresses, child_number}
 use Rattle.dm_rule.specs.Migrating.{to_kernel, sends_on, accepts, takes_chunk, takes_block, leaves, kernel_told, chunks_of, pieces_of, process_told, server_told, migrates, migrates_child}
 use Rattle.dm_rule.specs.Parts.{Part, Says, Routes, Again, Owns, Transmits}
@@ -60,7 +60,6 @@ LineReal o (line.NoMove i) = ⊤
 LineReal o (line.Proto i) = ⊤
 LineReal o (line.NoChild p) = ⊤
 LineReal o (line.Pinned p) = ⊤
-LineReal o (line.End x) = ⊤
 
 abbrev pub PartReal : Point → Part → Type 0
 PartReal o (Says l) = LineReal o l
@@ -111,7 +110,6 @@ mild_line o front (line.NoMove i) told h = tt
 mild_line o front (line.Proto i) told h = tt
 mild_line o front (line.NoChild p) told h = tt
 mild_line o front (line.Pinned p) told h = tt
-mild_line o front (line.End x) told h = tt
 
 mild_real : (o : Point) (front : Option MsgId) (ps : List Part) → FrontTold o front → ((me : Pid) → AllMild me front ps) → AllReal o ps
 mild_real o front [] told h = tt
@@ -147,7 +145,6 @@ net_line o (line.Stays q) h = absurd h
 net_line o (line.Proto i) h = absurd h
 net_line o (line.NoChild q) h = absurd h
 net_line o (line.Pinned q) h = absurd h
-net_line o (line.End x) h = absurd h
 
 net_real : (o : Point) (ps : List Part) → IsNet ps → AllReal o ps
 net_real o [] h = tt

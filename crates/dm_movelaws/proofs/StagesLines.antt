@@ -14,10 +14,10 @@ use Rattle.dm_onekernel.specs.declared.label.Label.{Label}
 use Rattle.dm_onekernel.specs.declared.label.Label.TheVariants as label
 use Rattle.dm_onekernel.specs.Kernel.{OneKernel}
 use Rattle.dm_onekernel.specs.Step as kernel
-use Rattle.dm_rule.specs.declared.line.Line.{Line}
-use Rattle.dm_rule.specs.declared.line.Line.TheVariants as line
-use Rattle.dm_rule.specs.declared.line.Stage.TheVariants as stage
-use Rattle.dm_rule.specs.Sets.{at_record}
+use Rattle.dm_line.specs.declared.line.Line.{Line}
+use Rattle.dm_line.specs.declared.line.Line.TheVariants as line
+use Rattle.dm_line.specs.declared.line.Stage.TheVariants as stage
+use Rattle.dm_line.specs.Sets.{at_record}
 use Rattle.dm_rule.specs.View.{View, Told, Known, Here, Ended, Of, view_after, handled, served_told, kills, gone_to}
 use Rattle.dm_rule.specs.Phases.{is_between}
 use Rattle.dm_rule.specs.Point.{Point, label_of, kernel_after}
@@ -72,7 +72,6 @@ MildLine p o (line.Stays q) = ⊥
 MildLine p o (line.Proto i) = ⊥
 MildLine p o (line.NoChild q) = ⊥
 MildLine p o (line.Pinned q) = ⊥
-MildLine p o (line.End x) = ⊥
 
 abbrev pub Mild : Pid → Option MsgId → Part → Type 0
 Mild p o (Says l) = MildLine p o l
@@ -117,7 +116,6 @@ line_marks p o (line.Stays q) ms h = absurd h
 line_marks p o (line.Proto i) ms h = refl
 line_marks p o (line.NoChild q) ms h = refl
 line_marks p o (line.Pinned q) ms h = refl
-line_marks p o (line.End x) ms h = refl
 
 pub mild_marks : (p : Pid) (o : Option MsgId) (ps : List Part) → AllMild p o ps → marks_of p ps ≡ []
 mild_marks p o [] h = refl
@@ -153,7 +151,6 @@ net_line p (line.Stays q) ms h = absurd h
 net_line p (line.Proto i) ms h = absurd h
 net_line p (line.NoChild q) ms h = absurd h
 net_line p (line.Pinned q) ms h = absurd h
-net_line p (line.End x) ms h = absurd h
 
 pub net_marks : (p : Pid) (ps : List Part) → IsNet ps → marks_of p ps ≡ []
 net_marks p [] h = refl
@@ -290,4 +287,3 @@ line_spares pt s (line.Stays q) p o h tame mild is = absurd mild
 line_spares pt s (line.Proto i) p o h tame mild is = absurd mild
 line_spares pt s (line.NoChild q) p o h tame mild is = absurd mild
 line_spares pt s (line.Pinned q) p o h tame mild is = absurd mild
-line_spares pt s (line.End x) p o h tame mild is = absurd mild

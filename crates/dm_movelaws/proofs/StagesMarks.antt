@@ -14,10 +14,10 @@ use Rattle.dm_onekernel.specs.Options.{bind}
 use Rattle.dm_laws.proofs.Equal.{pid_eq-same}
 use Rattle.dm_laws.proofs.Steps.{bind-is}
 use Rattle.dm_schedule.specs.declared.Step.{Step}
-use Rattle.dm_rule.specs.declared.line.Line.{Line}
-use Rattle.dm_rule.specs.declared.line.Line.TheVariants as line
-use Rattle.dm_rule.specs.declared.line.Load.{Load}
-use Rattle.dm_rule.specs.declared.line.Load.TheVariants as load
+use Rattle.dm_line.specs.declared.line.Line.{Line}
+use Rattle.dm_line.specs.declared.line.Line.TheVariants as line
+use Rattle.dm_line.specs.declared.line.Load.{Load}
+use Rattle.dm_line.specs.declared.line.Load.TheVariants as load
 use Rattle.dm_rule.specs.View.{own_id}
 use Rattle.dm_rule.specs.Addresses.{Receiver}
 use Rattle.dm_rule.specs.Point.{Point, moved, after_line, after}
@@ -82,7 +82,6 @@ with-append p (line.NoMove id) xs ys = refl
 with-append p (line.Proto id) xs ys = refl
 with-append p (line.NoChild q) xs ys = refl
 with-append p (line.Pinned q) xs ys = refl
-with-append p (line.End e) xs ys = refl
 
 pub marks-append : (p : Pid) (xs ys : List Line) → marks p (xs ++ ys) ≡ marks p xs ++ marks p ys
 marks-append p [] ys = refl

@@ -8,11 +8,11 @@ use Rattle.dm_message.specs.declared.MsgId.{MsgId}
 use Rattle.dm_message.specs.declared.kind.MessageKind.{MessageKind}
 use Rattle.dm_message.specs.Kinds.{plain_kind}
 use Rattle.dm_onekernel.specs.Options.{bind}
-use Rattle.dm_rule.specs.declared.line.Line.{Line}
-use Rattle.dm_rule.specs.declared.line.Line.TheVariants as line
-use Rattle.dm_rule.specs.declared.line.Load.{Load}
-use Rattle.dm_rule.specs.declared.line.Load.TheVariants as load
-use Rattle.dm_rule.specs.declared.line.Stage.TheVariants as stage
+use Rattle.dm_line.specs.declared.line.Line.{Line}
+use Rattle.dm_line.specs.declared.line.Line.TheVariants as line
+use Rattle.dm_line.specs.declared.line.Load.{Load}
+use Rattle.dm_line.specs.declared.line.Load.TheVariants as load
+use Rattle.dm_line.specs.declared.line.Stage.TheVariants as stage
 use Rattle.dm_rule.specs.View.{View, own_id, view_after}
 use Rattle.dm_rule.specs.Addresses.{Receiver}
 use Rattle.dm_rule.specs.Point.{Point, label_of, kernel_after, moved, after_line, after}
@@ -59,7 +59,6 @@ mild_put p o (line.Stays q) h = absurd h
 mild_put p o (line.Proto i) h = absurd h
 mild_put p o (line.NoChild q) h = absurd h
 mild_put p o (line.Pinned q) h = absurd h
-mild_put p o (line.End x) h = absurd h
 
 mild_touches : (p : Pid) (o : Option MsgId) (l : Line) → MildLine p o l → touches l ≡ false
 mild_touches p o (line.Idle m) h = refl
@@ -92,7 +91,6 @@ mild_touches p o (line.Stays q) h = absurd h
 mild_touches p o (line.Proto i) h = absurd h
 mild_touches p o (line.NoChild q) h = absurd h
 mild_touches p o (line.Pinned q) h = absurd h
-mild_touches p o (line.End x) h = absurd h
 
 -- what parts keep
 pub record Kept (v : View) (p : Pid) (o : Option MsgId) (pt : Point) : Type 0 where

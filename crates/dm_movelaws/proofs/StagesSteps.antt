@@ -8,10 +8,10 @@ use Rattle.dm_link.specs.declared.Pid.{Pid}
 use Rattle.dm_link.specs.Names.{pid_of, pid_eq}
 use Rattle.dm_message.specs.declared.MsgId.{MsgId}
 use Rattle.dm_message.specs.declared.kind.MessageKind.TheVariants as kind
-use Rattle.dm_rule.specs.declared.line.Line.{Line}
-use Rattle.dm_rule.specs.declared.line.Line.TheVariants as line
-use Rattle.dm_rule.specs.declared.line.Stage.TheVariants as stage
-use Rattle.dm_rule.specs.Sets.{at_machine, at_record}
+use Rattle.dm_line.specs.declared.line.Line.{Line}
+use Rattle.dm_line.specs.declared.line.Line.TheVariants as line
+use Rattle.dm_line.specs.declared.line.Stage.TheVariants as stage
+use Rattle.dm_line.specs.Sets.{at_machine, at_record}
 use Rattle.dm_rule.specs.View.{View, Told, Of, Known, Here, Frozen, view_after, handled_first, released, target_of, front_told}
 use Rattle.dm_rule.specs.Migrating.{to_kernel, sends_on}
 use Rattle.dm_rule.specs.Phases.{is_between}

@@ -8,8 +8,8 @@ use Rattle.dm_message.specs.declared.MsgId.{MsgId}
 use Rattle.dm_message.specs.declared.kind.MessageKind.{MessageKind}
 use Rattle.dm_message.specs.declared.kind.MessageKind.TheVariants as kind
 use Rattle.dm_onekernel.specs.PlainProcess.{PlainProcess}
-use Rattle.dm_rule.specs.declared.line.Line.TheVariants as line
-use Rattle.dm_rule.specs.declared.line.Stage.TheVariants as stage
+use Rattle.dm_line.specs.declared.line.Line.TheVariants as line
+use Rattle.dm_line.specs.declared.line.Stage.TheVariants as stage
 use Rattle.dm_rule.specs.View.{View, Told, after_proto, Of, Known, Unknown, Here, Frozen, Incoming, Forward, Ended, handled, front_of, view_after}
 use Rattle.dm_rule.specs.Migrating.{accepts, gives_piece, takes_chunk, takes_block, leaves, kernel_told, chunks_of, pieces_of}
 use Rattle.dm_rule.specs.Phases.{is_between}

@@ -17,11 +17,11 @@ use Rattle.dm_laws.specs.Laws.{entry, reception}
 use Rattle.dm_laws.proofs.Equal.{id_eq-same}
 use Rattle.dm_laws.proofs.Runs.{after_step}
 use Rattle.dm_laws.proofs.Steps.{bind-is}
-use Rattle.dm_rule.specs.declared.line.Line.{Line}
-use Rattle.dm_rule.specs.declared.line.Line.TheVariants as line
-use Rattle.dm_rule.specs.declared.line.Load.{Load}
-use Rattle.dm_rule.specs.declared.line.Load.TheVariants as load
-use Rattle.dm_rule.specs.declared.line.Stage.TheVariants as stage
+use Rattle.dm_line.specs.declared.line.Line.{Line}
+use Rattle.dm_line.specs.declared.line.Line.TheVariants as line
+use Rattle.dm_line.specs.declared.line.Load.{Load}
+use Rattle.dm_line.specs.declared.line.Load.TheVariants as load
+use Rattle.dm_line.specs.declared.line.Stage.TheVariants as stage
 use Rattle.dm_rule.specs.View as view
 use Rattle.dm_rule.specs.View.{View, Told, About, NothingElse, Target, Of, own_id, view_after, handled, queued_for, held_for, dropped_for, after_proto, follows_up, asks_on, taken_id, receiver_of}
 use Rattle.dm_rule.specs.Addresses.{Receiver, Gets, given, unmoved, goes_between, own_gives}
@@ -255,7 +255,6 @@ net_line (line.NoMove i) h = absurd h
 net_line (line.Proto i) h = absurd h
 net_line (line.NoChild p) h = absurd h
 net_line (line.Pinned p) h = absurd h
-net_line (line.End x) h = absurd h
 
 pub net_loose : (ps : List Part) → IsNet ps → AllLoose ps
 net_loose [] h = tt

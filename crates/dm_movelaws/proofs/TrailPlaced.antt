@@ -10,7 +10,7 @@ use Rattle.dm_link.specs.Names.{pid_eq}
 use Rattle.dm_message.specs.declared.MsgId.{MsgId}
 use Rattle.dm_message.specs.declared.kind.MessageKind.{MessageKind}
 use Rattle.dm_laws.proofs.Equal.{pid_eq-is, pid_eq-same}
-use Rattle.dm_rule.specs.Sets.{at_record}
+use Rattle.dm_line.specs.Sets.{at_record}
 use Rattle.dm_rule.specs.View.{View, Known, Unknown, Here, Frozen, Incoming, Forward, Ended}
 use Rattle.dm_rule.specs.Phases.{Moves, IsIn, knows, leaves, comes, is_restart, is_away}
 use Rattle.dm_rule.specs.Trails.{Trails}

@@ -18,15 +18,15 @@ use Rattle.dm_onekernel.specs.Step as kernel
 use Rattle.dm_schedule.specs.declared.Step.{Step}
 use Rattle.dm_schedule.specs.declared.Step.TheVariants as step
 use Rattle.dm_laws.proofs.Runs.{after_step}
-use Rattle.dm_rule.specs.declared.line.Line.{Line}
-use Rattle.dm_rule.specs.declared.line.Line.TheVariants as line
-use Rattle.dm_rule.specs.declared.line.Stage.{Stage}
-use Rattle.dm_rule.specs.declared.line.Stage.TheVariants as stage
+use Rattle.dm_line.specs.declared.line.Line.{Line}
+use Rattle.dm_line.specs.declared.line.Line.TheVariants as line
+use Rattle.dm_line.specs.declared.line.Stage.{Stage}
+use Rattle.dm_line.specs.declared.line.Stage.TheVariants as stage
 use Rattle.dm_rule.specs.Laws.{Leads}
 use Rattle.dm_rule.specs.Parts.{Spelled}
 use Rattle.dm_rule.specs.Point.{Point, first_point, label_of, kernel_after}
 use Rattle.dm_rule.specs.Rule.{group_of}
-use Rattle.dm_rule.specs.Sets.{at_record}
+use Rattle.dm_line.specs.Sets.{at_record}
 use Rattle.dm_rule.specs.View.{View, Told, About, NothingElse, Target, Of, Known, Unknown, Here, Frozen, Incoming, Forward, Ended, view_after, handled, receiver_of, first_told, is_kernels, target_of, front_told, front_of, gone_to, served_told, forward_about}
 use Rattle.dm_rule.specs.View as view
 use Rattle.dm_rule.proofs.Hushed.{hushed}
@@ -169,7 +169,6 @@ line_made s v (line.Here i) h p m c e = h.topic p m c e
 line_made s v (line.NoMove i) h p m c e = h.topic p m c e
 line_made s v (line.NoChild q) h p m c e = h.topic p m c e
 line_made s v (line.Pinned q) h p m c e = h.topic p m c e
-line_made s v (line.End x) h p m c e = h.topic p m c e
 
 -- a line after which the same leave
 line_passing : (pt : Point) (t : OneKernel) (l : Line) → Goes pt.kernel t → ((m : ℕ) (p : Pid) → passes ((view_after pt.view l).known m p) ≡ true → WasMade pt.kernel p) → (view_after pt.view l).told ≡ pt.view.told → Passing pt.kernel pt.view

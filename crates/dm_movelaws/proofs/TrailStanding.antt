@@ -13,7 +13,7 @@ use Rattle.dm_onekernel.specs.Kernel.{Life, OneKernel}
 use Rattle.dm_onekernel.specs.Options.{bind}
 use Rattle.dm_schedule.specs.declared.Step.{Step}
 use Rattle.dm_laws.proofs.Steps.{bind-is}
-use Rattle.dm_rule.specs.declared.line.Line.{Line}
+use Rattle.dm_line.specs.declared.line.Line.{Line}
 use Rattle.dm_rule.specs.Addresses.{Receiver, Sender, unmoved}
 use Rattle.dm_rule.specs.Laws.{Leads}
 use Rattle.dm_rule.specs.Point.{Point, first_point, after, after_line}

@@ -18,7 +18,7 @@ use Rattle.dm_schedule.specs.declared.Step.{Step}
 use Rattle.dm_schedule.specs.declared.Step.TheVariants as step
 use Rattle.dm_laws.proofs.Equal.{id_eq-same}
 use Rattle.dm_laws.proofs.Steps.{bind-is}
-use Rattle.dm_rule.specs.declared.line.Line.TheVariants as line
+use Rattle.dm_line.specs.declared.line.Line.TheVariants as line
 use Rattle.dm_rule.specs.View.{View, Told, Of, is_kernels, own_id, after_head, receiver_of, front_of}
 use Rattle.dm_rule.specs.Addresses.{Child, Receiver, Sender, child_number}
 use Rattle.dm_rule.specs.Homes.{to_of, sender_of}

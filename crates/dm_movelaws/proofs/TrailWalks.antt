@@ -11,9 +11,9 @@ use Rattle.dm_message.specs.Plain as what
 use Rattle.dm_message.specs.Plain.{PlainMessage, PlainWhat}
 use Rattle.dm_onekernel.specs.Options.{bind}
 use Rattle.dm_laws.proofs.Steps.{bind-is}
-use Rattle.dm_rule.specs.declared.line.Line.{Line}
-use Rattle.dm_rule.specs.declared.line.Line.TheVariants as line
-use Rattle.dm_rule.specs.declared.line.Load.TheVariants as load
+use Rattle.dm_line.specs.declared.line.Line.{Line}
+use Rattle.dm_line.specs.declared.line.Line.TheVariants as line
+use Rattle.dm_line.specs.declared.line.Load.TheVariants as load
 use Rattle.dm_rule.specs.View.{View, Told, own_id}
 use Rattle.dm_rule.specs.Addresses.{Receiver}
 use Rattle.dm_rule.specs.Point.{Point, moved, after_line, after}

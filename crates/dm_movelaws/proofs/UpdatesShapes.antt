@@ -16,9 +16,9 @@ use Rattle.dm_onekernel.specs.Step.{machine_of, with_machine}
 use Rattle.dm_onekernel.specs.Step as kernel
 use Rattle.dm_schedule.specs.declared.Step.{Step}
 use Rattle.dm_schedule.specs.declared.Step.TheVariants as step
-use Rattle.dm_rule.specs.declared.line.Line.{Line}
-use Rattle.dm_rule.specs.declared.line.Line.TheVariants as line
-use Rattle.dm_rule.specs.declared.line.Stage.TheVariants as stage
+use Rattle.dm_line.specs.declared.line.Line.{Line}
+use Rattle.dm_line.specs.declared.line.Line.TheVariants as line
+use Rattle.dm_line.specs.declared.line.Stage.TheVariants as stage
 use Rattle.dm_rule.specs.Addresses.{Addresses, child_number, place_told}
 use Rattle.dm_rule.specs.Migrating as migrating
 use Rattle.dm_rule.specs.Migrating.{behind_count, forwards_on, sends_on, kernel_told, leaves, moves_to, accepts, takes_chunk, takes_block, here_told, ended_told, process_told, server_told, migrates, migrates_child}
@@ -246,7 +246,6 @@ net_line (line.Here id) h = absurd h
 net_line (line.NoMove id) h = absurd h
 net_line (line.NoChild p) h = absurd h
 net_line (line.Pinned p) h = absurd h
-net_line (line.End x) h = absurd h
 net_line line.Nothing h = refl
 
 nets_quiet : (ps : List Part) → IsNet ps → AllQuiet ps

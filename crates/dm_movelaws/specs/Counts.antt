@@ -9,8 +9,8 @@ use Rattle.dm_onekernel.specs.declared.boot.Boot.{Boot}
 use Rattle.dm_onekernel.specs.declared.label.Label.{Label}
 use Rattle.dm_onekernel.specs.Boot.{IsValid}
 use Rattle.dm_schedule.specs.declared.Step.{Step}
-use Rattle.dm_rule.specs.declared.line.Line.{Line}
-use Rattle.dm_rule.specs.declared.line.Line.TheVariants as line
+use Rattle.dm_line.specs.declared.line.Line.{Line}
+use Rattle.dm_line.specs.declared.line.Line.TheVariants as line
 use Rattle.dm_rule.specs.Addresses.{Holder, Slot, Owner, Receiver, Sender, Enclosed, Child, Name, Answer, Gets, holder_eq, gives, belongs_to, leads_to}
 use Rattle.dm_rule.specs.Laws.{IsStep, Leads}
 use Rattle.dm_rule.specs.Parts.{Spelled}

@@ -9,10 +9,10 @@ use Rattle.dm_onekernel.specs.declared.boot.Boot.{Boot}
 use Rattle.dm_onekernel.specs.Boot.{IsValid}
 use Rattle.dm_schedule.specs.declared.Step.{Step}
 use Rattle.dm_schedule.specs.declared.Step.TheVariants as step
-use Rattle.dm_rule.specs.declared.line.Line.{Line}
-use Rattle.dm_rule.specs.declared.line.Line.TheVariants as line
-use Rattle.dm_rule.specs.declared.line.Stage.{Stage}
-use Rattle.dm_rule.specs.declared.line.Stage.TheVariants as stage
+use Rattle.dm_line.specs.declared.line.Line.{Line}
+use Rattle.dm_line.specs.declared.line.Line.TheVariants as line
+use Rattle.dm_line.specs.declared.line.Stage.{Stage}
+use Rattle.dm_line.specs.declared.line.Stage.TheVariants as stage
 use Rattle.dm_rule.specs.Point.{Point, first_point}
 use Rattle.dm_rule.specs.Quiet.{IsQuiet}
 use Rattle.dm_rule.specs.View.{Told}
@@ -54,7 +54,6 @@ asks p (line.NoMove id) = false
 asks p (line.Proto id) = false
 asks p (line.NoChild q) = false
 asks p (line.Pinned q) = false
-asks p (line.End e) = false
 
 abbrev pub is_for : Pid → Option Told → Bool
 is_for p None = false
@@ -95,7 +94,6 @@ ends told p (line.Updated id n) = false
 ends told p (line.SentOn q n) = false
 ends told p (line.Lacks q s b) = false
 ends told p (line.Proto id) = false
-ends told p (line.End e) = false
 
 -- wherever the rule leads, there are no more ends than directives to move a process; and as many, where nothing is on its way
 pub record Ends (pt : Point) (ls : List Line) (p : Pid) : Type 0 where

@@ -7,10 +7,10 @@ use Rattle.dm_link.specs.Names.{pid_eq}
 use Rattle.dm_onekernel.specs.declared.boot.Boot.{Boot}
 use Rattle.dm_onekernel.specs.Boot.{IsValid}
 use Rattle.dm_schedule.specs.declared.Step.{Step}
-use Rattle.dm_rule.specs.declared.line.Line.{Line}
-use Rattle.dm_rule.specs.declared.line.Line.TheVariants as line
-use Rattle.dm_rule.specs.declared.line.Stage.{Stage}
-use Rattle.dm_rule.specs.declared.line.Stage.TheVariants as stage
+use Rattle.dm_line.specs.declared.line.Line.{Line}
+use Rattle.dm_line.specs.declared.line.Line.TheVariants as line
+use Rattle.dm_line.specs.declared.line.Stage.{Stage}
+use Rattle.dm_line.specs.declared.line.Stage.TheVariants as stage
 use Rattle.dm_rule.specs.Point.{Point, first_point}
 use Rattle.dm_rulelaws.specs.Order.{LeadsBy}
 
@@ -58,7 +58,6 @@ with_mark p (line.NoMove id) ms = ms
 with_mark p (line.Proto id) ms = ms
 with_mark p (line.NoChild q) ms = ms
 with_mark p (line.Pinned q) ms = ms
-with_mark p (line.End e) ms = ms
 
 abbrev pub marks : Pid → List Line → List Mark
 marks p [] = []

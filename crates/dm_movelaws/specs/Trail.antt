@@ -10,7 +10,7 @@ use Rattle.dm_onekernel.specs.declared.boot.Boot.{Boot}
 use Rattle.dm_onekernel.specs.Boot.{IsValid, manager}
 use Rattle.dm_onekernel.specs.Kernel.{OneKernel}
 use Rattle.dm_schedule.specs.declared.Step.{Step}
-use Rattle.dm_rule.specs.declared.line.Line.{Line}
+use Rattle.dm_line.specs.declared.line.Line.{Line}
 use Rattle.dm_rule.specs.Addresses.{Holder, Receiver, Sender, unmoved}
 use Rattle.dm_rule.specs.Homes.{names}
 use Rattle.dm_rule.specs.Laws.{Leads}

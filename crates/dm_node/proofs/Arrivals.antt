@@ -5,8 +5,8 @@ use Rattle.std.specs.declared.option.Option.{Option}
 use Rattle.std.specs.declared.option.Option.TheVariants.{None, Some}
 use Rattle.std.proofs.lemmas.Bool.Decides.{eqb_tells}
 use Rattle.dm_message.specs.declared.Message.{Message}
-use Rattle.dm_rule.specs.declared.line.Line.TheVariants as line
-use Rattle.dm_rule.specs.Sets.{at_machine}
+use Rattle.dm_line.specs.declared.line.Line.TheVariants as line
+use Rattle.dm_line.specs.Sets.{at_machine}
 use Rattle.dm_stream.specs.Sending.{due, window}
 use Rattle.dm_stream.specs.Receiving.{Receiving, moved_up, next, after_next}
 use Rattle.dm_stream.specs.declared.receiver.Arrived.{Arrived}

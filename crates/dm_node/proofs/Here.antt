@@ -15,8 +15,8 @@ use Rattle.dm_process.specs.declared.process.Process.{Process}
 use Rattle.dm_process.specs.declared.process.Status.{Status}
 use Rattle.dm_process.specs.declared.process.Status.TheVariants as status
 use Rattle.dm_process.specs.Mail.{first_on}
-use Rattle.dm_forward.specs.declared.record.Record.TheVariants.{Here, Frozen, Incoming, Forward, Ended}
-use Rattle.dm_forward.specs.Records.{frozen_of, incoming_of}
+use Rattle.dm_records.specs.declared.record.Record.TheVariants.{Here, Frozen, Incoming, Forward, Ended}
+use Rattle.dm_records.specs.Records.{frozen_of, incoming_of}
 use Rattle.dm_linkupdate.specs.Notice.{has_update}
 use Rattle.dm_message.specs.declared.Asker.{Asker}
 use Rattle.dm_message.specs.Kinds.{kind_of}
@@ -37,7 +37,7 @@ use Rattle.dm_procman.specs.declared.moving.MoveNo.{MoveNo}
 use Rattle.dm_procman.specs.declared.moving.MoveNo.TheVariants as no
 use Rattle.dm_procman.specs.Moving.{moves_child}
 use Rattle.dm_procman.specs.Taking as manage
-use Rattle.dm_rule.specs.Sets.{moved_back}
+use Rattle.dm_line.specs.Sets.{moved_back}
 use Rattle.dm_switchboard.specs.Taking as board
 use Rattle.dm_syscall.specs.declared.Called.{Called}
 use Rattle.dm_syscall.specs.declared.Called.TheVariants as called

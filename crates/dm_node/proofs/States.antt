@@ -13,7 +13,7 @@ use Rattle.dm_message.specs.declared.Message.{Message}
 use Rattle.dm_packet.specs.declared.Packet.{Packet}
 use Rattle.dm_stream.specs.Sending.{Sending, due, with_given, with_sent}
 use Rattle.dm_stream.specs.Receiving.{Receiving}
-use Rattle.dm_rule.specs.Sets.{at_machine}
+use Rattle.dm_line.specs.Sets.{at_machine}
 use Rattle.dm_node.specs.declared.node.Node.{Node}
 use Rattle.dm_node.specs.declared.stop.Stop.{Stop}
 use Rattle.dm_node.specs.declared.stop.Stop.TheVariants as stop

@@ -4,7 +4,7 @@ use Rattle.dm_message.specs.declared.Message.{Message}
 use Rattle.dm_stream.specs.Sending.{Sending, fresh_sending}
 use Rattle.dm_stream.specs.Receiving.{Receiving, fresh_receiving}
 use Rattle.dm_onekernel.specs.declared.boot.Boot.{Boot}
-use Rattle.dm_rule.specs.Sets.{at_machine}
+use Rattle.dm_line.specs.Sets.{at_machine}
 use Rattle.dm_kernel.specs.State.{KernelState}
 use Rattle.dm_kernel.specs.Begun as kernel
 

@@ -5,9 +5,9 @@ use Rattle.dm_packet.specs.declared.Packet.TheVariants as packet
 use Rattle.dm_packet.specs.Packets.{spelling}
 use Rattle.dm_wire.specs.Sent.{Sent}
 use Rattle.dm_wire.specs.Wire.{after_put}
-use Rattle.dm_rule.specs.declared.line.Line.{Line}
-use Rattle.dm_rule.specs.declared.line.Line.TheVariants as line
-use Rattle.dm_rule.specs.declared.line.Load.TheVariants as load
+use Rattle.dm_line.specs.declared.line.Line.{Line}
+use Rattle.dm_line.specs.declared.line.Line.TheVariants as line
+use Rattle.dm_line.specs.declared.line.Load.TheVariants as load
 use Rattle.dm_node.specs.declared.out.Out.{Out}
 use Rattle.dm_node.specs.declared.out.Out.TheVariants.{Says, Sends}
 

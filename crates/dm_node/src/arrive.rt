@@ -12,7 +12,7 @@ use crate::route::push;
 use dm_memory::NoMemory;
 use dm_message::Message;
 use dm_packet::Packet;
-use dm_rule::line::Line;
+use dm_line::line::Line;
 use dm_stream::Arrived;
 
 /// At most so many messages are taken or let go at once.

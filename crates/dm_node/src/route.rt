@@ -10,7 +10,7 @@ use crate::out::Out;
 use crate::stop::Stop;
 use dm_memory::NoMemory;
 use dm_message::Message;
-use dm_rule::line::Line;
+use dm_line::line::Line;
 
 impl Node {
     /// Routes a message to the machine that its receiver's address names.

@@ -7,7 +7,7 @@ ghost use Rattle.dm_stream.specs.declared.sender.GiveNo.TheVariants as no;
 ghost use Rattle.dm_node.specs.Acts.{count_out, none_waits};
 ghost use Rattle.dm_node.specs.Out.{numbered};
 ghost use Rattle.dm_node.specs.Meets.{receiver_of, sender_of};
-ghost use Rattle.dm_rule.specs.Sets.{at_machine};
+ghost use Rattle.dm_line.specs.Sets.{at_machine};
 
 use dm_message::Message;
 use dm_packet::Packet;

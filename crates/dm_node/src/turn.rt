@@ -16,7 +16,7 @@ use dm_kernel::{Part, moves_are_asked_lawfully, turns_are_lawful};
 use dm_link::Pid;
 use dm_memory::NoMemory;
 use dm_onekernel::Boot;
-use dm_rule::line::Line;
+use dm_line::line::Line;
 
 impl Node {
     /// Takes a turn. What it gives comes to the end of `outs`. It stops as worn exactly where it would route a message

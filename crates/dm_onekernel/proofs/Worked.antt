@@ -4,7 +4,7 @@ use Rattle.dm_link.specs.Names.{pid_of}
 use Rattle.dm_message.specs.Plain as what
 use Rattle.dm_message.specs.Plain.{PlainWhat}
 use Rattle.dm_message.specs.declared.Outcome.TheVariants as outcome
-use Rattle.dm_regs.specs.declared.registers.Fault.TheVariants as fault
+use Rattle.dm_processor.specs.declared.registers.Fault.TheVariants as fault
 use Rattle.dm_onekernel.specs.declared.boot.Format.TheVariants.{One, Two}
 use Rattle.dm_onekernel.specs.declared.label.Reply.TheVariants as reply
 use Rattle.dm_onekernel.specs.declared.label.Why.TheVariants as why

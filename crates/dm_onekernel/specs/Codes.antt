@@ -1,6 +1,6 @@
 -- The numbers of replies and of ends, and tests for equality.
 use Rattle.std.specs.Prelude.{ℕ, Bool, ◌==◌}
-use Rattle.dm_regs.specs.declared.registers.Fault.TheVariants as fault
+use Rattle.dm_processor.specs.declared.registers.Fault.TheVariants as fault
 use Rattle.dm_onekernel.specs.declared.label.Reply.{Reply}
 use Rattle.dm_onekernel.specs.declared.label.Reply.TheVariants as reply
 use Rattle.dm_onekernel.specs.declared.label.Why.{Why}

@@ -3,7 +3,7 @@ use Rattle.std.specs.Prelude.{ℕ, Bool, List, slice_index, slice_set}
 use Rattle.std.specs.declared.option.Option.{Option}
 use Rattle.dm_link.specs.declared.Pid.{Pid}
 use Rattle.dm_link.specs.Plain.{PlainLink}
-use Rattle.dm_regs.specs.declared.registers.Regs.{Regs}
+use Rattle.dm_processor.specs.declared.registers.Regs.{Regs}
 use Rattle.dm_process.specs.declared.process.Direction.{Direction}
 
 -- what a process does: it executes, waits for a message, or moves data to or from an area of another process

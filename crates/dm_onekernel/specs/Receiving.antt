@@ -9,7 +9,7 @@ use Rattle.dm_link.specs.Plain.{PlainLink}
 use Rattle.dm_message.specs.Plain.{PlainMessage, PlainWhat, User}
 use Rattle.dm_linktable.specs.Slots.{first_empty}
 use Rattle.dm_process.specs.Mail.{on_mask}
-use Rattle.dm_regs.specs.declared.registers.Regs.{Regs}
+use Rattle.dm_processor.specs.declared.registers.Regs.{Regs}
 use Rattle.dm_onekernel.specs.declared.label.Reply.{Reply}
 use Rattle.dm_onekernel.specs.declared.label.Reply.TheVariants as reply
 use Rattle.dm_onekernel.specs.Codes.{reply_code}

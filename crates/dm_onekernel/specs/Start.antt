@@ -5,7 +5,7 @@ use Rattle.std.specs.declared.option.Option.TheVariants.{None, Some}
 use Rattle.dm_link.specs.declared.Pid.{Pid}
 use Rattle.dm_link.specs.Names.{pid_eq}
 use Rattle.dm_link.specs.Plain.{PlainLink, plain_link}
-use Rattle.dm_regs.specs.declared.registers.Regs.{Regs}
+use Rattle.dm_processor.specs.declared.registers.Regs.{Regs}
 use Rattle.dm_onekernel.specs.declared.boot.Format.{Format}
 use Rattle.dm_onekernel.specs.declared.boot.BootImage.{BootImage}
 use Rattle.dm_onekernel.specs.declared.boot.BootProcess.{BootProcess}

@@ -4,7 +4,7 @@ ghost use Rattle.dm_onekernel.specs.Codes.{reply_code, why_code};
 
 use dm_link::Pid;
 use dm_message::MsgId;
-use dm_regs::Fault;
+use dm_processor::Fault;
 
 /// What a call gives back in register 0.
 #[derive(Clone, Copy, Debug, PartialEq, Eq)]

@@ -10,7 +10,7 @@ use dm_linktable::Table;
 use dm_lists::Queue;
 use dm_memory::NoMemory;
 use dm_message::{Message, What};
-use dm_regs::{Memory, Regs};
+use dm_processor::{Memory, Regs};
 use std::alloc::Global;
 
 /// What a process does when it is served.

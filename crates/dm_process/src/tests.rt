@@ -3,7 +3,7 @@ use super::*;
 use dm_link::{Addr, Pid};
 use dm_linktable::Table;
 use dm_message::{Body, Enclosed, Message, MsgId, What};
-use dm_regs::Cells;
+use dm_processor::Cells;
 use std::test::Fail;
 
 /// Message number n of process 0.3 to process 0.4, with nothing in it.

@@ -15,9 +15,9 @@ use Rattle.dm_onekernel.specs.PlainProcess.{PlainProcess}
 use Rattle.dm_onekernel.specs.Kernel.{OneKernel}
 use Rattle.dm_onekernel.specs.Step as kernel
 use Rattle.dm_onekernel.specs.Step.{machine_of, with_machine}
-use Rattle.dm_rule.specs.declared.line.Line.{Line}
-use Rattle.dm_rule.specs.declared.line.Line.TheVariants as line
-use Rattle.dm_rule.specs.declared.line.Stage.TheVariants as stage
+use Rattle.dm_line.specs.declared.line.Line.{Line}
+use Rattle.dm_line.specs.declared.line.Line.TheVariants as line
+use Rattle.dm_line.specs.declared.line.Stage.TheVariants as stage
 use Rattle.dm_rule.specs.View.{Told, About, NothingElse, Target, Of, Known, Unknown, Here, Frozen, Incoming, Forward, Ended, target_of}
 use Rattle.dm_rule.specs.View as view
 use Rattle.dm_rule.specs.Addresses.{Addresses, child_number}
@@ -235,7 +235,6 @@ net_spares (line.NoMove i) h z y = absurd h
 net_spares (line.Proto i) h z y = absurd h
 net_spares (line.NoChild p) h z y = absurd h
 net_spares (line.Pinned p) h z y = absurd h
-net_spares (line.End x) h z y = absurd h
 
 pub net_apart : (y : Pid) (ps : List Part) → IsNet ps → AllApart y ps
 net_apart y [] h = tt

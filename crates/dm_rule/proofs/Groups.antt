@@ -10,10 +10,10 @@ use Rattle.dm_onekernel.specs.Options.{bind}
 use Rattle.dm_onekernel.specs.Kernel.{OneKernel}
 use Rattle.dm_schedule.specs.declared.Step.{Step}
 use Rattle.dm_schedule.specs.declared.Step.TheVariants as step
-use Rattle.dm_rule.specs.declared.line.Line.{Line}
-use Rattle.dm_rule.specs.declared.line.Line.TheVariants as line
-use Rattle.dm_rule.specs.declared.line.Load.{Load}
-use Rattle.dm_rule.specs.declared.line.Load.TheVariants as load
+use Rattle.dm_line.specs.declared.line.Line.{Line}
+use Rattle.dm_line.specs.declared.line.Line.TheVariants as line
+use Rattle.dm_line.specs.declared.line.Load.{Load}
+use Rattle.dm_line.specs.declared.line.Load.TheVariants as load
 use Rattle.dm_rule.specs.View.{View, Pair, Told, view_after, handled, receiver_of}
 use Rattle.dm_rule.specs.View as view
 use Rattle.dm_rule.specs.Point.{Point, label_of, kernel_after, moved, after_line}
@@ -129,7 +129,6 @@ net_line pt (line.NoMove i) is h s k = absurd is
 net_line pt (line.Proto i) is h s k = absurd is
 net_line pt (line.NoChild p) is h s k = absurd is
 net_line pt (line.Pinned p) is h s k = absurd is
-net_line pt (line.End x) is h s k = absurd is
 
 net_row : (parts : List Part) (pt : Point) (w : Spelled) → IsNet parts → State None pt → spelled pt parts ≡ Some w → State None w.point
 net_row [] pt w is h e = State-at None pt w.point (said pt w e) h

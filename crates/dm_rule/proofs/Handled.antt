@@ -12,9 +12,9 @@ use Rattle.dm_onekernel.specs.declared.label.Label.TheVariants as label
 use Rattle.dm_onekernel.specs.Options.{bind}
 use Rattle.dm_onekernel.specs.Kernel.{OneKernel}
 use Rattle.dm_onekernel.specs.Step as kernel
-use Rattle.dm_rule.specs.declared.line.Line.{Line}
-use Rattle.dm_rule.specs.declared.line.Line.TheVariants as line
-use Rattle.dm_rule.specs.Sets.{at_record, without_id}
+use Rattle.dm_line.specs.declared.line.Line.{Line}
+use Rattle.dm_line.specs.declared.line.Line.TheVariants as line
+use Rattle.dm_line.specs.Sets.{at_record, without_id}
 use Rattle.dm_rule.specs.View.{View, Pair, Told, view_after, handled, receiver_of}
 use Rattle.dm_rule.specs.View as view
 use Rattle.dm_rule.specs.Point.{Point, label_of, kernel_after, moved}
@@ -49,7 +49,7 @@ use Rattle.dm_rule.proofs.Letters.{letters, letter_of}
 use Rattle.dm_rule.proofs.Said.{fits_as, one_line, line_and_route}
 use Rattle.dm_rule.proofs.MovesRows.{held_row, forwards_row, hears_row, SeesSame}
 use Rattle.dm_message.specs.Kinds.{plain_kind}
-use Rattle.dm_regs.specs.Instructions.{instruction}
+use Rattle.dm_processor.specs.Instructions.{instruction}
 
 -- a message may enter by a line, and is routed if it does
 line_and_maybe : (pt : Point) (l : Line) (o : Option PlainMessage) (w : Spelled) → spelled pt (Says l ∷ rule.routes o) ≡ Some w → (view_after pt.view l).pair ≡ pt.view.pair → PairsFit pt.view

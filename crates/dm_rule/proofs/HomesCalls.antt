@@ -16,9 +16,9 @@ use Rattle.dm_message.specs.Plain.{PlainMessage}
 use Rattle.dm_process.specs.declared.process.Direction.{Direction}
 use Rattle.dm_process.specs.declared.process.Direction.TheVariants as direction
 use Rattle.dm_process.specs.Directions.{direction_numbered}
-use Rattle.dm_regs.specs.declared.registers.Regs.{Regs}
-use Rattle.dm_regs.specs.Instructions.{Row, instruction, past}
-use Rattle.dm_regs.specs.Instructions as row
+use Rattle.dm_processor.specs.declared.registers.Regs.{Regs}
+use Rattle.dm_processor.specs.Instructions.{Row, instruction, past}
+use Rattle.dm_processor.specs.Instructions as row
 use Rattle.dm_onekernel.specs.declared.label.Reply.{Reply}
 use Rattle.dm_onekernel.specs.declared.label.Reply.TheVariants as reply
 use Rattle.dm_onekernel.specs.PlainProcess.{PlainProcess, Waiting, reg, setting}

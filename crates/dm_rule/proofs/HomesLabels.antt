@@ -14,7 +14,7 @@ use Rattle.dm_onekernel.specs.declared.label.Label.{Label}
 use Rattle.dm_onekernel.specs.declared.label.Label.TheVariants as label
 use Rattle.dm_onekernel.specs.Kernel.{OneKernel}
 use Rattle.dm_onekernel.specs.Step as kernel
-use Rattle.dm_rule.specs.Sets.{at_machine, at_record, without, moved_back}
+use Rattle.dm_line.specs.Sets.{at_machine, at_record, without, moved_back}
 use Rattle.dm_rule.specs.View as view
 use Rattle.dm_rule.specs.View.{View, Told, Known, Unknown, Here, Frozen, Incoming, Forward, after_label, served_told, kills, ended, serving, handled}
 use Rattle.dm_rule.specs.Addresses.{Addresses, given, gives, unmoved, here}

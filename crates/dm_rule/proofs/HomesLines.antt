@@ -21,10 +21,10 @@ use Rattle.dm_laws.specs.Laws.{entry, in_bag, reception}
 use Rattle.dm_laws.proofs.Sound.{Sound}
 use Rattle.dm_laws.proofs.Steps.{bind-is}
 use Rattle.dm_laws.proofs.Runs.{after_step, start-sound}
-use Rattle.dm_rule.specs.declared.line.Line.{Line}
-use Rattle.dm_rule.specs.declared.line.Line.TheVariants as line
-use Rattle.dm_rule.specs.declared.line.Load.{Load}
-use Rattle.dm_rule.specs.declared.line.Load.TheVariants as load
+use Rattle.dm_line.specs.declared.line.Line.{Line}
+use Rattle.dm_line.specs.declared.line.Line.TheVariants as line
+use Rattle.dm_line.specs.declared.line.Load.{Load}
+use Rattle.dm_line.specs.declared.line.Load.TheVariants as load
 use Rattle.dm_rule.specs.Spots.{untaken}
 use Rattle.dm_rule.specs.View as view
 use Rattle.dm_rule.specs.View.{View, Pair, Told, after_label, after_put, after_packet, after_taken, after_early, after_acked, queued_for, handled}

@@ -15,7 +15,7 @@ use Rattle.dm_message.specs.Plain.{PlainMessage}
 use Rattle.dm_onekernel.specs.declared.label.Label.{Label}
 use Rattle.dm_onekernel.specs.declared.label.Label.TheVariants as label
 use Rattle.dm_onekernel.specs.Kernel.{OneKernel}
-use Rattle.dm_rule.specs.Sets.{at_machine, at_pair, at_record, without_id, without_front}
+use Rattle.dm_line.specs.Sets.{at_machine, at_pair, at_record, without_id, without_front}
 use Rattle.dm_rule.specs.Spots.{untaken}
 use Rattle.dm_rule.specs.View as view
 use Rattle.dm_rule.specs.View.{View, Pair, Told, after_label, served_told, kills, handled, routed_on, after_put, after_taken, taken_id, oldest, queued_for}

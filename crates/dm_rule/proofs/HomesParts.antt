@@ -9,8 +9,8 @@ use Rattle.dm_onekernel.specs.declared.label.Label.TheVariants as label
 use Rattle.dm_onekernel.specs.Kernel.{OneKernel}
 use Rattle.dm_onekernel.specs.Options.{bind}
 use Rattle.dm_laws.proofs.Steps.{bind-is}
-use Rattle.dm_rule.specs.declared.line.Line.{Line}
-use Rattle.dm_rule.specs.declared.line.Line.TheVariants as line
+use Rattle.dm_line.specs.declared.line.Line.{Line}
+use Rattle.dm_line.specs.declared.line.Line.TheVariants as line
 use Rattle.dm_rule.specs.View as view
 use Rattle.dm_rule.specs.View.{View, Pair, Told, after_label, after_put, after_packet, after_taken, after_early, after_acked, queued_for, handled}
 use Rattle.dm_rule.specs.Point.{Point, after, moved}
@@ -79,7 +79,6 @@ LineAnywhere m (line.NoMove id) = ⊥
 LineAnywhere m (line.Proto id) = ⊥
 LineAnywhere m (line.NoChild p) = ⊥
 LineAnywhere m (line.Pinned p) = ⊥
-LineAnywhere m (line.End z) = ⊥
 
 abbrev pub PartAnywhere : ℕ → Part → Type 0
 PartAnywhere m (Says l) = LineAnywhere m l
@@ -154,7 +153,6 @@ line_keeps none r e pt pt' (line.NoMove id) at h is = absurd at
 line_keeps none r e pt pt' (line.Proto id) at h is = absurd at
 line_keeps none r e pt pt' (line.NoChild p) at h is = absurd at
 line_keeps none r e pt pt' (line.Pinned p) at h is = absurd at
-line_keeps none r e pt pt' (line.End z) at h is = absurd at
 
 pub part_keeps : NoneReplaced → (r e : MsgId → ℕ) (pt pt' : Point) (p : Part) (ls : List Line) → PartAnywhere pt.view.acting p → Home r e pt → lines_of pt p ≡ Some ls → after pt ls ≡ Some pt' → Kept pt.view.acting pt'
 part_keeps none r e pt pt' (Says l) ls at h is next = let f : l ∷ [] ≡ ls = cc in line_keeps none r e pt pt' l at h (ap (after pt) f ∙ next)

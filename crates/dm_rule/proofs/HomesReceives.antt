@@ -15,7 +15,7 @@ use Rattle.dm_message.specs.declared.MsgId.{MsgId}
 use Rattle.dm_message.specs.Plain as what
 use Rattle.dm_message.specs.Plain.{PlainMessage, PlainWhat}
 use Rattle.dm_process.specs.Mail.{on_mask}
-use Rattle.dm_regs.specs.declared.registers.Regs.{Regs}
+use Rattle.dm_processor.specs.declared.registers.Regs.{Regs}
 use Rattle.dm_onekernel.specs.declared.label.Label.TheVariants as label
 use Rattle.dm_onekernel.specs.declared.label.Reply.{Reply}
 use Rattle.dm_onekernel.specs.Codes.{reply_eq, reply_code}

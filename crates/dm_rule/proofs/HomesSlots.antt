@@ -6,13 +6,13 @@ use Rattle.std.specs.declared.option.Option.TheVariants.{None, Some}
 use Rattle.std.proofs.lemmas.Bool.Decides.{nat_tests}
 use Rattle.dm_link.specs.Plain.{PlainLink}
 use Rattle.dm_linktable.specs.Slots.{link_at}
-use Rattle.dm_regs.specs.declared.registers.Regs.{Regs}
-use Rattle.dm_regs.specs.declared.opcodes.Opcode.{Opcode}
-use Rattle.dm_regs.specs.declared.opcodes.Opcode.TheVariants as op
-use Rattle.dm_regs.specs.Instructions as row
-use Rattle.dm_regs.specs.declared.registers.Fault.TheVariants as fault
-use Rattle.dm_regs.specs.Opcodes.{opcode_of}
-use Rattle.dm_regs.specs.Instructions.{Row, instruction, past}
+use Rattle.dm_processor.specs.declared.registers.Regs.{Regs}
+use Rattle.dm_processor.specs.declared.opcodes.Opcode.{Opcode}
+use Rattle.dm_processor.specs.declared.opcodes.Opcode.TheVariants as op
+use Rattle.dm_processor.specs.Instructions as row
+use Rattle.dm_processor.specs.declared.registers.Fault.TheVariants as fault
+use Rattle.dm_processor.specs.Opcodes.{opcode_of}
+use Rattle.dm_processor.specs.Instructions.{Row, instruction, past}
 use Rattle.dm_onekernel.specs.Calls as calls
 
 -- a slot that was set holds what it was set to, and the others what they held

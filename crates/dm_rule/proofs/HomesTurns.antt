@@ -37,7 +37,7 @@ use Rattle.dm_onekernel.specs.Calls as calls
 use Rattle.dm_onekernel.specs.PlainProcess.{PlainProcess, PlainStatus, Ready, Waiting, Moving}
 use Rattle.dm_rule.specs.View.{actor}
 use Rattle.dm_rule.specs.Rule as rule
-use Rattle.dm_regs.specs.Instructions.{instruction}
+use Rattle.dm_processor.specs.Instructions.{instruction}
 use Rattle.dm_rule.specs.Rule.{group_of, outcome, headed}
 use Rattle.dm_rule.proofs.HomesParts.{PartsAnywhere}
 use Rattle.dm_link.specs.Names.{pid_of, pid_eq}

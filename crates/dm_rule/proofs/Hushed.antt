@@ -10,10 +10,10 @@ use Rattle.dm_onekernel.specs.declared.label.Label.{Label}
 use Rattle.dm_onekernel.specs.declared.label.Label.TheVariants as label
 use Rattle.dm_schedule.specs.declared.Step.{Step}
 use Rattle.dm_schedule.specs.declared.Step.TheVariants as step
-use Rattle.dm_rule.specs.declared.line.Line.{Line}
-use Rattle.dm_rule.specs.declared.line.Line.TheVariants as line
-use Rattle.dm_rule.specs.declared.line.Stage.{Stage}
-use Rattle.dm_rule.specs.declared.line.Stage.TheVariants as stage
+use Rattle.dm_line.specs.declared.line.Line.{Line}
+use Rattle.dm_line.specs.declared.line.Line.TheVariants as line
+use Rattle.dm_line.specs.declared.line.Stage.{Stage}
+use Rattle.dm_line.specs.declared.line.Stage.TheVariants as stage
 use Rattle.dm_rule.specs.View.{View, Told, About, NothingElse, Target, Of, Place, view_after, after_head, after_label, after_stage, after_proto, follows_up, asks_on, queued_for, held_for, dropped_for, forwarded_for, served_told, kills, receiver_of, taken_id, oldest, with_pair, handled}
 
 -- nothing is told or counted
@@ -174,4 +174,3 @@ hushed v (line.NoMove id) e = record { count = refl; told = refl }
 hushed v (line.Proto id) e = let h = proto_hush (handled v id) (v.told id) in record { count = h.count; told = h.told }
 hushed v (line.NoChild p) e = hush v
 hushed v (line.Pinned p) e = hush v
-hushed v (line.End x) e = hush v

@@ -12,7 +12,7 @@ use Rattle.dm_link.specs.Names.{pid_eq}
 use Rattle.dm_message.specs.declared.MsgId.{MsgId}
 use Rattle.dm_message.specs.declared.kind.MessageKind.{MessageKind}
 use Rattle.dm_message.specs.Ids.{id_eq}
-use Rattle.dm_rule.specs.Sets.{at_machine, at_pair, at_id, at_record, without_id, without_front}
+use Rattle.dm_line.specs.Sets.{at_machine, at_pair, at_id, at_record, without_id, without_front}
 use Rattle.dm_rule.specs.View.{View, Pair, Told, handled, receiver_of}
 use Rattle.dm_rule.specs.View as view
 use Rattle.dm_rule.specs.Spots.{Spot, Queue, Held, Inbox, Untaken, times, untaken, ids_at, standing, StandsAsBag}

@@ -9,7 +9,7 @@ use Rattle.dm_link.specs.Names.{pid_eq}
 use Rattle.dm_onekernel.specs.PlainProcess.{PlainProcess}
 use Rattle.dm_onekernel.specs.Kernel.{Life, Alive, Ended, OneKernel}
 use Rattle.dm_onekernel.specs.Step as kernel
-use Rattle.dm_rule.specs.Sets.{at_record}
+use Rattle.dm_line.specs.Sets.{at_record}
 use Rattle.dm_rule.specs.View.{View, Known, Unknown, Here}
 use Rattle.dm_laws.proofs.Equal.{pid_eq-is}
 use Rattle.dm_laws.proofs.Grown.{LifeGrows}

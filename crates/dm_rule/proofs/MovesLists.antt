@@ -8,7 +8,7 @@ use Rattle.dm_link.specs.declared.Pid.{Pid}
 use Rattle.dm_link.specs.Names.{pid_eq}
 use Rattle.dm_message.specs.declared.MsgId.{MsgId}
 use Rattle.dm_message.specs.Ids.{id_eq}
-use Rattle.dm_rule.specs.Sets.{at_machine, at_record}
+use Rattle.dm_line.specs.Sets.{at_machine, at_record}
 use Rattle.dm_rule.specs.View.{View, handled, handled_first, without_first, receiver_of, held_for, released}
 use Rattle.dm_rule.specs.Spots.{Spot, Queue, Held, Inbox, Untaken, times, ids_at, standing, StandsOnce, StandsNowhere, StandsAsBag}
 use Rattle.dm_laws.proofs.Equal.{pid_eq-is, id_eq-is, id_eq-same, id_eq-swap}

@@ -12,9 +12,9 @@ use Rattle.dm_onekernel.specs.declared.boot.Boot.{Boot}
 use Rattle.dm_onekernel.specs.Boot.{switchboard, manager}
 use Rattle.dm_onekernel.specs.PlainProcess.{PlainProcess}
 use Rattle.dm_onekernel.specs.Step as kernel
-use Rattle.dm_rule.specs.declared.line.Line.{Line}
-use Rattle.dm_rule.specs.declared.line.Line.TheVariants as line
-use Rattle.dm_rule.specs.declared.line.Stage.TheVariants as stage
+use Rattle.dm_line.specs.declared.line.Line.{Line}
+use Rattle.dm_line.specs.declared.line.Line.TheVariants as line
+use Rattle.dm_line.specs.declared.line.Stage.TheVariants as stage
 use Rattle.dm_rule.specs.View.{View, Told, About, NothingElse, Target, Of, Known, Unknown, Here, Frozen, Incoming, Forward, Ended, view_after, handled, handled_first, receiver_of, is_kernels, target_of, with_ring, knowing, released, after_proto, follows_up, asks_on, held_for}
 use Rattle.dm_rule.specs.View as view
 use Rattle.dm_rule.specs.Addresses.{Addresses, Sender, Child, is_told_back, child_number}

@@ -12,9 +12,9 @@ use Rattle.dm_message.specs.Ids.{id_eq}
 use Rattle.dm_onekernel.specs.Options.{bind}
 use Rattle.dm_onekernel.specs.declared.label.Label.{Label}
 use Rattle.dm_onekernel.specs.Kernel.{OneKernel}
-use Rattle.dm_rule.specs.declared.line.Line.{Line}
-use Rattle.dm_rule.specs.declared.line.Line.TheVariants as line
-use Rattle.dm_rule.specs.declared.line.Load.{Load}
+use Rattle.dm_line.specs.declared.line.Line.{Line}
+use Rattle.dm_line.specs.declared.line.Line.TheVariants as line
+use Rattle.dm_line.specs.declared.line.Load.{Load}
 use Rattle.dm_rule.specs.View.{View, Pair, Told, view_after, handled, handled_first, receiver_of, is_kernels, own_id, forwarded_for, routed_on, after_put}
 use Rattle.dm_rule.specs.Point.{Point, label_of, kernel_after, moved, after}
 use Rattle.dm_rule.specs.Parts.{Part, Says, Again, Owns, Spelled, lines_of, puts, behind, spelled}

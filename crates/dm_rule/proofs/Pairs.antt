@@ -8,8 +8,8 @@ use Rattle.dm_onekernel.specs.declared.boot.Boot.{Boot}
 use Rattle.dm_onekernel.specs.Options.{bind}
 use Rattle.dm_schedule.specs.declared.Step.{Step}
 use Rattle.dm_schedule.specs.declared.Step.TheVariants as step
-use Rattle.dm_rule.specs.declared.line.Line.TheVariants as line
-use Rattle.dm_rule.specs.Sets.{at_pair}
+use Rattle.dm_line.specs.declared.line.Line.TheVariants as line
+use Rattle.dm_line.specs.Sets.{at_pair}
 use Rattle.dm_rule.specs.View.{View, Pair, first_view, marked}
 use Rattle.dm_rule.specs.Point.{Point, after_line, first_point}
 use Rattle.dm_rule.specs.Parts.{Part, Says, Spelled, spelled}

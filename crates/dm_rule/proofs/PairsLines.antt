@@ -11,12 +11,12 @@ use Rattle.dm_message.specs.Kinds.{plain_kind}
 use Rattle.dm_onekernel.specs.declared.label.Label.{Label}
 use Rattle.dm_onekernel.specs.declared.label.Label.TheVariants as label
 use Rattle.dm_onekernel.specs.Options.{bind}
-use Rattle.dm_rule.specs.declared.line.Line.{Line}
-use Rattle.dm_rule.specs.declared.line.Line.TheVariants as line
-use Rattle.dm_rule.specs.declared.line.Load.{Load}
-use Rattle.dm_rule.specs.declared.line.Load.TheVariants as load
-use Rattle.dm_rule.specs.declared.line.Stage.{Stage}
-use Rattle.dm_rule.specs.declared.line.Stage.TheVariants as stage
+use Rattle.dm_line.specs.declared.line.Line.{Line}
+use Rattle.dm_line.specs.declared.line.Line.TheVariants as line
+use Rattle.dm_line.specs.declared.line.Load.{Load}
+use Rattle.dm_line.specs.declared.line.Load.TheVariants as load
+use Rattle.dm_line.specs.declared.line.Stage.{Stage}
+use Rattle.dm_line.specs.declared.line.Stage.TheVariants as stage
 use Rattle.dm_rule.specs.View.{View, Pair, Told, view_after, after_label, after_stage, after_packet, queued_for, held_for, dropped_for, forwarded_for, served_told, kills, receiver_of, taken_id, handled, own_id, after_proto, follows_up, asks_on, About, NothingElse, Target, Of, Place}
 use Rattle.dm_rule.specs.Addresses.{Receiver}
 use Rattle.dm_rule.specs.Point.{Point, kernel_after, label_of, moved, after_line, after}
@@ -157,7 +157,6 @@ pair_same v (line.NoMove id) e = refl
 pair_same v (line.Proto id) e = proto_pair (handled v id) (v.told id)
 pair_same v (line.NoChild p) e = refl
 pair_same v (line.Pinned p) e = refl
-pair_same v (line.End x) e = refl
 
 -- the view after a line
 pub line_view : (pt next : Point) (l : Line) → after_line pt l ≡ Some next → next.view ≡ view_after pt.view l

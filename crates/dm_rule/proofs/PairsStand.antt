@@ -5,9 +5,9 @@ use Rattle.std.specs.declared.option.Option.{Option}
 use Rattle.std.specs.declared.option.Option.TheVariants.{None, Some}
 use Rattle.std.proofs.lemmas.Bool.{cases_Bool}
 use Rattle.std.proofs.lemmas.Bool.Decides.{nat_tests}
-use Rattle.dm_rule.specs.declared.line.Load.{Load}
-use Rattle.dm_rule.specs.declared.line.Load.TheVariants as load
-use Rattle.dm_rule.specs.Sets.{at_pair}
+use Rattle.dm_line.specs.declared.line.Load.{Load}
+use Rattle.dm_line.specs.declared.line.Load.TheVariants as load
+use Rattle.dm_line.specs.Sets.{at_pair}
 use Rattle.dm_rule.specs.View.{Pair, Sent, marked_at}
 use Rattle.dm_rule.specs.Rule.{has}
 use Rattle.dm_rule.specs.Pairs.{HomeStands}

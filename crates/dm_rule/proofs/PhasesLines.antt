@@ -11,9 +11,9 @@ use Rattle.dm_link.specs.Names.{pid_eq}
 use Rattle.dm_message.specs.declared.MsgId.{MsgId}
 use Rattle.dm_message.specs.declared.kind.MessageKind.{MessageKind}
 use Rattle.dm_message.specs.Ids.{id_eq}
-use Rattle.dm_rule.specs.declared.line.Load.{Load}
-use Rattle.dm_rule.specs.declared.line.Line.TheVariants as line
-use Rattle.dm_rule.specs.Sets.{at_machine, at_pair, at_record, without_id, without_front}
+use Rattle.dm_line.specs.declared.line.Load.{Load}
+use Rattle.dm_line.specs.declared.line.Line.TheVariants as line
+use Rattle.dm_line.specs.Sets.{at_machine, at_pair, at_record, without_id, without_front}
 use Rattle.dm_rule.specs.View.{View, Pair, Told, handled, queued_for, held_for, dropped_for, forwarded_for, served_told, kills, view_after, after_put, after_taken, taken_id, with_pair, routed_on}
 use Rattle.dm_rule.specs.View as view
 use Rattle.dm_rule.specs.Spots.{Spot, Queue, Held, Inbox, Untaken, times, untaken, standing}

@@ -11,9 +11,9 @@ use Rattle.dm_message.specs.declared.MsgId.{MsgId}
 use Rattle.dm_onekernel.specs.Boot.{switchboard, manager}
 use Rattle.dm_schedule.specs.declared.Step.{Step}
 use Rattle.dm_schedule.specs.declared.Step.TheVariants as step
-use Rattle.dm_rule.specs.declared.line.Line.{Line}
-use Rattle.dm_rule.specs.declared.line.Line.TheVariants as line
-use Rattle.dm_rule.specs.Sets.{at_machine, at_pair}
+use Rattle.dm_line.specs.declared.line.Line.{Line}
+use Rattle.dm_line.specs.declared.line.Line.TheVariants as line
+use Rattle.dm_line.specs.Sets.{at_machine, at_pair}
 use Rattle.dm_rule.specs.View.{View, Pair, view_after, after_head, taken_id, with_pair}
 use Rattle.dm_rule.specs.Addresses.{Addresses, child_number}
 use Rattle.dm_rule.specs.Point.{Point, moved}
@@ -163,7 +163,6 @@ net_calm v (line.NoMove i) h = absurd h
 net_calm v (line.Proto i) h = absurd h
 net_calm v (line.NoChild p) h = absurd h
 net_calm v (line.Pinned p) h = absurd h
-net_calm v (line.End x) h = absurd h
 
 pub net_parts : (ps : List Part) (pt : Point) (w : Spelled) → IsNet ps → spelled pt ps ≡ Some w → Calm pt.view w.point.view
 net_parts [] pt w h e = subst (λ (q : Point). Calm pt.view q.view) (said pt w e) (calm_same pt.view)

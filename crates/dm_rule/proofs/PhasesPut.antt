@@ -10,7 +10,7 @@ use Rattle.dm_link.specs.Names.{pid_of, pid_eq}
 use Rattle.dm_message.specs.declared.MsgId.{MsgId}
 use Rattle.dm_message.specs.declared.kind.MessageKind.{MessageKind}
 use Rattle.dm_message.specs.Ids.{id_eq}
-use Rattle.dm_rule.specs.Sets.{at_machine}
+use Rattle.dm_line.specs.Sets.{at_machine}
 use Rattle.dm_rule.specs.View.{View, Pair, Told, About, Of, Known, own_id, after_put, routed_on}
 use Rattle.dm_rule.specs.View as view
 use Rattle.dm_rule.specs.Spots.{Spot, Inbox, Untaken, times, untaken, standing, StandsOnce}

@@ -16,11 +16,11 @@ use Rattle.dm_onekernel.specs.declared.label.Label.TheVariants as label
 use Rattle.dm_onekernel.specs.Kernel.{OneKernel}
 use Rattle.dm_onekernel.specs.Options.{bind}
 use Rattle.dm_onekernel.specs.Step as kernel
-use Rattle.dm_rule.specs.declared.line.Line.{Line}
-use Rattle.dm_rule.specs.declared.line.Line.TheVariants as line
-use Rattle.dm_rule.specs.declared.line.Load.TheVariants as load
-use Rattle.dm_rule.specs.declared.line.Stage.TheVariants as stage
-use Rattle.dm_rule.specs.Sets.{at_record, without_id}
+use Rattle.dm_line.specs.declared.line.Line.{Line}
+use Rattle.dm_line.specs.declared.line.Line.TheVariants as line
+use Rattle.dm_line.specs.declared.line.Load.TheVariants as load
+use Rattle.dm_line.specs.declared.line.Stage.TheVariants as stage
+use Rattle.dm_line.specs.Sets.{at_record, without_id}
 use Rattle.dm_rule.specs.View.{View, Pair, Told, is_kernels, own_id, view_after, handled, receiver_of, kills, served_told}
 use Rattle.dm_rule.specs.View as view
 use Rattle.dm_rule.specs.Addresses.{Receiver}
@@ -103,7 +103,6 @@ QuietLine v (line.SentOn p n) = ⊥
 QuietLine v (line.Lacks p a b) = ⊥
 QuietLine v (line.Stays p) = ⊥
 QuietLine v (line.Proto i) = ⊥
-QuietLine v (line.End x) = ⊥
 
 abbrev pub Quiet : View → Part → Type 0
 Quiet v (Says l) = QuietLine v l
@@ -161,7 +160,6 @@ line_on v w (line.SentOn p n) c h = h
 line_on v w (line.Lacks p a b) c h = h
 line_on v w (line.Stays p) c h = h
 line_on v w (line.Proto i) c h = h
-line_on v w (line.End x) c h = h
 line_on v w (line.Migration stage.Frozen p) c h = h
 line_on v w (line.Migration stage.Asked p) c h = h
 line_on v w (line.Migration stage.Accepted p) c h = h
@@ -201,7 +199,6 @@ quiet_touches v (line.SentOn p n) h = refl
 quiet_touches v (line.Lacks p a b) h = refl
 quiet_touches v (line.Stays p) h = refl
 quiet_touches v (line.Proto i) h = refl
-quiet_touches v (line.End x) h = refl
 quiet_touches v (line.Migration stage.Frozen p) h = refl
 quiet_touches v (line.Migration stage.Asked p) h = refl
 quiet_touches v (line.Migration stage.Accepted p) h = refl
@@ -234,7 +231,6 @@ quiet_put v (line.SentOn p n) h = refl
 quiet_put v (line.Lacks p a b) h = refl
 quiet_put v (line.Stays p) h = refl
 quiet_put v (line.Proto i) h = refl
-quiet_put v (line.End x) h = refl
 quiet_put v (line.Migration stage.Frozen p) h = refl
 quiet_put v (line.Migration stage.Asked p) h = refl
 quiet_put v (line.Migration stage.Accepted p) h = refl
@@ -362,7 +358,6 @@ line_calm pt s (line.SentOn p n) h quiet is = absurd quiet
 line_calm pt s (line.Lacks p a b) h quiet is = absurd quiet
 line_calm pt s (line.Stays p) h quiet is = absurd quiet
 line_calm pt s (line.Proto i) h quiet is = absurd quiet
-line_calm pt s (line.End x) h quiet is = absurd quiet
 line_calm pt s (line.Migration stage.Frozen p) h quiet is = absurd quiet
 line_calm pt s (line.Migration stage.Asked p) h quiet is = calm_same pt.view
 line_calm pt s (line.Migration stage.Accepted p) h quiet is = absurd quiet

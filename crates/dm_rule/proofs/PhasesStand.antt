@@ -8,7 +8,7 @@ use Rattle.dm_link.specs.declared.Pid.{Pid}
 use Rattle.dm_link.specs.Names.{pid_eq}
 use Rattle.dm_message.specs.declared.MsgId.{MsgId}
 use Rattle.dm_message.specs.declared.kind.MessageKind.{MessageKind}
-use Rattle.dm_rule.specs.Sets.{at_pid}
+use Rattle.dm_line.specs.Sets.{at_pid}
 use Rattle.dm_rule.specs.View.{View, Told, Of}
 use Rattle.dm_rule.specs.Spots.{Spot, Queue, Held, Inbox, Untaken, standing}
 use Rattle.dm_rule.specs.Phases.{is_between, is_apart, Phase, Nowhere, Rests, Over, Moves, knows, is_due, token_in, sender_in, receiver_in, told_between, IsToken, HasToken, Alone, IsIn}

@@ -2,7 +2,7 @@
 use Rattle.std.proofs.Common.{◌≡◌, ℕ, length, refl, ap, sym, ◌∙◌, lit<}
 use Rattle.std.specs.declared.option.Option.{Option}
 use Rattle.std.specs.declared.option.Option.TheVariants.{None, Some}
-use Rattle.dm_regs.specs.Instructions.{instruction}
+use Rattle.dm_processor.specs.Instructions.{instruction}
 use Rattle.dm_schedule.specs.declared.Step.TheVariants as directive
 use Rattle.dm_rule.specs.Parts.{Spelled}
 use Rattle.dm_rule.specs.Point.{first_point}

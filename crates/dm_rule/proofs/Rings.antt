@@ -4,7 +4,7 @@ use Rattle.std.specs.Prelude.{⊤, if◌then◌else◌}
 use Rattle.std.proofs.lemmas.Bool.{cases_Bool, false≢true}
 use Rattle.dm_link.specs.declared.Pid.{Pid}
 use Rattle.dm_link.specs.Names.{pid_eq}
-use Rattle.dm_rule.specs.Sets.{at_machine, at_record, without, moved_back}
+use Rattle.dm_line.specs.Sets.{at_machine, at_record, without, moved_back}
 use Rattle.dm_rule.specs.View.{View, Known, Here}
 use Rattle.dm_laws.proofs.Equal.{pid_eq-is, pid_eq-same}
 use Rattle.dm_rule.proofs.Lines.{eq_is}

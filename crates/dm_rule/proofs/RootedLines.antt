@@ -20,10 +20,10 @@ use Rattle.dm_onekernel.specs.Service.{without_message}
 use Rattle.dm_onekernel.specs.Start.{begun}
 use Rattle.dm_onekernel.specs.Step as kernel
 use Rattle.dm_schedule.specs.declared.Step.TheVariants as step
-use Rattle.dm_rule.specs.declared.line.Line.{Line}
-use Rattle.dm_rule.specs.declared.line.Line.TheVariants as line
-use Rattle.dm_rule.specs.declared.line.Stage.TheVariants as stage
-use Rattle.dm_rule.specs.Sets.{at_machine, at_record, without, moved_back}
+use Rattle.dm_line.specs.declared.line.Line.{Line}
+use Rattle.dm_line.specs.declared.line.Line.TheVariants as line
+use Rattle.dm_line.specs.declared.line.Stage.TheVariants as stage
+use Rattle.dm_line.specs.Sets.{at_machine, at_record, without, moved_back}
 use Rattle.dm_rule.specs.View.{View, Told, About, NothingElse, Target, Of, Known, Unknown, Here, Frozen, Incoming, Forward, Ended, view_after, handled, handled_first, receiver_of, kills, served_told, target_of, front_told, front_of, gone_to}
 use Rattle.dm_rule.specs.View as view
 use Rattle.dm_rule.specs.Point.{Point, label_of, kernel_after}
@@ -261,7 +261,6 @@ Needs pt (line.NoMove i) = ⊤
 Needs pt (line.Proto i) = ⊤
 Needs pt (line.NoChild p) = ⊤
 Needs pt (line.Pinned p) = ⊤
-Needs pt (line.End x) = ⊤
 
 label_roots : (pt : Point) (t : OneKernel) (l : Label) → NeedsLabel pt l → Sane pt → Kept pt.kernel t → kernel.step pt.kernel l ≡ Some t → Roots pt.kernel pt.view → Roots t (view_after pt.view (line.Label l))
 label_roots pt t (label.Ran p k) need sane kept e h = roots_ring pt.kernel t pt.view (view_after pt.view (line.Label (label.Ran p k))) p kept refl refl need h
@@ -308,7 +307,6 @@ line_by pt t (line.Here i) need sane kept e h = roots_idle pt.kernel t pt.view (
 line_by pt t (line.NoMove i) need sane kept e h = roots_idle pt.kernel t pt.view (view_after pt.view (line.NoMove i)) kept (record { known = refl; ring = refl }) h
 line_by pt t (line.NoChild p) need sane kept e h = roots_idle pt.kernel t pt.view (view_after pt.view (line.NoChild p)) kept (record { known = refl; ring = refl }) h
 line_by pt t (line.Pinned p) need sane kept e h = roots_idle pt.kernel t pt.view (view_after pt.view (line.Pinned p)) kept (record { known = refl; ring = refl }) h
-line_by pt t (line.End x) need sane kept e h = roots_idle pt.kernel t pt.view (view_after pt.view (line.End x)) kept (record { known = refl; ring = refl }) h
 line_by pt t (line.Migration stage.Asked p) need sane kept e h = roots_idle pt.kernel t pt.view (view_after pt.view (line.Migration stage.Asked p)) kept (record { known = refl; ring = refl }) h
 line_by pt t (line.Migration stage.StateTaken p) need sane kept e h = roots_idle pt.kernel t pt.view (view_after pt.view (line.Migration stage.StateTaken p)) kept (record { known = refl; ring = refl }) h
 line_by pt t (line.Migration stage.MemoryTaken p) need sane kept e h = roots_idle pt.kernel t pt.view (view_after pt.view (line.Migration stage.MemoryTaken p)) kept (record { known = refl; ring = refl }) h

@@ -15,9 +15,9 @@ use Rattle.dm_onekernel.specs.PlainProcess.{PlainProcess}
 use Rattle.dm_onekernel.specs.Kernel.{OneKernel}
 use Rattle.dm_onekernel.specs.Step as kernel
 use Rattle.dm_onekernel.specs.Step.{machine_of, with_machine}
-use Rattle.dm_rule.specs.declared.line.Line.{Line}
-use Rattle.dm_rule.specs.declared.line.Line.TheVariants as line
-use Rattle.dm_rule.specs.declared.line.Stage.TheVariants as stage
+use Rattle.dm_line.specs.declared.line.Line.{Line}
+use Rattle.dm_line.specs.declared.line.Line.TheVariants as line
+use Rattle.dm_line.specs.declared.line.Stage.TheVariants as stage
 use Rattle.dm_rule.specs.View.{Told, About, NothingElse, Target, Of, Known, Unknown, Here, Frozen, Incoming, Forward, Ended, target_of}
 use Rattle.dm_rule.specs.View as view
 use Rattle.dm_rule.specs.Addresses.{Addresses, child_number}
@@ -240,7 +240,6 @@ net_needs (line.NoMove i) h pt = absurd h
 net_needs (line.Proto i) h pt = absurd h
 net_needs (line.NoChild p) h pt = absurd h
 net_needs (line.Pinned p) h pt = absurd h
-net_needs (line.End x) h pt = absurd h
 
 pub net_loose : (ps : List Part) → IsNet ps → AllLoose ps
 net_loose [] h = tt

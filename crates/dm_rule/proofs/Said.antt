@@ -3,7 +3,7 @@ use Rattle.std.proofs.Common.{◌≡◌, ℕ, ◌≤◌, [], ◌∷◌, sym, sub
 use Rattle.std.specs.declared.option.Option.TheVariants.{None, Some}
 use Rattle.dm_message.specs.declared.MsgId.{MsgId}
 use Rattle.dm_onekernel.specs.Kernel.{OneKernel}
-use Rattle.dm_rule.specs.declared.line.Line.{Line}
+use Rattle.dm_line.specs.declared.line.Line.{Line}
 use Rattle.dm_rule.specs.View.{View, Pair, view_after}
 use Rattle.dm_rule.specs.Point.{Point, label_of, kernel_after, moved}
 use Rattle.dm_rule.specs.Parts.{Says, Routes, Spelled, spelled}

@@ -19,9 +19,9 @@ use Rattle.dm_onekernel.specs.Options.{bind}
 use Rattle.dm_onekernel.specs.Step as kernel
 use Rattle.dm_schedule.specs.declared.Step.{Step}
 use Rattle.dm_schedule.specs.declared.Step.TheVariants as step
-use Rattle.dm_rule.specs.declared.line.Line.{Line}
-use Rattle.dm_rule.specs.declared.line.Line.TheVariants as line
-use Rattle.dm_rule.specs.declared.line.Load.TheVariants as load
+use Rattle.dm_line.specs.declared.line.Line.{Line}
+use Rattle.dm_line.specs.declared.line.Line.TheVariants as line
+use Rattle.dm_line.specs.declared.line.Load.TheVariants as load
 use Rattle.dm_rule.specs.View.{View, Pair, Told, view_after, is_kernels, own_id}
 use Rattle.dm_rule.specs.View as view
 use Rattle.dm_rule.specs.Addresses.{Receiver}
@@ -40,7 +40,7 @@ use Rattle.dm_rule.proofs.Letters.{not_kernels}
 use Rattle.dm_rule.proofs.Hushed.{is_put, hushed}
 use Rattle.dm_rule.proofs.States.{put_told_off, numbered_as, numbered_put}
 use Rattle.dm_rule.proofs.MovesStates.{not_first, own_numbered}
-use Rattle.dm_rule.specs.Sets.{at_machine}
+use Rattle.dm_line.specs.Sets.{at_machine}
 use Rattle.dm_link.specs.Names.{pid_of}
 use Rattle.dm_message.specs.Ids.{id_of}
 use Rattle.std.specs.Prelude.{slice_get}
@@ -325,7 +325,6 @@ quiet_of (line.NoMove i) e = refl
 quiet_of (line.Proto i) e = refl
 quiet_of (line.NoChild p) e = refl
 quiet_of (line.Pinned p) e = refl
-quiet_of (line.End x) e = refl
 quiet_of line.Nothing e = refl
 
 fit_sayable : (f : ℕ → ℕ → Pair) (ps : List Part) → AllFit f ps → AllSayable ps
@@ -360,7 +359,6 @@ net_quiet (line.NoMove i) h = absurd h
 net_quiet (line.Proto i) h = absurd h
 net_quiet (line.NoChild p) h = absurd h
 net_quiet (line.Pinned p) h = absurd h
-net_quiet (line.End x) h = absurd h
 net_quiet line.Nothing h = refl
 
 net_sayable : (ps : List Part) → IsNet ps → AllSayable ps

@@ -12,9 +12,9 @@ use Rattle.dm_onekernel.specs.Boot.{switchboard, manager}
 use Rattle.dm_onekernel.specs.Options.{bind}
 use Rattle.dm_schedule.specs.declared.Step.TheVariants as step
 use Rattle.dm_laws.proofs.Steps.{bind-is}
-use Rattle.dm_rule.specs.declared.line.Line.{Line}
-use Rattle.dm_rule.specs.declared.line.Line.TheVariants as line
-use Rattle.dm_rule.specs.declared.line.Load.TheVariants as load
+use Rattle.dm_line.specs.declared.line.Line.{Line}
+use Rattle.dm_line.specs.declared.line.Line.TheVariants as line
+use Rattle.dm_line.specs.declared.line.Load.TheVariants as load
 use Rattle.dm_rule.specs.View.{own_id}
 use Rattle.dm_rule.specs.Addresses.{Child, child_number}
 use Rattle.dm_rule.specs.Point.{Point, moved, after}

@@ -12,7 +12,7 @@ use Rattle.dm_onekernel.specs.declared.label.Label.{Label}
 use Rattle.dm_onekernel.specs.declared.label.Label.TheVariants as label
 use Rattle.dm_onekernel.specs.Kernel.{OneKernel}
 use Rattle.dm_onekernel.specs.Step as kernel
-use Rattle.dm_rule.specs.declared.line.Line.TheVariants as line
+use Rattle.dm_line.specs.declared.line.Line.TheVariants as line
 use Rattle.dm_rule.specs.View.{View, Told, Here, is_kernels, after_label, served_told, kills, handled, dropped_for, receiver_of}
 use Rattle.dm_rule.specs.Addresses.{Addresses, Receiver, Sender, given, gives, here}
 use Rattle.dm_rule.specs.Homes.{ascends, to_of}

@@ -8,8 +8,8 @@ use Rattle.dm_onekernel.specs.Options.{bind}
 use Rattle.dm_schedule.specs.declared.Step.{Step}
 use Rattle.dm_schedule.specs.declared.Step.TheVariants as step
 use Rattle.dm_laws.proofs.Steps.{bind-is}
-use Rattle.dm_rule.specs.declared.line.Line.{Line}
-use Rattle.dm_rule.specs.declared.line.Line.TheVariants as line
+use Rattle.dm_line.specs.declared.line.Line.{Line}
+use Rattle.dm_line.specs.declared.line.Line.TheVariants as line
 use Rattle.dm_rule.specs.Point.{Point, after, after_line}
 use Rattle.dm_rule.specs.Parts.{Part, Says, Routes, Again, Owns, Transmits, Spelled, spelled, lines_of, packet_line, behind}
 use Rattle.dm_rule.specs.Rule as rule
@@ -38,7 +38,6 @@ is_free (line.NoMove i) = true
 is_free (line.Proto i) = true
 is_free (line.NoChild p) = true
 is_free (line.Pinned p) = true
-is_free (line.End x) = true
 is_free line.Nothing = true
 is_free (line.Label l) = false
 is_free (line.Put a b i k q) = false
@@ -65,7 +64,6 @@ free_fits pt t (line.NoMove i) e = tt
 free_fits pt t (line.Proto i) e = tt
 free_fits pt t (line.NoChild p) e = tt
 free_fits pt t (line.Pinned p) e = tt
-free_fits pt t (line.End x) e = tt
 free_fits pt t line.Nothing e = tt
 free_fits pt t (line.Label l) e = absurd (false≢true e)
 free_fits pt t (line.Put a b i k q) e = absurd (false≢true e)
@@ -109,7 +107,6 @@ net_line (line.NoMove i) h = refl
 net_line (line.Proto i) h = refl
 net_line (line.NoChild p) h = refl
 net_line (line.Pinned p) h = refl
-net_line (line.End x) h = refl
 net_line line.Nothing h = refl
 net_line (line.Label l) h = absurd h
 net_line (line.Put a b i k q) h = absurd h

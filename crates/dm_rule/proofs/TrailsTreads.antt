@@ -15,10 +15,10 @@ use Rattle.dm_onekernel.specs.Step as kernel
 use Rattle.dm_schedule.specs.declared.Step.{Step}
 use Rattle.dm_schedule.specs.declared.Step.TheVariants as step
 use Rattle.dm_laws.proofs.Steps.{bind-is}
-use Rattle.dm_rule.specs.declared.line.Line.{Line}
-use Rattle.dm_rule.specs.declared.line.Line.TheVariants as line
-use Rattle.dm_rule.specs.declared.line.Stage.{Stage}
-use Rattle.dm_rule.specs.declared.line.Stage.TheVariants as stage
+use Rattle.dm_line.specs.declared.line.Line.{Line}
+use Rattle.dm_line.specs.declared.line.Line.TheVariants as line
+use Rattle.dm_line.specs.declared.line.Stage.{Stage}
+use Rattle.dm_line.specs.declared.line.Stage.TheVariants as stage
 use Rattle.dm_rule.specs.View as view
 use Rattle.dm_rule.specs.View.{View, Told, About, Known, Unknown, Here, Frozen, Forward, is_kernels, own_id, view_after, after_label, after_head, after_put, after_proto, handled, taken_id, queued_for, held_for, forwarded_for, forward_about, served_told, kills, receiver_of}
 use Rattle.dm_rule.specs.Addresses.{Addresses, Receiver, Sender, given, forwards, all_follow, own_gives, first_gives, addresses_after}
@@ -361,7 +361,6 @@ line_treads pt next t (line.Here i) is fits h = let f : moved pt (line.Here i) p
 line_treads pt next t (line.NoMove i) is fits h = let f : moved pt (line.NoMove i) pt.kernel ≡ next = cc in subst (λ (z : Point). Treads z (trails_after pt.view t (line.NoMove i))) f (quiet_treads pt (view_after pt.view (line.NoMove i)) t (λ m q. refl) (hushed pt.view (line.NoMove i) refl).told (h.own.topic) h)
 line_treads pt next t (line.NoChild p) is fits h = let f : moved pt (line.NoChild p) pt.kernel ≡ next = cc in subst (λ (z : Point). Treads z (trails_after pt.view t (line.NoChild p))) f (quiet_treads pt (view_after pt.view (line.NoChild p)) t (λ m q. refl) (hushed pt.view (line.NoChild p) refl).told (h.own.topic) h)
 line_treads pt next t (line.Pinned p) is fits h = let f : moved pt (line.Pinned p) pt.kernel ≡ next = cc in subst (λ (z : Point). Treads z (trails_after pt.view t (line.Pinned p))) f (quiet_treads pt (view_after pt.view (line.Pinned p)) t (λ m q. refl) (hushed pt.view (line.Pinned p) refl).told (h.own.topic) h)
-line_treads pt next t (line.End x) is fits h = let f : moved pt (line.End x) pt.kernel ≡ next = cc in subst (λ (z : Point). Treads z (trails_after pt.view t (line.End x))) f (quiet_treads pt (view_after pt.view (line.End x)) t (λ m q. refl) (hushed pt.view (line.End x) refl).told (h.own.topic) h)
 line_treads pt next t line.Nothing is fits h = let f : moved pt line.Nothing pt.kernel ≡ next = cc in subst (λ (z : Point). Treads z (trails_after pt.view t line.Nothing)) f (quiet_treads pt (view_after pt.view line.Nothing) t (λ m q. refl) (hushed pt.view line.Nothing refl).told (h.own.topic) h)
 line_treads pt next t (line.Taken a b n) is fits h = let f : moved pt (line.Taken a b n) pt.kernel ≡ next = cc in subst (λ (z : Point). Treads z (trails_after pt.view t (line.Taken a b n))) f (quiet_treads pt (view_after pt.view (line.Taken a b n)) t (λ m q. taken_known (taken_pair pt.view a b n) b (view.oldest (pt.view.pair a b)) m q) (hushed pt.view (line.Taken a b n) refl).told (same_topic pt.view (view_after pt.view (line.Taken a b n)) pt.addresses t (taken_topic (taken_pair pt.view a b n) b (view.oldest (pt.view.pair a b))) h.own) h)
 line_treads pt next t (line.Queued i) is fits h = let f : moved pt (line.Queued i) pt.kernel ≡ next = cc in subst (λ (z : Point). Treads z (trails_after pt.view t (line.Queued i))) f (quiet_treads pt (view_after pt.view (line.Queued i)) t (λ m q. queued_known (handled pt.view i) i (receiver_of (pt.view.told i)) m q) (hushed pt.view (line.Queued i) refl).told (same_topic pt.view (view_after pt.view (line.Queued i)) pt.addresses t (queued_topic (handled pt.view i) i (receiver_of (pt.view.told i))) h.own) h)

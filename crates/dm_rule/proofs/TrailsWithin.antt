@@ -14,14 +14,14 @@ use Rattle.dm_onekernel.specs.declared.label.Label.{Label}
 use Rattle.dm_onekernel.specs.declared.label.Label.TheVariants as label
 use Rattle.dm_schedule.specs.declared.Step.{Step}
 use Rattle.dm_schedule.specs.declared.Step.TheVariants as step
-use Rattle.dm_rule.specs.declared.line.Line.{Line}
-use Rattle.dm_rule.specs.declared.line.Line.TheVariants as line
-use Rattle.dm_rule.specs.declared.line.Stage.{Stage}
-use Rattle.dm_rule.specs.declared.line.Stage.TheVariants as stage
+use Rattle.dm_line.specs.declared.line.Line.{Line}
+use Rattle.dm_line.specs.declared.line.Line.TheVariants as line
+use Rattle.dm_line.specs.declared.line.Stage.{Stage}
+use Rattle.dm_line.specs.declared.line.Stage.TheVariants as stage
 use Rattle.dm_onekernel.specs.declared.boot.BootProcess.{BootProcess}
 use Rattle.dm_onekernel.specs.declared.boot.Boot.{Boot}
 use Rattle.dm_onekernel.specs.Boot.{IsValid, switchboard, manager, process_is_valid, processes_are_valid, starting_at}
-use Rattle.dm_rule.specs.Sets.{at_record}
+use Rattle.dm_line.specs.Sets.{at_record}
 use Rattle.dm_rule.specs.View as view
 use Rattle.dm_rule.specs.View.{known_at, first_view, View, Told, Known, Unknown, Here, Frozen, Incoming, Ended, actor, view_after, after_label, after_head, handled, taken_id, queued_for, held_for, dropped_for, forwarded_for, served_told, kills, receiver_of, front_of, front_told, target_of, gone_to}
 use Rattle.dm_rule.specs.Trails.{Trails, Trail}
@@ -146,7 +146,6 @@ line_within n v (line.Old a b k) e h = h
 line_within n v (line.Resent m k) e h = h
 line_within n v (line.NoChild p) e h = h
 line_within n v (line.Pinned p) e h = h
-line_within n v (line.End x) e h = h
 line_within n v line.Nothing e h = h
 line_within n v (line.Packet a b k x) e h = record { known = h.known; acting = h.acting }
 line_within n v (line.Early a b k) e h = record { known = h.known; acting = h.acting }

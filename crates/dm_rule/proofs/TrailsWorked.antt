@@ -4,7 +4,7 @@ use Rattle.std.specs.declared.option.Option.{Option}
 use Rattle.std.specs.declared.option.Option.TheVariants.{None, Some}
 use Rattle.dm_link.specs.Names.{Place, pid_of}
 use Rattle.dm_message.specs.Ids.{id_of}
-use Rattle.dm_regs.specs.Instructions.{instruction}
+use Rattle.dm_processor.specs.Instructions.{instruction}
 use Rattle.dm_onekernel.specs.declared.boot.Boot.{Boot}
 use Rattle.dm_onekernel.specs.Options.{bind}
 use Rattle.dm_schedule.specs.declared.Step.TheVariants as step
@@ -12,7 +12,8 @@ use Rattle.dm_schedule.specs.declared.Directive.{Directive}
 use Rattle.dm_schedule.specs.declared.Directive.TheVariants as directive
 use Rattle.dm_rule.specs.View.{Known, Here, Incoming, Forward}
 use Rattle.dm_rule.specs.Addresses.{Slot, Receiver, Child}
-use Rattle.dm_rule.specs.Good.{Todo, Next, next_step, all_of}
+use Rattle.dm_line.specs.Todo.{Todo, Next, all_of}
+use Rattle.dm_rule.specs.Good.{next_step}
 use Rattle.dm_rule.specs.Rule.{group_of}
 use Rattle.dm_rule.specs.Trails.{Trodden, first_trodden, along, leads}
 use Rattle.dm_rule.proofs.Worked.{hi}

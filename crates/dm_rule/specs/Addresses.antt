@@ -17,8 +17,8 @@ use Rattle.dm_onekernel.specs.PlainProcess.{PlainProcess, PlainStatus, Ready, Wa
 use Rattle.dm_onekernel.specs.Kernel.{NamedLink, Pending, OneKernel}
 use Rattle.dm_onekernel.specs.Manager as manage
 use Rattle.dm_onekernel.specs.Step as kernel
-use Rattle.dm_rule.specs.declared.line.Line.{Line}
-use Rattle.dm_rule.specs.declared.line.Line.TheVariants as line
+use Rattle.dm_line.specs.declared.line.Line.{Line}
+use Rattle.dm_line.specs.declared.line.Line.TheVariants as line
 use Rattle.dm_rule.specs.View.{View, Told, About, NothingElse, Target, Of, Known, Unknown, Here, Frozen, Incoming, Forward, Ended}
 use Rattle.dm_rule.specs.View as view
 pub use Rattle.dm_rule.specs.Holders.{Holder, Slot, Owner, Receiver, Sender, Enclosed, Child, Name, Answer, Addresses, is_slot, is_owner, is_receiver, is_sender, is_enclosed, is_child, is_name, is_answer, holder_eq, Gets, gets, given, here, unmoved}
@@ -237,7 +237,6 @@ addresses_after s v a (line.NoMove id) = a
 addresses_after s v a (line.Proto id) = a
 addresses_after s v a (line.NoChild p) = a
 addresses_after s v a (line.Pinned p) = a
-addresses_after s v a (line.End e) = a
 
 -- the place of a boot file's link, where there is one
 abbrev pub place_in : Option Link → Place

@@ -12,14 +12,14 @@ use Rattle.dm_onekernel.specs.Boot.{first_number, switchboard, manager}
 use Rattle.dm_onekernel.specs.PlainProcess.{PlainProcess, PlainStatus, Ready, Waiting, Moving}
 use Rattle.dm_onekernel.specs.Kernel.{Life, Alive, NamedLink, Pending}
 use Rattle.dm_onekernel.specs.Kernel as kernel
-use Rattle.dm_rule.specs.declared.line.Line.{Line}
-use Rattle.dm_rule.specs.declared.line.Line.TheVariants as line
-use Rattle.dm_rule.specs.declared.line.EndLine.{EndLine}
-use Rattle.dm_rule.specs.declared.line.EndLine.TheVariants as end
-use Rattle.dm_rule.specs.declared.line.Standing.{Standing}
-use Rattle.dm_rule.specs.declared.line.Standing.TheVariants as standing
-use Rattle.dm_rule.specs.declared.line.Doing.{Doing}
-use Rattle.dm_rule.specs.declared.line.Doing.TheVariants as doing
+use Rattle.dm_line.specs.declared.end_line.EndLine.{EndLine}
+use Rattle.dm_line.specs.declared.end_line.EndLine.TheVariants as end
+use Rattle.dm_line.specs.declared.end_line.Standing.{Standing}
+use Rattle.dm_line.specs.declared.end_line.Standing.TheVariants as standing
+use Rattle.dm_line.specs.declared.end_line.Doing.{Doing}
+use Rattle.dm_line.specs.declared.end_line.Doing.TheVariants as doing
+use Rattle.dm_line.specs.Todo.{or}
+use Rattle.dm_line.specs.Ends.{memory_lines, home_with, each_machine, list_line}
 use Rattle.dm_rule.specs.View.{View, Known, Unknown, Here, Frozen, Incoming, Forward, Ended}
 use Rattle.dm_rule.specs.Addresses.{Addresses, Slot, Child, Name}
 use Rattle.dm_rule.specs.Point.{Point}
@@ -34,10 +34,6 @@ leading l p =
 pub record Stood : Type 0 where
   pub at : ℕ
   pub standing : Standing
-
-abbrev pub or : {X : Type 0} → Option X → Option X → Option X
-or None y = y
-or (Some x) y = Some x
 
 -- how a machine that knows this of a process has it
 abbrev pub has : Known → Option Standing
@@ -75,121 +71,86 @@ doing_of Ready = doing.Ready
 doing_of (Waiting mask base cap_) = doing.Waiting mask base cap_
 doing_of (Moving dir owner base own left pending) = doing.Moving dir owner base own left
 
-abbrev pub says : EndLine → Line
-says e = line.End e
-
--- bytes up to the last that isn't 0
-abbrev pub before_zeros : ℕ → List ℕ → List ℕ
-before_zeros x [] = if x == 0 then [] else x ∷ []
-before_zeros x (y ∷ ys) = x ∷ y ∷ ys
-
-abbrev pub trimmed : List ℕ → List ℕ
-trimmed [] = []
-trimmed (x ∷ xs) = before_zeros x (trimmed xs)
-
--- the first n blocks of a memory, but for those of zeros alone
-abbrev pub block_line : Pid → ℕ → List ℕ → List Line
-block_line p k [] = []
-block_line p k (x ∷ xs) = says (end.Memory p k (record { items = x ∷ xs })) ∷ []
-
-abbrev pub memory_lines : Pid → List ℕ → ℕ → List Line
-memory_lines p bytes zero = []
-memory_lines p bytes (suc k) = memory_lines p bytes k ++ block_line p k (trimmed (take 256 (drop (256 * k) bytes)))
-
 -- the links of the slots from k on
-abbrev pub slot_line : Addresses → Pid → ℕ → Option PlainLink → List Line
+abbrev pub slot_line : Addresses → Pid → ℕ → Option PlainLink → List EndLine
 slot_line a p k None = []
-slot_line a p k (Some l) = says (end.Link p k (leading l (a (Slot p k)))) ∷ []
+slot_line a p k (Some l) = end.Link p k (leading l (a (Slot p k))) ∷ []
 
-abbrev pub link_lines : Addresses → Pid → ℕ → List (Option PlainLink) → List Line
+abbrev pub link_lines : Addresses → Pid → ℕ → List (Option PlainLink) → List EndLine
 link_lines a p k [] = []
 link_lines a p k (l ∷ ls) = slot_line a p k l ++ link_lines a p (k + 1) ls
 
-abbrev pub state_lines : Addresses → Pid → PlainProcess → List Line
+abbrev pub state_lines : Addresses → Pid → PlainProcess → List EndLine
 state_lines a p x =
-    says (end.Registers p x.regs.r x.regs.pc) ∷ memory_lines p x.memory (length x.memory / 256) ++ link_lines a p 0 x.links
+    end.Registers p x.regs.r x.regs.pc ∷ memory_lines p x.memory (length x.memory / 256) ++ link_lines a p 0 x.links
 
-abbrev pub alive_lines : Addresses → Pid → PlainProcess → Option Stood → List Line
+abbrev pub alive_lines : Addresses → Pid → PlainProcess → Option Stood → List EndLine
 alive_lines a p x None = []
-alive_lines a p x (Some s) = says (end.Process p s.at s.standing (doing_of x.status) x.stopped x.sent) ∷ state_lines a p x
+alive_lines a p x (Some s) = end.Process p s.at s.standing (doing_of x.status) x.stopped x.sent ∷ state_lines a p x
 
-abbrev pub process_lines : Point → Pid → Option Life → List Line
+abbrev pub process_lines : Point → Pid → Option Life → List EndLine
 process_lines pt p None = []
 process_lines pt p (Some (Alive x)) = alive_lines pt.addresses p x (stood pt.view p pt.kernel.machines)
-process_lines pt p (Some (kernel.Ended because)) = says (end.Ended p because) ∷ []
+process_lines pt p (Some (kernel.Ended because)) = end.Ended p because ∷ []
 
--- so many processes of a home, in order of number, and all of the first homes
-abbrev pub home_with : (Pid → List Line) → ℕ → ℕ → List Line
-home_with f home zero = []
-home_with f home (suc n) = home_with f home n ++ f (pid_of home (first_number + n))
-
-abbrev pub homes_with : Point → (Pid → List Line) → ℕ → List Line
+-- all of the first homes
+abbrev pub homes_with : Point → (Pid → List EndLine) → ℕ → List EndLine
 homes_with pt f zero = []
 homes_with pt f (suc home) = homes_with pt f home ++ home_with f home (pt.kernel.made home)
 
 -- for each process that was ever made, by home and by number
-abbrev pub each_process : Point → (Pid → List Line) → List Line
+abbrev pub each_process : Point → (Pid → List EndLine) → List EndLine
 each_process pt f = homes_with pt f pt.kernel.machines
 
--- for each of the first n machines
-abbrev pub each_machine : (ℕ → List Line) → ℕ → List Line
-each_machine f zero = []
-each_machine f (suc m) = each_machine f m ++ f m
-
 -- the switchboard's names from place n on, in order
-abbrev pub name_lines : Addresses → ℕ → List NamedLink → List Line
+abbrev pub name_lines : Addresses → ℕ → List NamedLink → List EndLine
 name_lines a n [] = []
-name_lines a n (k ∷ ks) = says (end.Name (record { items = k.name }) (leading k.link (a (Name n)))) ∷ name_lines a (n + 1) ks
+name_lines a n (k ∷ ks) = end.Name (record { items = k.name }) (leading k.link (a (Name n))) ∷ name_lines a (n + 1) ks
 
 -- the manager's children from number n on
-abbrev pub child_lines : Addresses → ℕ → List Pid → List Line
+abbrev pub child_lines : Addresses → ℕ → List Pid → List EndLine
 child_lines a n [] = []
-child_lines a n (p ∷ ps) = says (end.Child n p (a (Child n)).at) ∷ child_lines a (n + 1) ps
+child_lines a n (p ∷ ps) = end.Child n p (a (Child n)).at ∷ child_lines a (n + 1) ps
 
-abbrev pub pending_lines : List Pending → List Line
+abbrev pub pending_lines : List Pending → List EndLine
 pending_lines [] = []
-pending_lines (r ∷ rs) = says (end.Pending (id_of manager r.n)) ∷ pending_lines rs
-
--- a list that isn't empty
-abbrev pub list_line : (List MsgId → EndLine) → List MsgId → List Line
-list_line f [] = []
-list_line f (i ∷ is) = says (f (i ∷ is)) ∷ []
+pending_lines (r ∷ rs) = end.Pending (id_of manager r.n) ∷ pending_lines rs
 
 -- the queue of a process, on the machine where it is
-abbrev pub queue_at : View → Pid → Option Stood → List Line
+abbrev pub queue_at : View → Pid → Option Stood → List EndLine
 queue_at v p None = []
 queue_at v p (Some s) = list_line (end.Queue p) (v.queue s.at p)
 
-abbrev pub queue_lines : Point → List Line
+abbrev pub queue_lines : Point → List EndLine
 queue_lines pt = each_process pt (λ p. queue_at pt.view p (first_with has pt.view p pt.kernel.machines))
 
-abbrev pub holding_lines : Point → List Line
+abbrev pub holding_lines : Point → List EndLine
 holding_lines pt = each_machine (λ m. each_process pt (λ p. list_line (end.Holding m p) (pt.view.held m p))) pt.kernel.machines
 
-abbrev pub inbox_lines : Point → List Line
+abbrev pub inbox_lines : Point → List EndLine
 inbox_lines pt = each_machine (λ m. list_line (end.Inbox m) (pt.view.inbox m)) pt.kernel.machines
 
 -- what was routed and not taken
-abbrev pub stream_lines : Point → List Line
+abbrev pub stream_lines : Point → List EndLine
 stream_lines pt = each_machine (λ a. each_machine (λ b. list_line (end.Stream a b) (untaken (pt.view.pair a b))) pt.kernel.machines) pt.kernel.machines
 
-abbrev pub server_lines : Point → List Line
+abbrev pub server_lines : Point → List EndLine
 server_lines pt =
-    says (end.Server switchboard pt.kernel.switchboard.sent)
-    ∷ says (end.Server manager pt.kernel.manager.sent)
+    end.Server switchboard pt.kernel.switchboard.sent
+    ∷ end.Server manager pt.kernel.manager.sent
     ∷ name_lines pt.addresses 0 pt.kernel.switchboard.names
     ++ child_lines pt.addresses 1 pt.kernel.manager.children
     ++ pending_lines pt.kernel.manager.pending
 
 -- all that a run leaves behind, in the order in which it is printed
-abbrev pub end_lines : Point → List Line
+abbrev pub end_lines : Point → List EndLine
 end_lines pt =
-    says end.Final
+    end.Final
     ∷ each_process pt (λ p. process_lines pt p (pt.kernel.processes p))
     ++ server_lines pt
     ++ queue_lines pt
     ++ holding_lines pt
     ++ inbox_lines pt
     ++ stream_lines pt
-    ++ says (end.Groups pt.view.groups)
+    ++ end.Groups pt.view.groups
     ∷ []

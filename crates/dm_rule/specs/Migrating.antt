@@ -12,8 +12,8 @@ use Rattle.dm_onekernel.specs.Boot.{switchboard, manager}
 use Rattle.dm_onekernel.specs.PlainProcess.{PlainProcess, PlainStatus, Ready, Waiting, Moving}
 use Rattle.dm_onekernel.specs.Kernel.{OneKernel, Pending}
 use Rattle.dm_onekernel.specs.Step as kernel
-use Rattle.dm_rule.specs.declared.line.Line.TheVariants as line
-use Rattle.dm_rule.specs.declared.line.Stage.TheVariants as stage
+use Rattle.dm_line.specs.declared.line.Line.TheVariants as line
+use Rattle.dm_line.specs.declared.line.Stage.TheVariants as stage
 use Rattle.dm_rule.specs.View.{Told, Known, Unknown, Here, Frozen, Incoming, Forward, Ended, target_of}
 use Rattle.dm_rule.specs.Addresses.{Addresses, Holder, Slot, Sender, Child, Name, Answer, is_behind, is_told_back, child_number, place_told}
 use Rattle.dm_rule.specs.Point.{Point}

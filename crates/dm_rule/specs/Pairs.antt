@@ -1,7 +1,7 @@
 -- What stands of an ordered pair of machines and its wire.
 use Rattle.std.specs.Prelude.{◌≡◌, ℕ, ◌+◌, ◌<◌, ◌≤◌, true, [], length, slice_get}
 use Rattle.std.specs.declared.option.Option.TheVariants.{Some}
-use Rattle.dm_rule.specs.declared.line.Load.TheVariants as load
+use Rattle.dm_line.specs.declared.line.Load.TheVariants as load
 use Rattle.dm_rule.specs.View.{Pair, Sent}
 use Rattle.dm_rule.specs.Parts.{window}
 use Rattle.dm_rule.specs.Rule.{has}

@@ -8,8 +8,8 @@ use Rattle.dm_onekernel.specs.Kernel.{OneKernel}
 use Rattle.dm_onekernel.specs.Options.{bind}
 use Rattle.dm_onekernel.specs.Start.{start}
 use Rattle.dm_onekernel.specs.Step as kernel
-use Rattle.dm_rule.specs.declared.line.Line.{Line}
-use Rattle.dm_rule.specs.declared.line.Line.TheVariants as line
+use Rattle.dm_line.specs.declared.line.Line.{Line}
+use Rattle.dm_line.specs.declared.line.Line.TheVariants as line
 use Rattle.dm_rule.specs.View.{View, view_after, first_view}
 use Rattle.dm_rule.specs.Addresses.{Addresses, addresses_after, first_addresses}
 
@@ -45,7 +45,6 @@ label_of (line.NoMove id) = None
 label_of (line.Proto id) = None
 label_of (line.NoChild p) = None
 label_of (line.Pinned p) = None
-label_of (line.End e) = None
 
 -- a label, where there is one, before others
 abbrev pub with_label : Option Label → List Label → List Label

@@ -10,7 +10,7 @@ use Rattle.dm_message.specs.declared.kind.MessageKind.{MessageKind}
 use Rattle.dm_message.specs.Plain as what
 use Rattle.dm_message.specs.Plain.{PlainMessage, PlainWhat}
 use Rattle.dm_process.specs.Mail.{on_mask}
-use Rattle.dm_regs.specs.Instructions.{instruction}
+use Rattle.dm_processor.specs.Instructions.{instruction}
 use Rattle.dm_onekernel.specs.declared.boot.BootMachine.{BootMachine}
 use Rattle.dm_onekernel.specs.declared.boot.BootImage.{BootImage}
 use Rattle.dm_onekernel.specs.declared.boot.Boot.{Boot}
@@ -31,10 +31,10 @@ use Rattle.dm_onekernel.specs.Step as kernel
 use Rattle.dm_onekernel.specs.Step.{Machine, machine_of, with_machine, plain_row}
 use Rattle.dm_schedule.specs.declared.Step.{Step}
 use Rattle.dm_schedule.specs.declared.Step.TheVariants as step
-use Rattle.dm_rule.specs.declared.line.Line.{Line}
-use Rattle.dm_rule.specs.declared.line.Line.TheVariants as line
-use Rattle.dm_rule.specs.declared.line.Load.{Load}
-use Rattle.dm_rule.specs.declared.line.Load.TheVariants as load
+use Rattle.dm_line.specs.declared.line.Line.{Line}
+use Rattle.dm_line.specs.declared.line.Line.TheVariants as line
+use Rattle.dm_line.specs.declared.line.Load.{Load}
+use Rattle.dm_line.specs.declared.line.Load.TheVariants as load
 use Rattle.dm_rule.specs.View.{View, Pair, Sent, Told, About, NothingElse, Target, Of, Known, Unknown, Here, Frozen, Incoming, Forward, Ended}
 use Rattle.dm_rule.specs.View as view
 use Rattle.dm_rule.specs.Point.{Point, after_line}

@@ -12,9 +12,9 @@ use Rattle.dm_onekernel.specs.Boot.{IsValid, manager}
 use Rattle.dm_onekernel.specs.Kernel.{OneKernel}
 use Rattle.dm_onekernel.specs.Options.{bind}
 use Rattle.dm_schedule.specs.declared.Step.{Step}
-use Rattle.dm_rule.specs.declared.line.Line.{Line}
-use Rattle.dm_rule.specs.declared.line.Line.TheVariants as line
-use Rattle.dm_rule.specs.Sets.{at_pid}
+use Rattle.dm_line.specs.declared.line.Line.{Line}
+use Rattle.dm_line.specs.declared.line.Line.TheVariants as line
+use Rattle.dm_line.specs.Sets.{at_pid}
 use Rattle.dm_rule.specs.View.{View, Told, Known, Unknown, Here, Frozen, Incoming, Forward, Ended, is_kernels}
 use Rattle.dm_rule.specs.View as view
 use Rattle.dm_rule.specs.Addresses.{Addresses, Holder, Receiver, Sender}
@@ -68,7 +68,6 @@ trails_after v t (line.NoMove id) = t
 trails_after v t (line.Proto id) = t
 trails_after v t (line.NoChild p) = t
 trails_after v t (line.Pinned p) = t
-trails_after v t (line.End e) = t
 
 -- a point, and the trails so far
 pub record Trodden : Type 0 where

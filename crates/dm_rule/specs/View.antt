@@ -15,13 +15,13 @@ use Rattle.dm_onekernel.specs.declared.label.Label.{Label}
 use Rattle.dm_onekernel.specs.declared.label.Label.TheVariants as label
 use Rattle.dm_schedule.specs.declared.Step.{Step}
 use Rattle.dm_schedule.specs.declared.Step.TheVariants as step
-use Rattle.dm_rule.specs.declared.line.Line.{Line}
-use Rattle.dm_rule.specs.declared.line.Line.TheVariants as line
-use Rattle.dm_rule.specs.declared.line.Load.{Load}
-use Rattle.dm_rule.specs.declared.line.Load.TheVariants as load
-use Rattle.dm_rule.specs.declared.line.Stage.{Stage}
-use Rattle.dm_rule.specs.declared.line.Stage.TheVariants as stage
-use Rattle.dm_rule.specs.Sets.{at_machine, at_pair, at_id, at_pid, at_record, without, moved_back, without_id, without_front}
+use Rattle.dm_line.specs.declared.line.Line.{Line}
+use Rattle.dm_line.specs.declared.line.Line.TheVariants as line
+use Rattle.dm_line.specs.declared.line.Load.{Load}
+use Rattle.dm_line.specs.declared.line.Load.TheVariants as load
+use Rattle.dm_line.specs.declared.line.Stage.{Stage}
+use Rattle.dm_line.specs.declared.line.Stage.TheVariants as stage
+use Rattle.dm_line.specs.Sets.{at_machine, at_pair, at_id, at_pid, at_record, without, moved_back, without_id, without_front}
 
 -- what a machine knows of a process
 pub data Known : Type 0 where
@@ -402,7 +402,6 @@ view_after v (line.NoMove id) = handled v id
 view_after v (line.Proto id) = after_proto (handled v id) (v.told id)
 view_after v (line.NoChild p) = v
 view_after v (line.Pinned p) = v
-view_after v (line.End e) = v
 
 -- the processes of the boot file are where they start, and the servers on machine 0
 abbrev pub known_at : List BootProcess → ℕ → Pid → Known

@@ -4,13 +4,13 @@ use Rattle.std.specs.declared.option.Option.{Option}
 use Rattle.std.specs.declared.option.Option.TheVariants.{None, Some}
 use Rattle.dm_onekernel.specs.declared.boot.Boot.{Boot}
 use Rattle.dm_schedule.specs.declared.Step.{Step}
-use Rattle.dm_rule.specs.declared.line.Line.{Line}
-use Rattle.dm_rule.specs.declared.line.Line.TheVariants as line
+use Rattle.dm_line.specs.declared.line.Line.{Line}
+use Rattle.dm_line.specs.declared.line.Line.TheVariants as line
 use Rattle.dm_rule.specs.View.{View, view_after}
 use Rattle.dm_rule.specs.Point.{Point}
 use Rattle.dm_rule.specs.Parts.{Spelled}
 use Rattle.dm_rule.specs.Rule.{group_of}
-use Rattle.dm_rule.specs.Good.{Two, or}
+use Rattle.dm_line.specs.Todo.{Two, or}
 
 abbrev pub is_full : ℕ → View → ℕ → ℕ → Bool
 is_full numbers v a b = nat_le numbers (length (v.pair a b).ids)
@@ -41,7 +41,6 @@ full_pair numbers v (line.NoMove id) = None
 full_pair numbers v (line.Proto id) = None
 full_pair numbers v (line.NoChild p) = None
 full_pair numbers v (line.Pinned p) = None
-full_pair numbers v (line.End e) = None
 
 -- the first put among these lines whose pair counts as many messages as it may before it
 abbrev pub worn_in : ℕ → View → List Line → Option Two

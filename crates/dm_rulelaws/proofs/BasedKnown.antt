@@ -18,12 +18,12 @@ use Rattle.dm_onekernel.specs.Step as kernel
 use Rattle.dm_schedule.specs.declared.Step.{Step}
 use Rattle.dm_laws.proofs.Equal.{pid_eq-is}
 use Rattle.dm_laws.proofs.Steps.{bind-is, completing}
-use Rattle.dm_rule.specs.declared.line.Line.TheVariants as line
-use Rattle.dm_rule.specs.declared.line.Stage.TheVariants as stage
+use Rattle.dm_line.specs.declared.line.Line.TheVariants as line
+use Rattle.dm_line.specs.declared.line.Stage.TheVariants as stage
 use Rattle.dm_rule.specs.Parts.{Spelled}
 use Rattle.dm_rule.specs.Point.{Point}
 use Rattle.dm_rule.specs.Rule.{group_of}
-use Rattle.dm_rule.specs.Sets.{at_machine, at_record, without, moved_back}
+use Rattle.dm_line.specs.Sets.{at_machine, at_record, without, moved_back}
 use Rattle.dm_rule.specs.View.{View, Told, Known, Unknown, Here, Frozen, Incoming, Forward, Ended, handled, handled_first, receiver_of, target_of, front_told, front_of, gone_to, served_told, rejoins, view_after}
 use Rattle.dm_rule.specs.View as view
 use Rattle.dm_rule.specs.Phases.{is_away, is_here}

@@ -9,12 +9,12 @@ use Rattle.dm_message.specs.declared.MsgId.{MsgId}
 use Rattle.dm_onekernel.specs.declared.boot.Boot.{Boot}
 use Rattle.dm_schedule.specs.declared.Step.{Step}
 use Rattle.dm_onekernel.specs.declared.label.Label.TheVariants as label
-use Rattle.dm_rule.specs.declared.line.Line.TheVariants as line
-use Rattle.dm_rule.specs.declared.line.Stage.TheVariants as stage
+use Rattle.dm_line.specs.declared.line.Line.TheVariants as line
+use Rattle.dm_line.specs.declared.line.Stage.TheVariants as stage
 use Rattle.dm_rule.specs.Parts.{Spelled}
 use Rattle.dm_rule.specs.Point.{Point, first_point}
 use Rattle.dm_rule.specs.Rule.{group_of}
-use Rattle.dm_rule.specs.Sets.{at_record, without_id, without_front}
+use Rattle.dm_line.specs.Sets.{at_record, without_id, without_front}
 use Rattle.dm_rule.specs.View.{View, Told, Known, Unknown, Here, Frozen, Incoming, Forward, Ended, handled, handled_first, receiver_of, target_of, front_told, front_of, gone_to, served_told, rejoins}
 use Rattle.dm_rule.specs.View as view
 use Rattle.dm_rule.specs.Phases.{is_away}

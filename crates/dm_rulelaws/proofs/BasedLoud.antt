@@ -13,9 +13,9 @@ use Rattle.dm_onekernel.specs.declared.label.Why.{Why}
 use Rattle.dm_onekernel.specs.Kernel.{OneKernel}
 use Rattle.dm_onekernel.specs.Step as kernel
 use Rattle.dm_schedule.specs.declared.Step.TheVariants as step
-use Rattle.dm_rule.specs.declared.line.Line.{Line}
-use Rattle.dm_rule.specs.declared.line.Line.TheVariants as line
-use Rattle.dm_rule.specs.declared.line.Stage.TheVariants as stage
+use Rattle.dm_line.specs.declared.line.Line.{Line}
+use Rattle.dm_line.specs.declared.line.Line.TheVariants as line
+use Rattle.dm_line.specs.declared.line.Stage.TheVariants as stage
 use Rattle.dm_rule.specs.View.{View, Told, About, NothingElse, Target, Of, Known, Here, view_after, handled, receiver_of}
 use Rattle.dm_rule.specs.View as view
 use Rattle.dm_rule.specs.Phases.{is_away, is_here}
@@ -149,7 +149,6 @@ line_keeps P loud pt t (line.Here i) need sane is h = unmoved_kernel P pt t (lin
 line_keeps P loud pt t (line.NoMove i) need sane is h = unmoved_kernel P pt t (line.NoMove i) is (quiet_line P loud pt (line.NoMove i) refl (record { known = refl; ring = refl; queue = refl; held = refl; moves = refl }) refl sane h)
 line_keeps P loud pt t (line.NoChild p) need sane is h = unmoved_kernel P pt t (line.NoChild p) is (quiet_line P loud pt (line.NoChild p) refl (record { known = refl; ring = refl; queue = refl; held = refl; moves = refl }) refl sane h)
 line_keeps P loud pt t (line.Pinned p) need sane is h = unmoved_kernel P pt t (line.Pinned p) is (quiet_line P loud pt (line.Pinned p) refl (record { known = refl; ring = refl; queue = refl; held = refl; moves = refl }) refl sane h)
-line_keeps P loud pt t (line.End x) need sane is h = unmoved_kernel P pt t (line.End x) is (quiet_line P loud pt (line.End x) refl (record { known = refl; ring = refl; queue = refl; held = refl; moves = refl }) refl sane h)
 line_keeps P loud pt t (line.Migration stage.Asked p) need sane is h = unmoved_kernel P pt t (line.Migration stage.Asked p) is (quiet_line P loud pt (line.Migration stage.Asked p) refl (record { known = refl; ring = refl; queue = refl; held = refl; moves = refl }) refl sane h)
 line_keeps P loud pt t (line.Migration stage.StateTaken p) need sane is h = unmoved_kernel P pt t (line.Migration stage.StateTaken p) is (quiet_line P loud pt (line.Migration stage.StateTaken p) refl (record { known = refl; ring = refl; queue = refl; held = refl; moves = refl }) refl sane h)
 line_keeps P loud pt t (line.Migration stage.MemoryTaken p) need sane is h = unmoved_kernel P pt t (line.Migration stage.MemoryTaken p) is (quiet_line P loud pt (line.Migration stage.MemoryTaken p) refl (record { known = refl; ring = refl; queue = refl; held = refl; moves = refl }) refl sane h)

@@ -16,11 +16,11 @@ use Rattle.dm_onekernel.specs.PlainProcess.{PlainProcess}
 use Rattle.dm_onekernel.specs.Kernel.{Alive, OneKernel}
 use Rattle.dm_laws.proofs.Steps.{bind-is}
 use Rattle.dm_schedule.specs.declared.Step.{Step}
-use Rattle.dm_rule.specs.declared.line.Line.{Line}
-use Rattle.dm_rule.specs.declared.line.Line.TheVariants as line
-use Rattle.dm_rule.specs.declared.line.Load.{Load}
-use Rattle.dm_rule.specs.declared.line.Load.TheVariants as load
-use Rattle.dm_rule.specs.declared.line.Stage.TheVariants as stage
+use Rattle.dm_line.specs.declared.line.Line.{Line}
+use Rattle.dm_line.specs.declared.line.Line.TheVariants as line
+use Rattle.dm_line.specs.declared.line.Load.{Load}
+use Rattle.dm_line.specs.declared.line.Load.TheVariants as load
+use Rattle.dm_line.specs.declared.line.Stage.TheVariants as stage
 use Rattle.dm_rule.specs.View.{View, Told, Unknown, Here, Frozen, is_kernels, own_id}
 use Rattle.dm_rule.specs.Addresses.{Receiver}
 use Rattle.dm_rule.specs.Point.{Point, label_of, kernel_after, moved, after_line, after}
@@ -117,7 +117,6 @@ Needs pt (line.NoMove i) = ⊤
 Needs pt (line.Proto i) = ⊤
 Needs pt (line.NoChild p) = ⊤
 Needs pt (line.Pinned p) = ⊤
-Needs pt (line.End x) = ⊤
 
 -- what puts and packets keep
 pub record Rides (P : Point → Type 0) : Type 0 where

@@ -18,7 +18,7 @@ use Rattle.dm_laws.proofs.Equal.{id_eq-is}
 use Rattle.dm_rule.specs.Parts.{Spelled}
 use Rattle.dm_rule.specs.Point.{Point, first_point}
 use Rattle.dm_rule.specs.Rule.{group_of}
-use Rattle.dm_rule.specs.Sets.{at_record, without_id, without_front}
+use Rattle.dm_line.specs.Sets.{at_record, without_id, without_front}
 use Rattle.dm_rule.specs.Homes.{to_of}
 use Rattle.dm_rule.specs.Spots.{Spot, Queue, times, standing, StandsAsBag}
 use Rattle.dm_rule.specs.View.{View, Told, handled, receiver_of, served_told, first_told, is_kernels}

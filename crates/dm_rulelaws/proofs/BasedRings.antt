@@ -5,7 +5,7 @@ use Rattle.std.proofs.lemmas.Bool.{cases_Bool}
 use Rattle.dm_link.specs.declared.Pid.{Pid}
 use Rattle.dm_link.specs.Names.{pid_eq}
 use Rattle.dm_laws.proofs.Equal.{pid_eq-is, pid_eq-same, pid_eq-swap}
-use Rattle.dm_rule.specs.Sets.{at_machine, without, moved_back}
+use Rattle.dm_line.specs.Sets.{at_machine, without, moved_back}
 use Rattle.dm_rule.proofs.Lines.{eq_is}
 use Rattle.dm_rulelaws.specs.KnownStands.{rings}
 

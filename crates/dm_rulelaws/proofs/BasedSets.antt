@@ -10,7 +10,7 @@ use Rattle.dm_message.specs.Ids.{id_eq}
 use Rattle.dm_message.specs.declared.kind.MessageKind.{MessageKind}
 use Rattle.dm_message.specs.declared.kind.MessageKind.TheVariants as kind
 use Rattle.dm_laws.proofs.Equal.{id_eq-is, pid_eq-is}
-use Rattle.dm_rule.specs.Sets.{at_record, without_id, without_front}
+use Rattle.dm_line.specs.Sets.{at_record, without_id, without_front}
 use Rattle.dm_rule.specs.Spots.{times}
 use Rattle.dm_rule.specs.View.{View, kills, ended}
 use Rattle.dm_rule.proofs.Lines.{parts, eq_is}

@@ -12,11 +12,11 @@ use Rattle.dm_message.specs.declared.MsgId.{MsgId}
 use Rattle.dm_message.specs.Plain as what
 use Rattle.dm_message.specs.Plain.{PlainMessage, PlainWhat}
 use Rattle.dm_process.specs.Mail.{on_mask}
-use Rattle.dm_regs.specs.Instructions.{Row, instruction}
-use Rattle.dm_regs.specs.Instructions as row
-use Rattle.dm_regs.specs.declared.registers.Regs.{Regs}
-use Rattle.dm_regs.specs.Kept.{KeepsLengths}
-use Rattle.dm_regs.proofs.Lengths.{instruction-lengths}
+use Rattle.dm_processor.specs.Instructions.{Row, instruction}
+use Rattle.dm_processor.specs.Instructions as row
+use Rattle.dm_processor.specs.declared.registers.Regs.{Regs}
+use Rattle.dm_processor.specs.Kept.{KeepsLengths}
+use Rattle.dm_processor.proofs.Lengths.{instruction-lengths}
 use Rattle.dm_onekernel.specs.declared.label.Reply.{Reply}
 use Rattle.dm_onekernel.specs.Options.{bind}
 use Rattle.dm_onekernel.specs.PlainProcess.{PlainProcess, PlainStatus, Ready, Waiting, Moving}

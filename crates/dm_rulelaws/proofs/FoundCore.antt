@@ -9,7 +9,7 @@ use Rattle.dm_link.specs.Names.{Place, pid_eq}
 use Rattle.dm_message.specs.declared.MsgId.{MsgId}
 use Rattle.dm_message.specs.Plain.{PlainMessage}
 use Rattle.dm_laws.proofs.Equal.{pid_eq-is}
-use Rattle.dm_rule.specs.Sets.{at_record}
+use Rattle.dm_line.specs.Sets.{at_record}
 use Rattle.dm_rule.specs.View as view
 use Rattle.dm_rule.specs.View.{View, Told, About, NothingElse, Target, Of, Known, Unknown, Here, Frozen, Incoming, Forward, Ended, is_kernels}
 use Rattle.dm_rule.specs.Addresses.{Addresses, Receiver}

@@ -12,8 +12,8 @@ use Rattle.dm_message.specs.Plain.{PlainMessage}
 use Rattle.dm_message.specs.declared.kind.MessageKind.{MessageKind}
 use Rattle.dm_message.specs.declared.kind.MessageKind.TheVariants as kind
 use Rattle.dm_laws.proofs.Equal.{id_eq-is, id_eq-same}
-use Rattle.dm_rule.specs.declared.line.Line.TheVariants as line
-use Rattle.dm_rule.specs.declared.line.Stage.TheVariants as stage
+use Rattle.dm_line.specs.declared.line.Line.TheVariants as line
+use Rattle.dm_line.specs.declared.line.Stage.TheVariants as stage
 use Rattle.dm_rule.specs.View.{View, Told, Known, Unknown, Here, Frozen, Incoming, Forward, Ended, is_kernels, own_id, handled, forwarded_for, forward_about, receiver_of, view_after}
 use Rattle.dm_rule.specs.Addresses.{Addresses, Receiver, Sender, given, place_known, all_follow, is_told_back, tells_back, forwards}
 use Rattle.dm_rule.specs.Homes.{to_of}

@@ -8,7 +8,7 @@ use Rattle.dm_link.specs.Names.{Place}
 use Rattle.dm_message.specs.declared.MsgId.{MsgId}
 use Rattle.dm_message.specs.Ids.{id_eq}
 use Rattle.dm_laws.proofs.Equal.{id_eq-is, id_eq-same}
-use Rattle.dm_rule.specs.declared.line.Line.TheVariants as line
+use Rattle.dm_line.specs.declared.line.Line.TheVariants as line
 use Rattle.dm_rule.specs.View.{View, Told, own_id, view_after, handled, forwarded_for, forward_about, receiver_of}
 use Rattle.dm_rule.specs.Addresses.{Addresses, Receiver, Sender, given, place_known, all_follow, tells_back, is_told_back, forwards, updated}
 use Rattle.dm_rule.specs.Point.{Point, moved}

@@ -18,8 +18,8 @@ use Rattle.dm_schedule.specs.declared.Step.{Step}
 use Rattle.dm_schedule.specs.declared.Step.TheVariants as step
 use Rattle.dm_laws.proofs.Equal.{id_eq-same}
 use Rattle.dm_laws.proofs.Steps.{alive-is}
-use Rattle.dm_rule.specs.declared.line.Line.{Line}
-use Rattle.dm_rule.specs.declared.line.Line.TheVariants as line
+use Rattle.dm_line.specs.declared.line.Line.{Line}
+use Rattle.dm_line.specs.declared.line.Line.TheVariants as line
 use Rattle.dm_rule.specs.View as view
 use Rattle.dm_rule.specs.View.{View, Told, About, NothingElse, Target, Of, Known, Unknown, Here, Frozen, Incoming, Forward, Ended, is_kernels, own_id, receiver_of, target_in, target_of, front_told, front_of}
 use Rattle.dm_rule.specs.Addresses.{Child, Receiver, Sender, given, child_number, place_of_child, unmoved, own_gives}
@@ -106,7 +106,6 @@ net_need n (line.NoMove i) h pt = absurd h
 net_need n (line.Proto i) h pt = absurd h
 net_need n (line.NoChild p) h pt = absurd h
 net_need n (line.Pinned p) h pt = absurd h
-net_need n (line.End x) h pt = absurd h
 
 net_loose : (n : ℕ) (ps : List Part) → IsNet ps → AllLoose n ps
 net_loose n [] h = tt

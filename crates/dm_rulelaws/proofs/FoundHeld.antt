@@ -15,11 +15,11 @@ use Rattle.dm_onekernel.specs.declared.label.Label.TheVariants as label
 use Rattle.dm_schedule.specs.declared.Step.{Step}
 use Rattle.dm_schedule.specs.declared.Step.TheVariants as step
 use Rattle.dm_laws.proofs.Equal.{pid_eq-is, id_eq-is}
-use Rattle.dm_rule.specs.declared.line.Line.{Line}
-use Rattle.dm_rule.specs.declared.line.Line.TheVariants as line
-use Rattle.dm_rule.specs.declared.line.Stage.{Stage}
-use Rattle.dm_rule.specs.declared.line.Stage.TheVariants as stage
-use Rattle.dm_rule.specs.Sets.{at_record}
+use Rattle.dm_line.specs.declared.line.Line.{Line}
+use Rattle.dm_line.specs.declared.line.Line.TheVariants as line
+use Rattle.dm_line.specs.declared.line.Stage.{Stage}
+use Rattle.dm_line.specs.declared.line.Stage.TheVariants as stage
+use Rattle.dm_line.specs.Sets.{at_record}
 use Rattle.dm_rule.specs.View as view
 use Rattle.dm_rule.specs.View.{View, Told, About, NothingElse, Target, Of, view_after, after_head, after_label, after_put, after_stage, after_proto, follows_up, asks_on, handled, handled_first, queued_for, held_for, dropped_for, forwarded_for, served_told, kills, receiver_of, taken_id, oldest}
 use Rattle.dm_rule.specs.Spots.{times}
@@ -204,7 +204,6 @@ held_line v (line.Here i) quiet h = held_as v (view_after v (line.Here i)) (refl
 held_line v (line.NoMove i) quiet h = held_as v (view_after v (line.NoMove i)) (refl) (hushed v (line.NoMove i) quiet).told h
 held_line v (line.NoChild p) quiet h = held_as v (view_after v (line.NoChild p)) (refl) (hushed v (line.NoChild p) quiet).told h
 held_line v (line.Pinned p) quiet h = held_as v (view_after v (line.Pinned p)) (refl) (hushed v (line.Pinned p) quiet).told h
-held_line v (line.End e) quiet h = held_as v (view_after v (line.End e)) (refl) (hushed v (line.End e) quiet).told h
 held_line v (line.Taken a b n) quiet h = held_as v (view_after v (line.Taken a b n)) (taken_held (view.with_pair v a b (record (v.pair a b) { taken = (v.pair a b).taken + 1; kept = filter (λ k. not (k == n)) (v.pair a b).kept })) b (oldest (v.pair a b))) (hushed v (line.Taken a b n) quiet).told h
 held_line v (line.Queued i) quiet h = held_as v (view_after v (line.Queued i)) (queued_held (handled v i) i (receiver_of (v.told i))) (hushed v (line.Queued i) quiet).told h
 held_line v (line.Forwarded i m) quiet h = held_as v (view_after v (line.Forwarded i m)) (forwarded_held (handled v i) (receiver_of (v.told i))) (hushed v (line.Forwarded i m) quiet).told h

@@ -17,7 +17,7 @@ use Rattle.dm_onekernel.specs.Step as kernel
 use Rattle.dm_laws.specs.Laws.{entry, reception}
 use Rattle.dm_laws.proofs.Grown.{Grown}
 use Rattle.dm_laws.proofs.Runs.{after_step}
-use Rattle.dm_rule.specs.declared.line.Line.TheVariants as line
+use Rattle.dm_line.specs.declared.line.Line.TheVariants as line
 use Rattle.dm_rule.specs.View as view
 use Rattle.dm_rule.specs.View.{View, Told, Known, Unknown, Here, Ended, is_kernels, after_label, handled, kills, served_told, receiver_of, dropped_for}
 use Rattle.dm_rule.specs.Addresses.{Holder, Receiver, Sender, given, gives}

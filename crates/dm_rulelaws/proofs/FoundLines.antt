@@ -10,11 +10,11 @@ use Rattle.dm_message.specs.declared.kind.MessageKind.TheVariants as kind
 use Rattle.dm_onekernel.specs.Kernel.{OneKernel}
 use Rattle.dm_schedule.specs.declared.Step.{Step}
 use Rattle.dm_schedule.specs.declared.Step.TheVariants as step
-use Rattle.dm_rule.specs.declared.line.Line.{Line}
-use Rattle.dm_rule.specs.declared.line.Line.TheVariants as line
-use Rattle.dm_rule.specs.declared.line.Load.{Load}
-use Rattle.dm_rule.specs.declared.line.Stage.{Stage}
-use Rattle.dm_rule.specs.declared.line.Stage.TheVariants as stage
+use Rattle.dm_line.specs.declared.line.Line.{Line}
+use Rattle.dm_line.specs.declared.line.Line.TheVariants as line
+use Rattle.dm_line.specs.declared.line.Load.{Load}
+use Rattle.dm_line.specs.declared.line.Stage.{Stage}
+use Rattle.dm_line.specs.declared.line.Stage.TheVariants as stage
 use Rattle.dm_rule.specs.View as view
 use Rattle.dm_rule.specs.View.{View, Told, About, NothingElse, Target, Of, Known, Unknown, Here, Frozen, Incoming, Forward, Ended, is_kernels, own_id, actor, view_after, after_head, after_put, after_stage, after_proto, handled, handled_first, queued_for, held_for, forwarded_for, forward_about, taken_id, oldest, receiver_of, gone_to, target_of, front_told, front_of, follows_up, asks_on}
 use Rattle.dm_rule.specs.Point.{Point, label_of, kernel_after, moved}
@@ -213,7 +213,6 @@ line_core n pt s (line.Here id) need sane is h = let f : pt.kernel ≡ s = cc in
 line_core n pt s (line.NoMove id) need sane is h = let f : pt.kernel ≡ s = cc in subst (λ (x : OneKernel). Core n (moved pt (line.NoMove id) x)) f (quiet_core n pt (line.NoMove id) refl (refl) (λ m q. refl) (refl) (h.topic) tt h)
 line_core n pt s (line.NoChild p) need sane is h = let f : pt.kernel ≡ s = cc in subst (λ (x : OneKernel). Core n (moved pt (line.NoChild p) x)) f (quiet_core n pt (line.NoChild p) refl (refl) (λ m q. refl) (refl) (h.topic) tt h)
 line_core n pt s (line.Pinned p) need sane is h = let f : pt.kernel ≡ s = cc in subst (λ (x : OneKernel). Core n (moved pt (line.Pinned p) x)) f (quiet_core n pt (line.Pinned p) refl (refl) (λ m q. refl) (refl) (h.topic) tt h)
-line_core n pt s (line.End e) need sane is h = let f : pt.kernel ≡ s = cc in subst (λ (x : OneKernel). Core n (moved pt (line.End e) x)) f (quiet_core n pt (line.End e) refl (refl) (λ m q. refl) (refl) (h.topic) tt h)
 line_core n pt s (line.Packet a b k l) need sane is h = let f : pt.kernel ≡ s = cc in subst (λ (x : OneKernel). Core n (moved pt (line.Packet a b k l) x)) f (quiet_core n pt (line.Packet a b k l) refl (refl) (λ m q. refl) (refl) (h.topic) tt h)
 line_core n pt s (line.Lacks p a b) need sane is h = let f : pt.kernel ≡ s = cc in subst (λ (x : OneKernel). Core n (moved pt (line.Lacks p a b) x)) f (quiet_core n pt (line.Lacks p a b) refl (refl) (λ m q. refl) (refl) (tt) tt h)
 line_core n pt s (line.Queued id) need sane is h = let f : pt.kernel ≡ s = cc in subst (λ (x : OneKernel). Core n (moved pt (line.Queued id) x)) f (quiet_core n pt (line.Queued id) refl ((queued_acting (handled pt.view id) id (receiver_of (pt.view.told id))).0) (λ m q. queued_known (handled pt.view id) id (receiver_of (pt.view.told id)) m q) ((hushed pt.view (line.Queued id) refl).told) (same_topic n pt (view_after pt.view (line.Queued id)).topic (queued_acting (handled pt.view id) id (receiver_of (pt.view.told id))).1 h) need h)

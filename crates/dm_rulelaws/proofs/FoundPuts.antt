@@ -13,7 +13,7 @@ use Rattle.dm_message.specs.declared.kind.MessageKind.TheVariants as kind
 use Rattle.dm_onekernel.specs.Boot.{manager}
 use Rattle.dm_onekernel.specs.Kernel.{OneKernel}
 use Rattle.dm_laws.proofs.Equal.{id_eq-is}
-use Rattle.dm_rule.specs.declared.line.Line.TheVariants as line
+use Rattle.dm_line.specs.declared.line.Line.TheVariants as line
 use Rattle.dm_rule.specs.View.{View, Told, is_kernels, after_put}
 use Rattle.dm_rule.specs.Addresses.{Addresses, Receiver, Sender, given, unmoved, child_number, place_of_child, own_gives, first_gives}
 use Rattle.dm_rule.specs.Point.{Point, moved}

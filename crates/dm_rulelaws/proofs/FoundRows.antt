@@ -9,7 +9,7 @@ use Rattle.dm_message.specs.declared.MsgId.{MsgId}
 use Rattle.dm_message.specs.Kinds.{plain_kind}
 use Rattle.dm_message.specs.Plain as what
 use Rattle.dm_message.specs.Plain.{PlainMessage, PlainWhat}
-use Rattle.dm_regs.specs.Instructions.{instruction}
+use Rattle.dm_processor.specs.Instructions.{instruction}
 use Rattle.dm_onekernel.specs.declared.boot.BootImage.{BootImage}
 use Rattle.dm_onekernel.specs.declared.boot.Boot.{Boot}
 use Rattle.dm_onekernel.specs.declared.label.Label.TheVariants as label
@@ -25,8 +25,8 @@ use Rattle.dm_onekernel.specs.Switchboard as board
 use Rattle.dm_onekernel.specs.Manager as manage
 use Rattle.dm_onekernel.specs.Step as kernel
 use Rattle.dm_laws.proofs.Steps.{bind-is}
-use Rattle.dm_rule.specs.declared.line.Line.{Line}
-use Rattle.dm_rule.specs.declared.line.Line.TheVariants as line
+use Rattle.dm_line.specs.declared.line.Line.{Line}
+use Rattle.dm_line.specs.declared.line.Line.TheVariants as line
 use Rattle.dm_rule.specs.View.{Known, Unknown, Here, Frozen, Incoming, Forward, Ended}
 use Rattle.dm_rule.specs.Point.{Point, label_of, kernel_after, moved, after_line, after}
 use Rattle.dm_rule.specs.Parts.{Part, Says, Routes, lines_of}

@@ -13,7 +13,7 @@ use Rattle.dm_onekernel.specs.Boot.{IsValid, switchboard, manager}
 use Rattle.dm_laws.proofs.Equal.{id_eq-same}
 use Rattle.dm_schedule.specs.declared.Step.{Step}
 use Rattle.dm_schedule.specs.declared.Step.TheVariants as directive
-use Rattle.dm_rule.specs.declared.line.Line.TheVariants as line
+use Rattle.dm_line.specs.declared.line.Line.TheVariants as line
 use Rattle.dm_rule.specs.Addresses.{Addresses, child_from, child_number}
 use Rattle.dm_rule.specs.Migrating.{migrates_child, migrates}
 use Rattle.dm_rule.specs.Point.{Point, moved}

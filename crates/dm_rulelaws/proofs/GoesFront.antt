@@ -18,7 +18,7 @@ use Rattle.dm_laws.proofs.Entered.{Made}
 use Rattle.dm_laws.proofs.Equal.{id_eq-same, pid_eq-same}
 use Rattle.dm_laws.proofs.Movers.{sent_at}
 use Rattle.dm_schedule.specs.declared.Step.TheVariants as directive
-use Rattle.dm_rule.specs.declared.line.Line.TheVariants as line
+use Rattle.dm_line.specs.declared.line.Line.TheVariants as line
 use Rattle.dm_rule.specs.Point.{Point, moved}
 use Rattle.dm_rule.specs.Rule as rule
 use Rattle.dm_rule.specs.Spots.{Inbox, times, standing}

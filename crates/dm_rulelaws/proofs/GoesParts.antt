@@ -16,10 +16,10 @@ use Rattle.dm_onekernel.specs.Kernel.{OneKernel}
 use Rattle.dm_onekernel.specs.Options.{bind}
 use Rattle.dm_onekernel.specs.Step as kernel
 use Rattle.dm_schedule.specs.declared.Step.{Step}
-use Rattle.dm_rule.specs.declared.line.Line.{Line}
-use Rattle.dm_rule.specs.declared.line.Line.TheVariants as line
-use Rattle.dm_rule.specs.declared.line.Load.{Load}
-use Rattle.dm_rule.specs.declared.line.Load.TheVariants as load
+use Rattle.dm_line.specs.declared.line.Line.{Line}
+use Rattle.dm_line.specs.declared.line.Line.TheVariants as line
+use Rattle.dm_line.specs.declared.line.Load.{Load}
+use Rattle.dm_line.specs.declared.line.Load.TheVariants as load
 use Rattle.dm_rule.specs.View.{View, Told, view_after, own_id}
 use Rattle.dm_rule.specs.View as view
 use Rattle.dm_rule.specs.Addresses.{Receiver}
@@ -142,7 +142,6 @@ told_on v (line.NoMove j) i h = ap (λ (f : MsgId → Option Told). is_some (f i
 told_on v (line.Proto j) i h = ap (λ (f : MsgId → Option Told). is_some (f i)) (hushed v (line.Proto j) refl).told ∙ h
 told_on v (line.NoChild p) i h = ap (λ (f : MsgId → Option Told). is_some (f i)) (hushed v (line.NoChild p) refl).told ∙ h
 told_on v (line.Pinned p) i h = ap (λ (f : MsgId → Option Told). is_some (f i)) (hushed v (line.Pinned p) refl).told ∙ h
-told_on v (line.End x) i h = ap (λ (f : MsgId → Option Told). is_some (f i)) (hushed v (line.End x) refl).told ∙ h
 told_on v line.Nothing i h = ap (λ (f : MsgId → Option Told). is_some (f i)) (hushed v line.Nothing refl).told ∙ h
 
 first_line : (l m : Line) (ls ms : List Line) → (l ∷ ls) ≡ (m ∷ ms) → l ≡ m
@@ -261,7 +260,6 @@ net_keeps pt (line.NoMove i) is = absurd is
 net_keeps pt (line.Proto i) is = absurd is
 net_keeps pt (line.NoChild p) is = absurd is
 net_keeps pt (line.Pinned p) is = absurd is
-net_keeps pt (line.End z) is = absurd is
 
 pub does_net : (C : Type 0) (ps : List Part) (pt : Point) → IsNet ps → Does C pt ps
 does_net C [] pt is = does_nothing C pt

@@ -33,7 +33,7 @@ use Rattle.dm_onekernel.specs.Step as kernel
 use Rattle.dm_laws.proofs.Equal.{id_eq-is}
 use Rattle.dm_laws.proofs.Movers.{out_off}
 use Rattle.dm_laws.proofs.Services.{LandsSo, lands-is}
-use Rattle.dm_rule.specs.declared.line.Line.TheVariants as line
+use Rattle.dm_line.specs.declared.line.Line.TheVariants as line
 use Rattle.dm_rule.specs.Addresses.{Addresses, Sender, is_told_back}
 use Rattle.dm_rule.specs.Migrating.{forwards_on}
 use Rattle.dm_rule.specs.Point.{Point, moved}

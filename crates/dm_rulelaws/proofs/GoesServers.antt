@@ -25,7 +25,7 @@ use Rattle.dm_onekernel.specs.Service.{without_message}
 use Rattle.dm_onekernel.specs.Step as kernel
 use Rattle.dm_laws.proofs.Entered.{Made}
 use Rattle.dm_laws.proofs.Equal.{pid_eq-same}
-use Rattle.dm_rule.specs.declared.line.Line.TheVariants as line
+use Rattle.dm_line.specs.declared.line.Line.TheVariants as line
 use Rattle.dm_rule.specs.Point.{Point, moved}
 use Rattle.dm_rule.specs.Parts.{Part, Routes}
 use Rattle.dm_rule.specs.Rule as rule

@@ -12,7 +12,7 @@ use Rattle.dm_message.specs.Ids.{id_eq}
 use Rattle.dm_message.specs.Plain as what
 use Rattle.dm_message.specs.Plain.{PlainMessage, PlainWhat}
 use Rattle.dm_process.specs.Mail.{on_mask}
-use Rattle.dm_regs.specs.Instructions.{instruction}
+use Rattle.dm_processor.specs.Instructions.{instruction}
 use Rattle.dm_onekernel.specs.declared.boot.Boot.{Boot}
 use Rattle.dm_onekernel.specs.declared.label.Label.TheVariants as label
 use Rattle.dm_onekernel.specs.declared.label.Reply.{Reply}
@@ -29,7 +29,7 @@ use Rattle.dm_laws.proofs.Equal.{id_eq-is, id_eq-same, pid_eq-same}
 use Rattle.dm_laws.proofs.Movers.{sent_at}
 use Rattle.dm_laws.proofs.Steps.{bind-is, alive-is}
 use Rattle.dm_laws.proofs.Entered.{counts, is_counted}
-use Rattle.dm_rule.specs.declared.line.Line.TheVariants as line
+use Rattle.dm_line.specs.declared.line.Line.TheVariants as line
 use Rattle.dm_rule.specs.Point.{Point, moved}
 use Rattle.dm_rule.specs.Parts.{Part, Routes}
 use Rattle.dm_rule.specs.Rule as rule

@@ -17,7 +17,7 @@ use Rattle.dm_onekernel.specs.Service.{without_message, is_dropped}
 use Rattle.dm_onekernel.specs.Step as kernel
 use Rattle.dm_laws.proofs.Equal.{id_eq-is, id_eq-same}
 use Rattle.dm_laws.proofs.Movers.{out_off}
-use Rattle.dm_rule.specs.declared.line.Line.TheVariants as line
+use Rattle.dm_line.specs.declared.line.Line.TheVariants as line
 use Rattle.dm_rule.specs.Point.{Point, moved}
 use Rattle.dm_rule.specs.Rule as rule
 use Rattle.dm_rule.specs.Spots.{Spot, Queue, times, standing, StandsNowhere, StandsOutside, StandsRight}

@@ -25,13 +25,13 @@ use Rattle.dm_laws.proofs.Entered.{counts, is_counted}
 use Rattle.dm_laws.proofs.Equal.{pid_eq-same, id_eq-is, id_eq-same}
 use Rattle.dm_laws.proofs.Runs.{after_step}
 use Rattle.dm_schedule.specs.declared.Step.{Step}
-use Rattle.dm_rule.specs.declared.line.Line.{Line}
-use Rattle.dm_rule.specs.declared.line.Line.TheVariants as line
+use Rattle.dm_line.specs.declared.line.Line.{Line}
+use Rattle.dm_line.specs.declared.line.Line.TheVariants as line
 use Rattle.dm_rule.specs.Parts.{Spelled, behind, spelled}
 use Rattle.dm_rule.specs.Point.{Point, labels, after, moved}
 use Rattle.dm_rule.specs.Rule as rule
 use Rattle.dm_rule.specs.Rule.{group_of}
-use Rattle.dm_rule.specs.Sets.{without_id}
+use Rattle.dm_line.specs.Sets.{without_id}
 use Rattle.dm_rule.specs.Spots.{times, untaken}
 use Rattle.dm_rule.specs.View.{View, first_view, after_label}
 use Rattle.dm_rule.specs.View as view

@@ -19,7 +19,7 @@ use Rattle.dm_onekernel.specs.Step as kernel
 use Rattle.dm_laws.proofs.Entered.{counts, is_counted}
 use Rattle.dm_laws.proofs.Grown.{Grown, LifeGrows}
 use Rattle.dm_laws.proofs.Runs.{after_step}
-use Rattle.dm_rule.specs.Sets.{at_machine, at_record, without_id, without_front}
+use Rattle.dm_line.specs.Sets.{at_machine, at_record, without_id, without_front}
 use Rattle.dm_rule.specs.Spots.{untaken, Queue, Inbox, Untaken}
 use Rattle.dm_rule.specs.View.{View, Pair, Told, after_label, after_put, after_taken, handled}
 use Rattle.dm_rule.specs.View as view

@@ -5,7 +5,7 @@ use Rattle.std.proofs.lemmas.Bool.{cases_Bool}
 use Rattle.std.proofs.lemmas.Bool.Decides.{nat_tests}
 use Rattle.dm_message.specs.declared.MsgId.{MsgId}
 use Rattle.dm_message.specs.Ids.{id_eq}
-use Rattle.dm_rule.specs.Sets.{without_id, without_front}
+use Rattle.dm_line.specs.Sets.{without_id, without_front}
 use Rattle.dm_rulelaws.specs.Fits.{Each}
 use Rattle.dm_rulelaws.proofs.FitsRises.{both, two}
 

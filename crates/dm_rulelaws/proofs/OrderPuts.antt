@@ -12,7 +12,7 @@ use Rattle.dm_message.specs.Plain.{PlainMessage}
 use Rattle.dm_onekernel.specs.Kernel.{OneKernel}
 use Rattle.dm_laws.proofs.Entered.{counts}
 use Rattle.dm_laws.proofs.Equal.{id_eq-same}
-use Rattle.dm_rule.specs.Sets.{at_machine, at_pair, at_id}
+use Rattle.dm_line.specs.Sets.{at_machine, at_pair, at_id}
 use Rattle.dm_rule.specs.Spots.{untaken}
 use Rattle.dm_rule.specs.View.{View, Pair, Told, after_label, after_put, after_taken, handled}
 use Rattle.dm_rule.specs.View as view

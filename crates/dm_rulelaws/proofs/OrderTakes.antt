@@ -10,7 +10,7 @@ use Rattle.dm_link.specs.Names.{pid_eq}
 use Rattle.dm_message.specs.declared.MsgId.{MsgId}
 use Rattle.dm_onekernel.specs.Kernel.{OneKernel}
 use Rattle.dm_laws.proofs.Equal.{pid_eq-is, id_eq-same}
-use Rattle.dm_rule.specs.Sets.{at_machine, at_record, without_front}
+use Rattle.dm_line.specs.Sets.{at_machine, at_record, without_front}
 use Rattle.dm_rule.specs.Spots.{untaken}
 use Rattle.dm_rule.specs.View.{View, Pair, Told, after_label, after_put, after_taken, handled}
 use Rattle.dm_rule.specs.View as view

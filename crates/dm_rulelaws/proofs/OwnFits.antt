@@ -8,10 +8,10 @@ use Rattle.dm_link.specs.Names.{pid_of}
 use Rattle.dm_message.specs.declared.MsgId.{MsgId}
 use Rattle.dm_message.specs.declared.kind.MessageKind.{MessageKind}
 use Rattle.dm_message.specs.declared.kind.MessageKind.TheVariants as kind
-use Rattle.dm_rule.specs.declared.line.Line.{Line}
-use Rattle.dm_rule.specs.declared.line.Line.TheVariants as line
-use Rattle.dm_rule.specs.declared.line.Stage.{Stage}
-use Rattle.dm_rule.specs.declared.line.Stage.TheVariants as stage
+use Rattle.dm_line.specs.declared.line.Line.{Line}
+use Rattle.dm_line.specs.declared.line.Line.TheVariants as line
+use Rattle.dm_line.specs.declared.line.Stage.{Stage}
+use Rattle.dm_line.specs.declared.line.Stage.TheVariants as stage
 use Rattle.dm_rule.specs.Addresses.{Addresses, Sender, is_told_back}
 use Rattle.dm_rule.specs.Migrating.{to_kernel, forwards_on, accepts, takes_chunk, takes_block, gives_piece, sends_on}
 use Rattle.dm_rule.specs.Point.{label_of}

@@ -16,11 +16,11 @@ use Rattle.dm_onekernel.specs.Options.{bind}
 use Rattle.dm_laws.proofs.Equal.{id_eq-is}
 use Rattle.dm_laws.proofs.Steps.{bind-is}
 use Rattle.dm_schedule.specs.declared.Step.{Step}
-use Rattle.dm_rule.specs.declared.line.Line.{Line}
-use Rattle.dm_rule.specs.declared.line.Line.TheVariants as line
-use Rattle.dm_rule.specs.declared.line.Load.TheVariants as load
-use Rattle.dm_rule.specs.declared.line.Stage.{Stage}
-use Rattle.dm_rule.specs.declared.line.Stage.TheVariants as stage
+use Rattle.dm_line.specs.declared.line.Line.{Line}
+use Rattle.dm_line.specs.declared.line.Line.TheVariants as line
+use Rattle.dm_line.specs.declared.line.Load.TheVariants as load
+use Rattle.dm_line.specs.declared.line.Stage.{Stage}
+use Rattle.dm_line.specs.declared.line.Stage.TheVariants as stage
 use Rattle.dm_rule.specs.Addresses.{Receiver}
 use Rattle.dm_rule.specs.Point.{Point, label_of, kernel_after, after_line, after, moved, first_point}
 use Rattle.dm_rule.specs.Parts.{Part, Says, Routes, Again, Owns, Transmits, Spelled, lines_of, puts, goes_out, packet_line, behind, spelled}
@@ -212,7 +212,6 @@ later_own a (Says (line.NoMove i) ∷ ps) pt w ok fit topic is sane h = absurd f
 later_own a (Says (line.Proto i) ∷ ps) pt w ok fit topic is sane h = absurd fit
 later_own a (Says (line.NoChild p) ∷ ps) pt w ok fit topic is sane h = absurd fit
 later_own a (Says (line.Pinned p) ∷ ps) pt w ok fit topic is sane h = absurd fit
-later_own a (Says (line.End x) ∷ ps) pt w ok fit topic is sane h = absurd fit
 
 -- behind a first line
 then_own : (l : Line) (qs : List Part) (pt : Point) (w : Spelled) → label_of l ≡ None → AllSayable (Says l ∷ qs) → Later (view_after pt.view l).topic qs → spelled pt (Says l ∷ qs) ≡ Some w → Sane pt → OwnTold pt → OwnTold w.point

@@ -14,8 +14,8 @@ use Rattle.dm_laws.proofs.Runs.{after_step, start-sound}
 use Rattle.dm_laws.proofs.Sound.{Sound}
 use Rattle.dm_laws.proofs.Steps.{bind-is}
 use Rattle.dm_schedule.specs.declared.Step.{Step}
-use Rattle.dm_rule.specs.declared.line.Line.{Line}
-use Rattle.dm_rule.specs.declared.line.Line.TheVariants as line
+use Rattle.dm_line.specs.declared.line.Line.{Line}
+use Rattle.dm_line.specs.declared.line.Line.TheVariants as line
 use Rattle.dm_rule.specs.Point.{Point, first_point, label_of, labels, with_label, kernel_after, after_line, after, moved}
 use Rattle.dm_rule.specs.Parts.{Part, Spelled, lines_of, behind, spelled}
 use Rattle.dm_rule.specs.Rule.{group_of, outcome, headed}

@@ -16,7 +16,7 @@ use Rattle.dm_process.specs.declared.process.Status.{Status}
 use Rattle.dm_process.specs.declared.process.Status.TheVariants as status
 use Rattle.dm_process.specs.Directions.{direction_numbered}
 use Rattle.dm_process.specs.Lawful.{IsLawfulProcess, IsLawfulStatus, SlotIsLawful}
-use Rattle.dm_regs.specs.declared.registers.Regs.{Regs}
+use Rattle.dm_processor.specs.declared.registers.Regs.{Regs}
 use Rattle.dm_onekernel.specs.declared.label.Reply.{Reply}
 use Rattle.dm_onekernel.specs.declared.label.Reply.TheVariants as reply
 use Rattle.dm_onekernel.specs.Codes.{reply_code}

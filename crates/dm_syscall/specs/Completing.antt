@@ -13,7 +13,7 @@ use Rattle.dm_process.specs.declared.process.Process.{Process}
 use Rattle.dm_process.specs.declared.process.Status.{Status}
 use Rattle.dm_process.specs.declared.process.Status.TheVariants as status
 use Rattle.dm_process.specs.Mail.{is_on}
-use Rattle.dm_regs.specs.declared.registers.Regs.{Regs}
+use Rattle.dm_processor.specs.declared.registers.Regs.{Regs}
 use Rattle.dm_onekernel.specs.declared.label.Reply.{Reply}
 use Rattle.dm_onekernel.specs.Codes.{reply_code}
 use Rattle.dm_onekernel.specs.Plain.{plain_process}

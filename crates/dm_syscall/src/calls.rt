@@ -12,7 +12,7 @@ use crate::send::send;
 use crate::transfer::transfer;
 use dm_onekernel::{Reply, Why};
 use dm_process::{Process, Status};
-use dm_regs::{Cells, Memory};
+use dm_processor::{Cells, Memory};
 
 /// The numbers of the calls.
 const EXIT: u8 = 1;

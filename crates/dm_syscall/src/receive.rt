@@ -17,7 +17,7 @@ use dm_linktable::Table;
 use dm_message::What;
 use dm_onekernel::Reply;
 use dm_process::{Process, Status};
-use dm_regs::{Cells, Regs};
+use dm_processor::{Cells, Regs};
 
 /// The register that holds the slot of a message's first link.
 const FIRST_SLOT: usize = 5;

@@ -1,5 +1,5 @@
 -- Lines at the end of a run, read back from their words.
-use Rattle.std.proofs.Common.{◌≡◌, ℕ, suc, ◌+◌, ◌^◌, ◌<◌, ◌==◌, Bool, true, false, List, [], ◌∷◌, ◌++◌, length, take, map, refl, ap, sym, ◌∙◌, arith, Some}
+use Rattle.std.proofs.Common.{◌≡◌, ℕ, suc, ◌+◌, ◌^◌, ◌<◌, ◌==◌, Bool, true, false, List, [], ◌∷◌, ◌++◌, length, take, map, refl, ap, sym, ◌∙◌, arith, Some, None}
 use Rattle.std.specs.List.{All}
 use Rattle.std.specs.Fmt.{decimal}
 use Rattle.std.proofs.lemmas.Bool.{eq-eqb}
@@ -12,18 +12,17 @@ use Rattle.dm_link.specs.declared.Pid.{Pid}
 use Rattle.dm_message.specs.declared.MsgId.{MsgId}
 use Rattle.dm_process.specs.declared.process.Direction.{Direction}
 use Rattle.dm_process.specs.declared.process.Direction.TheVariants.{FromArea, IntoArea}
-use Rattle.dm_rule.specs.declared.line.Doing.TheVariants as doing
-use Rattle.dm_rule.specs.declared.line.EndLine.{EndLine}
-use Rattle.dm_rule.specs.declared.line.EndLine.TheVariants as end
-use Rattle.dm_rule.specs.declared.line.Line.TheVariants as line
-use Rattle.dm_rule.specs.declared.line.Standing.{Standing}
-use Rattle.dm_rule.specs.declared.line.Standing.TheVariants as standing
+use Rattle.dm_line.specs.declared.end_line.Doing.TheVariants as doing
+use Rattle.dm_line.specs.declared.end_line.EndLine.{EndLine}
+use Rattle.dm_line.specs.declared.end_line.EndLine.TheVariants as end
+use Rattle.dm_line.specs.declared.end_line.Standing.{Standing}
+use Rattle.dm_line.specs.declared.end_line.Standing.TheVariants as standing
 use Rattle.dm_text.specs.Words.{id_word}
 use Rattle.dm_text.specs.Ends.{end_words, link_words, kind_word, rights_word, standing_word, direction_word, go_word}
 use Rattle.dm_text.specs.EndsOf.{read_standing, read_direction, read_go, read_link_kind, read_rights, read_link, link_from, registers_from}
 use Rattle.dm_text.specs.Reading.{read_u32, read_id}
 use Rattle.dm_text.specs.Rows.{all_read}
-use Rattle.dm_text.specs.LinesOf.{line_of_words}
+use Rattle.dm_text.specs.LinesOf.{end_of_words, line_of_words}
 use Rattle.dm_text.specs.Fits.{IdFits, IsWord, LinkFits, EndFits}
 use Rattle.dm_text.proofs.Pieces.{above, AreWords}
 use Rattle.dm_text.proofs.Names.{below_u128, word_decimal, read_u8_back, read_u32_back, read_u128_back, word_pid, read_pid_back, word_id, read_id_back, word_why, read_why_back}
@@ -110,13 +109,13 @@ all_back_push : (r : List ℕ) (pc : ℕ) → All IsWord r → pc < 2 ^ 32 → a
 all_back_push [] pc h k = rw (read_u32_back pc k) refl
 all_back_push (x ∷ xs) pc h k = rw (read_u32_back x (h 0 x (omega arith)), all_back_push xs pc (λ i d l. h (suc i) d (omega arith)) k) refl
 
-registers_split : (p : Pid) (r : List ℕ) (pc : ℕ) → length r ≡ 16 → registers_from p (r ++ pc ∷ []) ≡ Some (line.End (end.Registers p r pc))
+registers_split : (p : Pid) (r : List ℕ) (pc : ℕ) → length r ≡ 16 → registers_from p (r ++ pc ∷ []) ≡ Some (end.Registers p r pc)
 registers_split p r pc h =
     let e : (length (r ++ pc ∷ []) == 17) ≡ true = eq-eqb (length (r ++ pc ∷ [])) 17 (length_push r pc ∙ ap (λ n. n + 1) h) in
     let t : take 16 (r ++ pc ∷ []) ≡ r = ap (λ n. take n (r ++ pc ∷ [])) (sym h) ∙ take-append_seam r (pc ∷ []) in
     rw (e, t, get_or_push r pc 0 16 h) refl
 
-registers_back : (p : Pid) (r : List ℕ) (pc : ℕ) → EndFits (end.Registers p r pc) → line_of_words (end_words (end.Registers p r pc)) ≡ Some (line.End (end.Registers p r pc))
+registers_back : (p : Pid) (r : List ℕ) (pc : ℕ) → EndFits (end.Registers p r pc) → end_of_words (end_words (end.Registers p r pc)) ≡ Some (end.Registers p r pc)
 registers_back p r pc h = rw (read_pid_back p h.0, all_back_push r pc h.2 h.3) (registers_split p r pc h.1)
 
 pub end_words_are : (e : EndLine) → EndFits e → AreWords (end_words e)
@@ -140,7 +139,7 @@ end_words_are (end.Inbox m ids) h = (refl, (word_u8 m h.0, ids_words ids h.1))
 end_words_are (end.Stream a b ids) h = (refl, (word_u8 a h.0, (word_u8 b h.1, ids_words ids h.2)))
 end_words_are (end.Groups g) h = (refl, (word_decimal 32 g (omega arith) (below_u128 g h), tt))
 
-pub end_back : (e : EndLine) → EndFits e → line_of_words (end_words e) ≡ Some (line.End e)
+pub end_back : (e : EndLine) → EndFits e → end_of_words (end_words e) ≡ Some e
 end_back end.Final h = refl
 end_back (end.Ended p y) h = rw (read_pid_back p h, read_why_back y) refl
 end_back (end.Process p m s doing.Ready go sent) h = rw (read_pid_back p h.0, read_u8_back m h.1, read_standing_back s, read_go_back go, read_u32_back sent h.3) refl
@@ -160,3 +159,21 @@ end_back (end.Holding m p ids) h = rw (read_u8_back m h.0, read_pid_back p h.1, 
 end_back (end.Inbox m ids) h = rw (read_u8_back m h.0, ids_back ids h.1) refl
 end_back (end.Stream a b ids) h = rw (read_u8_back a h.0, read_u8_back b h.1, ids_back ids h.2) refl
 end_back (end.Groups g) h = rw (read_u128_back g h) refl
+
+-- a line at the end is none of a group
+pub not_of_group : (e : EndLine) → line_of_words (end_words e) ≡ None
+not_of_group end.Final = refl
+not_of_group (end.Ended p y) = refl
+not_of_group (end.Process p m s d go sent) = refl
+not_of_group (end.Registers p r pc) = refl
+not_of_group (end.Memory p k bytes) = refl
+not_of_group (end.Link p slot l) = refl
+not_of_group (end.Server p sent) = refl
+not_of_group (end.Name name l) = refl
+not_of_group (end.Child n p m) = refl
+not_of_group (end.Pending i) = refl
+not_of_group (end.Queue p ids) = refl
+not_of_group (end.Holding m p ids) = refl
+not_of_group (end.Inbox m ids) = refl
+not_of_group (end.Stream a b ids) = refl
+not_of_group (end.Groups g) = refl

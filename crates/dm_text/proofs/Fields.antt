@@ -1,8 +1,8 @@
 -- Numbers as words, and the steps of a migration, read back.
 use Rattle.std.proofs.Common.{◌≡◌, ℕ, ◌^◌, ◌<◌, true, refl, arith, Some}
 use Rattle.std.specs.Fmt.{decimal}
-use Rattle.dm_rule.specs.declared.line.Stage.{Stage}
-use Rattle.dm_rule.specs.declared.line.Stage.TheVariants as stage
+use Rattle.dm_line.specs.declared.line.Stage.{Stage}
+use Rattle.dm_line.specs.declared.line.Stage.TheVariants as stage
 use Rattle.dm_text.specs.GroupsOf.{read_stage}
 use Rattle.dm_text.specs.Text.{stage_word}
 use Rattle.dm_text.proofs.Pieces.{above}

@@ -4,7 +4,7 @@ use Rattle.dm_onekernel.specs.declared.label.Label.{Label}
 use Rattle.dm_onekernel.specs.declared.label.Label.TheVariants as label
 use Rattle.dm_schedule.specs.declared.Step.{Step}
 use Rattle.dm_schedule.specs.declared.Step.TheVariants as step
-use Rattle.dm_rule.specs.declared.line.Line.TheVariants as line
+use Rattle.dm_line.specs.declared.line.Line.TheVariants as line
 use Rattle.dm_text.specs.Labels.{head_words, label_words}
 use Rattle.dm_text.specs.LinesOf.{line_of_words}
 use Rattle.dm_text.specs.Fits.{StepFits, LabelFits}

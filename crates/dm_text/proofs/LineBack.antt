@@ -1,8 +1,8 @@
 -- Each line read back from its words.
 use Rattle.std.proofs.Common.{◌≡◌, refl, arith, Some}
-use Rattle.dm_rule.specs.declared.line.Line.{Line}
-use Rattle.dm_rule.specs.declared.line.Line.TheVariants as line
-use Rattle.dm_rule.specs.declared.line.Load.TheVariants as load
+use Rattle.dm_line.specs.declared.line.Line.{Line}
+use Rattle.dm_line.specs.declared.line.Line.TheVariants as line
+use Rattle.dm_line.specs.declared.line.Load.TheVariants as load
 use Rattle.dm_text.specs.Text.{words}
 use Rattle.dm_text.specs.LinesOf.{line_of_words}
 use Rattle.dm_text.specs.Fits.{LineFits}
@@ -10,7 +10,6 @@ use Rattle.dm_text.proofs.Pieces.{AreWords}
 use Rattle.dm_text.proofs.Names.{read_u8_back, read_u16_back, read_u32_back, read_u64_back, word_pid, read_pid_back, word_id, read_id_back, word_kind, read_kind_back}
 use Rattle.dm_text.proofs.Fields.{word_u8, word_u16, word_u32, word_u64, word_stage, read_stage_back}
 use Rattle.dm_text.proofs.LabelsBack.{head_words_are, head_back, label_words_are, label_back}
-use Rattle.dm_text.proofs.EndsBack.{end_words_are, end_back}
 
 pub words-are : (l : Line) → LineFits l → AreWords (words l)
 words-are (line.Head s) h = head_words_are s h
@@ -38,7 +37,6 @@ words-are (line.NoMove i) h = (refl, (word_id i h, tt))
 words-are (line.Proto i) h = (refl, (word_id i h, tt))
 words-are (line.NoChild p) h = (refl, (word_pid 32 p (omega arith) h, tt))
 words-are (line.Pinned p) h = (refl, (word_pid 32 p (omega arith) h, tt))
-words-are (line.End e) h = end_words_are e h
 
 pub words-back : (l : Line) → LineFits l → line_of_words (words l) ≡ Some l
 words-back (line.Head s) h = head_back s h
@@ -66,4 +64,3 @@ words-back (line.NoMove i) h = rw (read_id_back i h) refl
 words-back (line.Proto i) h = rw (read_id_back i h) refl
 words-back (line.NoChild p) h = rw (read_pid_back p h) refl
 words-back (line.Pinned p) h = rw (read_pid_back p h) refl
-words-back (line.End e) h = end_back e h

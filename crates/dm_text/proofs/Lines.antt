@@ -1,8 +1,9 @@
 -- The text of lists of lines.
 use Rattle.std.proofs.Common.{◌≡◌, ℕ, ◌+◌, ◌<◌, List, [], ◌∷◌, ◌++◌, length, take, get_or, refl, ap, sym, ◌∙◌, append_assoc}
 use Rattle.std.proofs.lemmas.List.{append-nil, take_more}
-use Rattle.dm_rule.specs.declared.line.Line.{Line}
-use Rattle.dm_text.specs.Text.{text, text_of_lines}
+use Rattle.dm_line.specs.declared.end_line.EndLine.{EndLine}
+use Rattle.dm_line.specs.declared.line.Line.{Line}
+use Rattle.dm_text.specs.Text.{text, end_text, text_of_lines, text_of_ends}
 
 lines-one : (l : Line) → text_of_lines (l ∷ []) ≡ text l
 unfolding text_of_lines
@@ -27,3 +28,28 @@ lines-more t into new lines i d h e n =
 pub lines-none : (t : List ℕ) (lines : List Line) → t ≡ t ++ text_of_lines (take 0 lines)
 unfolding text_of_lines
 lines-none t lines = sym (append-nil t)
+
+-- the same of the lines at the end of a run
+ends-one : (l : EndLine) → text_of_ends (l ∷ []) ≡ end_text l
+unfolding text_of_ends
+ends-one l = append-nil (end_text l)
+
+ends-append : (a b : List EndLine) → text_of_ends (a ++ b) ≡ text_of_ends a ++ text_of_ends b
+unfolding text_of_ends
+ends-append [] b = refl
+ends-append (l ∷ ls) b = ap (λ t. end_text l ++ t) (ends-append ls b) ∙ sym (append_assoc (end_text l) (text_of_ends ls) (text_of_ends b))
+
+-- one more line
+pub ends-more : (t into new : List ℕ) (lines : List EndLine) (i : ℕ) (d : EndLine) → i < length lines → into ≡ t ++ text_of_ends (take i lines) → new ≡ into ++ end_text (get_or lines i d) → new ≡ t ++ text_of_ends (take (i + 1) lines)
+ends-more t into new lines i d h e n =
+    n
+    ∙ ap (λ s. s ++ end_text (get_or lines i d)) e
+    ∙ append_assoc t (text_of_ends (take i lines)) (end_text (get_or lines i d))
+    ∙ ap (λ s. t ++ (text_of_ends (take i lines) ++ s)) (sym (ends-one (get_or lines i d)))
+    ∙ ap (λ s. t ++ s) (sym (ends-append (take i lines) (get_or lines i d ∷ [])))
+    ∙ ap (λ x. t ++ text_of_ends x) (sym (take_more lines i d h))
+
+-- no line yet
+pub ends-none : (t : List ℕ) (lines : List EndLine) → t ≡ t ++ text_of_ends (take 0 lines)
+unfolding text_of_ends
+ends-none t lines = sym (append-nil t)

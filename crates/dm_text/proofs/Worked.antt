@@ -10,14 +10,14 @@ use Rattle.dm_process.specs.declared.process.Direction.TheVariants.{IntoArea}
 use Rattle.dm_onekernel.specs.declared.label.Label.TheVariants as label
 use Rattle.dm_onekernel.specs.declared.label.Reply.TheVariants as reply
 use Rattle.dm_schedule.specs.declared.Step.TheVariants as step
-use Rattle.dm_rule.specs.declared.line.Doing.TheVariants as doing
-use Rattle.dm_rule.specs.declared.line.EndLine.TheVariants as end
-use Rattle.dm_rule.specs.declared.line.Line.TheVariants as line
-use Rattle.dm_rule.specs.declared.line.Load.TheVariants as load
-use Rattle.dm_rule.specs.declared.line.Standing.TheVariants as standing
-use Rattle.dm_text.specs.Text.{text, text_of_lines}
+use Rattle.dm_line.specs.declared.end_line.Doing.TheVariants as doing
+use Rattle.dm_line.specs.declared.end_line.EndLine.TheVariants as end
+use Rattle.dm_line.specs.declared.line.Line.TheVariants as line
+use Rattle.dm_line.specs.declared.line.Load.TheVariants as load
+use Rattle.dm_line.specs.declared.end_line.Standing.TheVariants as standing
+use Rattle.dm_text.specs.Text.{text, end_text, text_of_lines}
 use Rattle.dm_text.specs.Reading.{pieces, read_number}
-use Rattle.dm_text.specs.LinesOf.{line_of, lines_of}
+use Rattle.dm_text.specs.LinesOf.{line_of, end_of, lines_of, trace_of}
 
 delivered : text_of_lines (line.Head (step.Deliver 0 1 0) ∷ line.Taken 0 1 0 ∷ line.Packet 1 0 0 (load.Ack 1) ∷ []) ≡ codes "deliver 0 1 0\ntaken 0 1 0\npacket 1 0 0 ack 1\n"
 unfolding text_of_lines digits
@@ -35,25 +35,30 @@ sent_on : text (line.SentOn (pid_of 0 3) 10) ≡ codes "step 6 0.3 10\n"
 unfolding digits
 sent_on = refl
 
-moving : text (line.End (end.Process (pid_of 1 3) 2 standing.Arriving (doing.Moving IntoArea (pid_of 0 3) 0 36 600) false 1)) ≡ codes "process 1.3 at 2 arriving moving 1 0.3 0 36 600 go 1\n"
+moving : end_text (end.Process (pid_of 1 3) 2 standing.Arriving (doing.Moving IntoArea (pid_of 0 3) 0 36 600) false 1) ≡ codes "process 1.3 at 2 arriving moving 1 0.3 0 36 600 go 1\n"
 unfolding digits
 moving = refl
 
-held_link : text (line.End (end.Link (pid_of 0 3) 11 (record { addr = record { pid = pid_of 0 3; at = 0; moves = 0 }; kind = link.Reply; to_kernel = false; code = 7; channel = 0; area = record { base = 192; len = 320; read = true; write = true } }))) ≡ codes "link 0.3 11 reply 0.3 at 0 moves 0 code 7 channel 0 area 192 320 rw\n"
+held_link : end_text (end.Link (pid_of 0 3) 11 (record { addr = record { pid = pid_of 0 3; at = 0; moves = 0 }; kind = link.Reply; to_kernel = false; code = 7; channel = 0; area = record { base = 192; len = 320; read = true; write = true } })) ≡ codes "link 0.3 11 reply 0.3 at 0 moves 0 code 7 channel 0 area 192 320 rw\n"
 unfolding digits
 held_link = refl
 
-memory : text (line.End (end.Memory (pid_of 0 3) 1 (record { items = 0 ∷ 0 ∷ 189 ∷ [] }))) ≡ codes "memory 0.3 1 0000bd\n"
+memory : end_text (end.Memory (pid_of 0 3) 1 (record { items = 0 ∷ 0 ∷ 189 ∷ [] })) ≡ codes "memory 0.3 1 0000bd\n"
 unfolding digits
 memory = refl
 
-holding : text (line.End (end.Holding 1 (pid_of 1 5) (id_of (pid_of 0 0) 1 ∷ id_of (pid_of 0 2) 7 ∷ []))) ≡ codes "holding 1 1.5 0.0#1 0.2#7\n"
+holding : end_text (end.Holding 1 (pid_of 1 5) (id_of (pid_of 0 0) 1 ∷ id_of (pid_of 0 2) 7 ∷ [])) ≡ codes "holding 1 1.5 0.0#1 0.2#7\n"
 unfolding digits
 holding = refl
 
-two_lines : lines_of (codes "turn 7\nend 16\n") ≡ Some (line.Head (step.Turn 7) ∷ line.End (end.Groups 16) ∷ [])
-unfolding lines_of line_of pieces read_number
+two_lines : trace_of (codes "turn 7\nend 16\n") ≡ Some (record { lines = line.Head (step.Turn 7) ∷ []; ends = end.Groups 16 ∷ [] })
+unfolding trace_of line_of end_of pieces read_number
 two_lines = refl
+
+-- no line of a group stands behind one at the end
+no_group_at_end : trace_of (codes "end 16\nturn 7\n") ≡ None
+unfolding trace_of line_of end_of pieces read_number
+no_group_at_end = refl
 
 no_lines : lines_of [] ≡ Some []
 unfolding lines_of pieces

@@ -7,12 +7,12 @@ use Rattle.dm_link.specs.declared.Link.{Link}
 use Rattle.dm_process.specs.declared.process.Direction.{Direction}
 use Rattle.dm_process.specs.declared.process.Direction.TheVariants.{FromArea, IntoArea}
 use Rattle.dm_onekernel.specs.Codes.{why_code}
-use Rattle.dm_rule.specs.declared.line.Doing.{Doing}
-use Rattle.dm_rule.specs.declared.line.Doing.TheVariants as doing
-use Rattle.dm_rule.specs.declared.line.EndLine.{EndLine}
-use Rattle.dm_rule.specs.declared.line.EndLine.TheVariants as end
-use Rattle.dm_rule.specs.declared.line.Standing.{Standing}
-use Rattle.dm_rule.specs.declared.line.Standing.TheVariants as standing
+use Rattle.dm_line.specs.declared.end_line.Doing.{Doing}
+use Rattle.dm_line.specs.declared.end_line.Doing.TheVariants as doing
+use Rattle.dm_line.specs.declared.end_line.EndLine.{EndLine}
+use Rattle.dm_line.specs.declared.end_line.EndLine.TheVariants as end
+use Rattle.dm_line.specs.declared.end_line.Standing.{Standing}
+use Rattle.dm_line.specs.declared.end_line.Standing.TheVariants as standing
 use Rattle.dm_text.specs.Words.{pid_word, id_word}
 
 abbrev pub standing_word : Standing → List ℕ

@@ -8,13 +8,12 @@ use Rattle.dm_link.specs.declared.Kind.TheVariants.{General, Reply}
 use Rattle.dm_link.specs.declared.Link.{Link}
 use Rattle.dm_process.specs.declared.process.Direction.{Direction}
 use Rattle.dm_process.specs.declared.process.Direction.TheVariants.{FromArea, IntoArea}
-use Rattle.dm_rule.specs.declared.line.Doing.{Doing}
-use Rattle.dm_rule.specs.declared.line.Doing.TheVariants as doing
-use Rattle.dm_rule.specs.declared.line.EndLine.TheVariants as end
-use Rattle.dm_rule.specs.declared.line.Line.{Line}
-use Rattle.dm_rule.specs.declared.line.Line.TheVariants as line
-use Rattle.dm_rule.specs.declared.line.Standing.{Standing}
-use Rattle.dm_rule.specs.declared.line.Standing.TheVariants as standing
+use Rattle.dm_line.specs.declared.end_line.Doing.{Doing}
+use Rattle.dm_line.specs.declared.end_line.Doing.TheVariants as doing
+use Rattle.dm_line.specs.declared.end_line.EndLine.{EndLine}
+use Rattle.dm_line.specs.declared.end_line.EndLine.TheVariants as end
+use Rattle.dm_line.specs.declared.end_line.Standing.{Standing}
+use Rattle.dm_line.specs.declared.end_line.Standing.TheVariants as standing
 use Rattle.dm_text.specs.Reading.{◌<*>◌, read_number, read_u8, read_u32, read_pid, read_id, read_why}
 use Rattle.dm_text.specs.Rows.{is, of0, of1, of2, all_read}
 
@@ -74,10 +73,10 @@ read_link (k ∷ q ∷ at ∷ m ∷ moves ∷ c ∷ code ∷ n ∷ channel ∷ h
 read_link _ = None
 
 -- process P at M PLACE STATUS GO SENT, where its fixed words stand
-abbrev pub process_from : Bool → List ℕ → List ℕ → List ℕ → Option Doing → List ℕ → List ℕ → Option Line
+abbrev pub process_from : Bool → List ℕ → List ℕ → List ℕ → Option Doing → List ℕ → List ℕ → Option EndLine
 process_from false p m s d go sent = None
 process_from true p m s d go sent =
-    Some (λ p m s d go sent. line.End (end.Process p m s d go sent)) <*> read_pid p <*> read_u8 m <*> read_standing s <*> d <*> read_go go <*> read_u32 sent
+    Some (λ p m s d go sent. end.Process p m s d go sent) <*> read_pid p <*> read_u8 m <*> read_standing s <*> d <*> read_go go <*> read_u32 sent
 
 abbrev pub waiting : List ℕ → List ℕ → List ℕ → Option Doing
 waiting mask base most = Some (λ mask base most. doing.Waiting mask base most) <*> read_u32 mask <*> read_u32 base <*> read_u32 most
@@ -86,8 +85,8 @@ abbrev pub moving : List ℕ → List ℕ → List ℕ → List ℕ → List ℕ
 moving dir q base own left = Some (λ dir q base own left. doing.Moving dir q base own left) <*> read_direction dir <*> read_pid q <*> read_u32 base <*> read_u32 own <*> read_u32 left
 
 -- process P ended WHY, and the three of a process that has not
-abbrev pub process_of : List (List ℕ) → Option Line
-process_of (p ∷ ended ∷ y ∷ []) = if is ended (codes "ended") then Some (λ p y. line.End (end.Ended p y)) <*> read_pid p <*> read_why y else None
+abbrev pub process_of : List (List ℕ) → Option EndLine
+process_of (p ∷ ended ∷ y ∷ []) = if is ended (codes "ended") then Some (λ p y. end.Ended p y) <*> read_pid p <*> read_why y else None
 process_of (p ∷ at ∷ m ∷ s ∷ status ∷ go ∷ sent ∷ []) = process_from (is at (codes "at") && is status (codes "ready")) p m s (Some doing.Ready) go sent
 process_of (p ∷ at ∷ m ∷ s ∷ status ∷ mask ∷ base ∷ most ∷ go ∷ sent ∷ []) =
     process_from (is at (codes "at") && is status (codes "waiting")) p m s (waiting mask base most) go sent
@@ -96,73 +95,73 @@ process_of (p ∷ at ∷ m ∷ s ∷ status ∷ dir ∷ q ∷ base ∷ own ∷ l
 process_of _ = None
 
 -- the registers, 0 to 15, and the program counter
-abbrev pub registers_from : Pid → List ℕ → Option Line
-registers_from p xs = if length xs == 17 then Some (line.End (end.Registers p (take 16 xs) (get_or xs 16 0))) else None
+abbrev pub registers_from : Pid → List ℕ → Option EndLine
+registers_from p xs = if length xs == 17 then Some (end.Registers p (take 16 xs) (get_or xs 16 0)) else None
 
 -- where both are there
-abbrev pub registers_in : Option Pid → Option (List ℕ) → Option Line
+abbrev pub registers_in : Option Pid → Option (List ℕ) → Option EndLine
 registers_in None xs = None
 registers_in (Some p) None = None
 registers_in (Some p) (Some xs) = registers_from p xs
 
-abbrev pub registers_of : List (List ℕ) → Option Line
+abbrev pub registers_of : List (List ℕ) → Option EndLine
 registers_of [] = None
 registers_of (p ∷ ws) = registers_in (read_pid p) (all_read read_u32 ws)
 
 -- memory P K HEX
-abbrev pub memory_of : List (List ℕ) → Option Line
-memory_of (p ∷ k ∷ bytes ∷ []) = Some (λ p k bytes. line.End (end.Memory p k (record { items = bytes }))) <*> read_pid p <*> read_u8 k <*> read_hex bytes
+abbrev pub memory_of : List (List ℕ) → Option EndLine
+memory_of (p ∷ k ∷ bytes ∷ []) = Some (λ p k bytes. end.Memory p k (record { items = bytes })) <*> read_pid p <*> read_u8 k <*> read_hex bytes
 memory_of _ = None
 
 -- link P SLOT LINK
-abbrev pub link_of : List (List ℕ) → Option Line
-link_of (p ∷ slot ∷ ws) = Some (λ p slot l. line.End (end.Link p slot l)) <*> read_pid p <*> read_u8 slot <*> read_link ws
+abbrev pub link_of : List (List ℕ) → Option EndLine
+link_of (p ∷ slot ∷ ws) = Some (λ p slot l. end.Link p slot l) <*> read_pid p <*> read_u8 slot <*> read_link ws
 link_of _ = None
 
 -- name HEX LINK
-abbrev pub name_of : List (List ℕ) → Option Line
-name_of (name ∷ ws) = Some (λ name l. line.End (end.Name (record { items = name }) l)) <*> read_hex name <*> read_link ws
+abbrev pub name_of : List (List ℕ) → Option EndLine
+name_of (name ∷ ws) = Some (λ name l. end.Name (record { items = name }) l) <*> read_hex name <*> read_link ws
 name_of _ = None
 
 -- child N P at M
-abbrev pub child_of : List (List ℕ) → Option Line
-child_of (n ∷ p ∷ at ∷ m ∷ []) = if is at (codes "at") then Some (λ n p m. line.End (end.Child n p m)) <*> read_u32 n <*> read_pid p <*> read_u8 m else None
+abbrev pub child_of : List (List ℕ) → Option EndLine
+child_of (n ∷ p ∷ at ∷ m ∷ []) = if is at (codes "at") then Some (λ n p m. end.Child n p m) <*> read_u32 n <*> read_pid p <*> read_u8 m else None
 child_of _ = None
 
 -- queue P ID ..
-abbrev pub queue_of : List (List ℕ) → Option Line
-queue_of (p ∷ ids) = Some (λ p ids. line.End (end.Queue p ids)) <*> read_pid p <*> all_read read_id ids
+abbrev pub queue_of : List (List ℕ) → Option EndLine
+queue_of (p ∷ ids) = Some (λ p ids. end.Queue p ids) <*> read_pid p <*> all_read read_id ids
 queue_of _ = None
 
 -- holding M P ID ..
-abbrev pub holding_of : List (List ℕ) → Option Line
-holding_of (m ∷ p ∷ ids) = Some (λ m p ids. line.End (end.Holding m p ids)) <*> read_u8 m <*> read_pid p <*> all_read read_id ids
+abbrev pub holding_of : List (List ℕ) → Option EndLine
+holding_of (m ∷ p ∷ ids) = Some (λ m p ids. end.Holding m p ids) <*> read_u8 m <*> read_pid p <*> all_read read_id ids
 holding_of _ = None
 
 -- inbox M ID ..
-abbrev pub inbox_of : List (List ℕ) → Option Line
-inbox_of (m ∷ ids) = Some (λ m ids. line.End (end.Inbox m ids)) <*> read_u8 m <*> all_read read_id ids
+abbrev pub inbox_of : List (List ℕ) → Option EndLine
+inbox_of (m ∷ ids) = Some (λ m ids. end.Inbox m ids) <*> read_u8 m <*> all_read read_id ids
 inbox_of _ = None
 
 -- stream A B ID ..
-abbrev pub stream_of : List (List ℕ) → Option Line
-stream_of (a ∷ b ∷ ids) = Some (λ a b ids. line.End (end.Stream a b ids)) <*> read_u8 a <*> read_u8 b <*> all_read read_id ids
+abbrev pub stream_of : List (List ℕ) → Option EndLine
+stream_of (a ∷ b ∷ ids) = Some (λ a b ids. end.Stream a b ids) <*> read_u8 a <*> read_u8 b <*> all_read read_id ids
 stream_of _ = None
 
-abbrev pub end_named : List ℕ → List (List ℕ) → Option Line
+abbrev pub end_named : List ℕ → List (List ℕ) → Option EndLine
 end_named w ws =
-    if is w (codes "final") then of0 (line.End end.Final) ws
+    if is w (codes "final") then of0 end.Final ws
     else if is w (codes "process") then process_of ws
     else if is w (codes "registers") then registers_of ws
     else if is w (codes "memory") then memory_of ws
     else if is w (codes "link") then link_of ws
-    else if is w (codes "server") then of2 read_pid read_u32 (λ p n. line.End (end.Server p n)) ws
+    else if is w (codes "server") then of2 read_pid read_u32 (λ p n. end.Server p n) ws
     else if is w (codes "name") then name_of ws
     else if is w (codes "child") then child_of ws
-    else if is w (codes "pending") then of1 read_id (λ i. line.End (end.Pending i)) ws
+    else if is w (codes "pending") then of1 read_id (λ i. end.Pending i) ws
     else if is w (codes "queue") then queue_of ws
     else if is w (codes "holding") then holding_of ws
     else if is w (codes "inbox") then inbox_of ws
     else if is w (codes "stream") then stream_of ws
-    else if is w (codes "end") then of1 (read_number (2 ^ 128)) (λ g. line.End (end.Groups g)) ws
+    else if is w (codes "end") then of1 (read_number (2 ^ 128)) (λ g. end.Groups g) ws
     else None

@@ -8,14 +8,14 @@ use Rattle.dm_onekernel.specs.declared.label.Label.{Label}
 use Rattle.dm_onekernel.specs.declared.label.Label.TheVariants as label
 use Rattle.dm_schedule.specs.declared.Step.{Step}
 use Rattle.dm_schedule.specs.declared.Step.TheVariants as step
-use Rattle.dm_rule.specs.declared.line.Doing.{Doing}
-use Rattle.dm_rule.specs.declared.line.Doing.TheVariants as doing
-use Rattle.dm_rule.specs.declared.line.EndLine.{EndLine}
-use Rattle.dm_rule.specs.declared.line.EndLine.TheVariants as end
-use Rattle.dm_rule.specs.declared.line.Line.{Line}
-use Rattle.dm_rule.specs.declared.line.Line.TheVariants as line
-use Rattle.dm_rule.specs.declared.line.Load.{Load}
-use Rattle.dm_rule.specs.declared.line.Load.TheVariants as load
+use Rattle.dm_line.specs.declared.end_line.Doing.{Doing}
+use Rattle.dm_line.specs.declared.end_line.Doing.TheVariants as doing
+use Rattle.dm_line.specs.declared.end_line.EndLine.{EndLine}
+use Rattle.dm_line.specs.declared.end_line.EndLine.TheVariants as end
+use Rattle.dm_line.specs.declared.line.Line.{Line}
+use Rattle.dm_line.specs.declared.line.Line.TheVariants as line
+use Rattle.dm_line.specs.declared.line.Load.{Load}
+use Rattle.dm_line.specs.declared.line.Load.TheVariants as load
 
 abbrev pub PidFits : Pid → Type 0
 PidFits p = (p.home < 2 ^ 8) × (p.num < 2 ^ 32)
@@ -114,49 +114,21 @@ LineFits (line.NoMove i) = IdFits i
 LineFits (line.Proto i) = IdFits i
 LineFits (line.NoChild p) = PidFits p
 LineFits (line.Pinned p) = PidFits p
-LineFits (line.End e) = EndFits e
 
 -- a printed link is none to a kernel, whose mark the text leaves out
-abbrev pub EndHidesNothing : EndLine → Type 0
-EndHidesNothing end.Final = ⊤
-EndHidesNothing (end.Ended p y) = ⊤
-EndHidesNothing (end.Process p m s d stopped sent) = ⊤
-EndHidesNothing (end.Registers p r pc) = ⊤
-EndHidesNothing (end.Memory p k bytes) = ⊤
-EndHidesNothing (end.Link p slot l) = l.to_kernel ≡ false
-EndHidesNothing (end.Server p sent) = ⊤
-EndHidesNothing (end.Name name l) = l.to_kernel ≡ false
-EndHidesNothing (end.Child n p m) = ⊤
-EndHidesNothing (end.Pending i) = ⊤
-EndHidesNothing (end.Queue p ids) = ⊤
-EndHidesNothing (end.Holding m p ids) = ⊤
-EndHidesNothing (end.Inbox m ids) = ⊤
-EndHidesNothing (end.Stream a b ids) = ⊤
-EndHidesNothing (end.Groups g) = ⊤
-
-abbrev pub HidesNothing : Line → Type 0
-HidesNothing (line.Head s) = ⊤
-HidesNothing (line.Idle m) = ⊤
-HidesNothing (line.Label l) = ⊤
-HidesNothing (line.Put a b i k q) = ⊤
-HidesNothing (line.Packet a b k l) = ⊤
-HidesNothing (line.Taken a b n) = ⊤
-HidesNothing (line.Old a b n) = ⊤
-HidesNothing (line.Early a b n) = ⊤
-HidesNothing (line.Acked a b n) = ⊤
-HidesNothing line.Nothing = ⊤
-HidesNothing (line.Resent m n) = ⊤
-HidesNothing (line.Queued i) = ⊤
-HidesNothing (line.Held i) = ⊤
-HidesNothing (line.Forwarded i m) = ⊤
-HidesNothing (line.Updated i n) = ⊤
-HidesNothing (line.Migration s p) = ⊤
-HidesNothing (line.SentOn p n) = ⊤
-HidesNothing (line.Lacks p s b) = ⊤
-HidesNothing (line.Stays p) = ⊤
-HidesNothing (line.Here i) = ⊤
-HidesNothing (line.NoMove i) = ⊤
-HidesNothing (line.Proto i) = ⊤
-HidesNothing (line.NoChild p) = ⊤
-HidesNothing (line.Pinned p) = ⊤
-HidesNothing (line.End e) = EndHidesNothing e
+abbrev pub HidesNothing : EndLine → Type 0
+HidesNothing end.Final = ⊤
+HidesNothing (end.Ended p y) = ⊤
+HidesNothing (end.Process p m s d stopped sent) = ⊤
+HidesNothing (end.Registers p r pc) = ⊤
+HidesNothing (end.Memory p k bytes) = ⊤
+HidesNothing (end.Link p slot l) = l.to_kernel ≡ false
+HidesNothing (end.Server p sent) = ⊤
+HidesNothing (end.Name name l) = l.to_kernel ≡ false
+HidesNothing (end.Child n p m) = ⊤
+HidesNothing (end.Pending i) = ⊤
+HidesNothing (end.Queue p ids) = ⊤
+HidesNothing (end.Holding m p ids) = ⊤
+HidesNothing (end.Inbox m ids) = ⊤
+HidesNothing (end.Stream a b ids) = ⊤
+HidesNothing (end.Groups g) = ⊤

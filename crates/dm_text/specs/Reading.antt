@@ -8,7 +8,7 @@ use Rattle.dm_link.specs.Names.{pid_of}
 use Rattle.dm_message.specs.declared.MsgId.{MsgId}
 use Rattle.dm_message.specs.declared.kind.MessageKind.{MessageKind}
 use Rattle.dm_message.specs.Kinds.{word_of, all_kinds}
-use Rattle.dm_regs.specs.declared.registers.Fault.TheVariants as fault
+use Rattle.dm_processor.specs.declared.registers.Fault.TheVariants as fault
 use Rattle.dm_onekernel.specs.Codes.{reply_code, why_code}
 use Rattle.dm_onekernel.specs.declared.label.Reply.{Reply}
 use Rattle.dm_onekernel.specs.declared.label.Reply.TheVariants as reply

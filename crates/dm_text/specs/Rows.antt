@@ -3,7 +3,6 @@ use Rattle.std.specs.Prelude.{ℕ, Bool, List, [], ◌∷◌}
 use Rattle.std.specs.Str.{bytes_eq}
 use Rattle.std.specs.declared.option.Option.{Option}
 use Rattle.std.specs.declared.option.Option.TheVariants.{None, Some}
-use Rattle.dm_rule.specs.declared.line.Line.{Line}
 use Rattle.dm_text.specs.Reading.{◌<*>◌}
 
 -- the word is this one
@@ -15,19 +14,19 @@ abbrev pub or_else : {X : Type 0} → Option X → Option X → Option X
 or_else None o = o
 or_else (Some x) o = Some x
 
-abbrev pub of0 : Line → List (List ℕ) → Option Line
+abbrev pub of0 : {L : Type 0} → L → List (List ℕ) → Option L
 of0 l [] = Some l
 of0 l _ = None
 
-abbrev pub of1 : {A : Type 0} → (List ℕ → Option A) → (A → Line) → List (List ℕ) → Option Line
+abbrev pub of1 : {A L : Type 0} → (List ℕ → Option A) → (A → L) → List (List ℕ) → Option L
 of1 a f (x ∷ []) = Some f <*> a x
 of1 a f _ = None
 
-abbrev pub of2 : {A B : Type 0} → (List ℕ → Option A) → (List ℕ → Option B) → (A → B → Line) → List (List ℕ) → Option Line
+abbrev pub of2 : {A B L : Type 0} → (List ℕ → Option A) → (List ℕ → Option B) → (A → B → L) → List (List ℕ) → Option L
 of2 a b f (x ∷ y ∷ []) = Some f <*> a x <*> b y
 of2 a b f _ = None
 
-abbrev pub of3 : {A B C : Type 0} → (List ℕ → Option A) → (List ℕ → Option B) → (List ℕ → Option C) → (A → B → C → Line) → List (List ℕ) → Option Line
+abbrev pub of3 : {A B C L : Type 0} → (List ℕ → Option A) → (List ℕ → Option B) → (List ℕ → Option C) → (A → B → C → L) → List (List ℕ) → Option L
 of3 a b c f (x ∷ y ∷ z ∷ []) = Some f <*> a x <*> b y <*> c z
 of3 a b c f _ = None
 

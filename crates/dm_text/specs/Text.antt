@@ -2,12 +2,13 @@
 use Rattle.std.specs.Prelude.{ℕ, codes, List, [], ◌∷◌, ◌++◌}
 use Rattle.std.specs.Fmt.{decimal}
 use Rattle.dm_message.specs.Kinds.{word_of}
-use Rattle.dm_rule.specs.declared.line.Line.{Line}
-use Rattle.dm_rule.specs.declared.line.Line.TheVariants as line
-use Rattle.dm_rule.specs.declared.line.Load.{Load}
-use Rattle.dm_rule.specs.declared.line.Load.TheVariants as load
-use Rattle.dm_rule.specs.declared.line.Stage.{Stage}
-use Rattle.dm_rule.specs.declared.line.Stage.TheVariants as stage
+use Rattle.dm_line.specs.declared.end_line.EndLine.{EndLine}
+use Rattle.dm_line.specs.declared.line.Line.{Line}
+use Rattle.dm_line.specs.declared.line.Line.TheVariants as line
+use Rattle.dm_line.specs.declared.line.Load.{Load}
+use Rattle.dm_line.specs.declared.line.Load.TheVariants as load
+use Rattle.dm_line.specs.declared.line.Stage.{Stage}
+use Rattle.dm_line.specs.declared.line.Stage.TheVariants as stage
 use Rattle.dm_text.specs.Words.{pid_word, id_word}
 use Rattle.dm_text.specs.Labels.{head_words, label_words}
 use Rattle.dm_text.specs.Ends.{end_words}
@@ -53,7 +54,6 @@ words (line.NoMove id) = codes "nomove" ∷ id_word id ∷ []
 words (line.Proto id) = codes "proto" ∷ id_word id ∷ []
 words (line.NoChild p) = codes "nochild" ∷ pid_word p ∷ []
 words (line.Pinned p) = codes "pinned" ∷ pid_word p ∷ []
-words (line.End e) = end_words e
 
 -- words, each after a space
 abbrev pub spaced : List (List ℕ) → List ℕ
@@ -73,3 +73,11 @@ text l = spelled (words l)
 unfoldable pub text_of_lines : List Line → List ℕ
 text_of_lines [] = []
 text_of_lines (l ∷ ls) = text l ++ text_of_lines ls
+
+-- a line at the end of a run, and the text of several
+abbrev pub end_text : EndLine → List ℕ
+end_text e = spelled (end_words e)
+
+unfoldable pub text_of_ends : List EndLine → List ℕ
+text_of_ends [] = []
+text_of_ends (e ∷ es) = end_text e ++ text_of_ends es

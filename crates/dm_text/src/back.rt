@@ -1,21 +1,29 @@
 //! Reading lines back.
-ghost use Rattle.std.specs.Prelude.{◌≡◌, ◌<◌, ◌^◌, List, Some, false};
+ghost use Rattle.std.specs.Prelude.{◌≡◌, ◌<◌, ◌^◌, ◌++◌, List, Some, false};
 ghost use Rattle.std.specs.List.{All};
-ghost use Rattle.dm_rule.specs.declared.line.Line.{Line};
-ghost use Rattle.dm_text.specs.Fits.{DoingFits, EndFits, EndHidesNothing, HidesNothing, IdFits, IsByte, IsWord, LabelFits, LineFits, LinkFits, LoadFits, PidFits, StepFits};
-ghost use Rattle.dm_text.specs.LinesOf.{lines_of};
-ghost use Rattle.dm_text.specs.Text.{text_of_lines};
+ghost use Rattle.dm_line.specs.declared.end_line.EndLine.{EndLine as TheEndLine};
+ghost use Rattle.dm_line.specs.declared.line.Line.{Line as TheLine};
+ghost use Rattle.dm_text.specs.Fits.{DoingFits, EndFits, HidesNothing, IdFits, IsByte, IsWord, LabelFits, LineFits, LinkFits, LoadFits, PidFits, StepFits};
+ghost use Rattle.dm_text.specs.LinesOf.{lines_of, trace_of};
+ghost use Rattle.dm_text.specs.Text.{text_of_ends, text_of_lines};
 
 use dm_link::{Link, Pid};
 use dm_message::MsgId;
 use dm_onekernel::Label;
-use dm_rule::line::{Doing, EndLine, Line, Load};
+use dm_line::end_line::{Doing, EndLine};
+use dm_line::line::{Line, Load};
 use dm_schedule::Step;
 
-/// What is printed says all that the lines say: their text spells them, and no other lines have it.
+/// What is printed says all that the lines say: their text spells them, and no other lines have it; the same with the
+/// lines at the end of a run behind them.
 pub fn text_can_be_read()
-    ensures spelt { (lines : List Line) → All LineFits lines → lines_of (text_of_lines lines) ≡ Some lines }
-    ensures once { (a b : List Line) → All LineFits a → All LineFits b → text_of_lines a ≡ text_of_lines b → a ≡ b }
+    ensures spelt { (lines : List TheLine) → All LineFits lines → lines_of (text_of_lines lines) ≡ Some lines }
+    ensures once { (a b : List TheLine) → All LineFits a → All LineFits b → text_of_lines a ≡ text_of_lines b → a ≡ b }
+    ensures traced { (lines : List TheLine) (ends : List TheEndLine) → All LineFits lines → All EndFits ends →
+        trace_of (text_of_lines lines ++ text_of_ends ends) ≡ Some (record { lines = lines; ends = ends }) }
+    ensures traced_once { (a b : List TheLine) (x y : List TheEndLine) →
+        All LineFits a → All EndFits x → All LineFits b → All EndFits y →
+        text_of_lines a ++ text_of_ends x ≡ text_of_lines b ++ text_of_ends y → (a ≡ b) × (x ≡ y) }
 {}
 
 /// The name of a process, a byte and a number of 32 bits are within their types.
@@ -91,9 +99,9 @@ fn label_fits(label: Label)
     ensures { LabelFits label }
 {}
 
-/// So are those of a line at the end, if it leaves no mark of a link out.
-fn end_fits(end: &EndLine)
-    ensures { EndHidesNothing end.now → EndFits end.now }
+/// So are those of a line at the end, so its text can be read, if it leaves no mark of a link out.
+pub fn end_fits(end: &EndLine)
+    ensures { HidesNothing end.now → EndFits end.now }
 {
     match *end {
         EndLine::Final => {}
@@ -155,9 +163,9 @@ fn end_fits(end: &EndLine)
     }
 }
 
-/// The numbers of a line are within their types, so its text can be read, if it leaves no mark of a link out.
+/// The numbers of a line of a group are within their types, so its text can be read.
 pub fn line_fits(line: &Line)
-    ensures { HidesNothing line.now → LineFits line.now }
+    ensures { LineFits line.now }
 {
     match *line {
         Line::Head(step) => step_fits(step),
@@ -201,6 +209,5 @@ pub fn line_fits(line: &Line)
         Line::Proto(id) => message_fits(id, 0, 0),
         Line::NoChild(pid) => process_fits(pid, 0, 0),
         Line::Pinned(pid) => process_fits(pid, 0, 0),
-        Line::End(ref end) => end_fits(end),
     }
 }

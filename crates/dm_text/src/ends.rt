@@ -1,7 +1,7 @@
 //! Writing the lines at the end of a run, a row a line.
 ghost use Rattle.std.specs.Prelude.{◌≡◌, ◌∷◌, ◌++◌, [], OnErr, OnOk, codes, map};
 ghost use Rattle.std.specs.Fmt.{decimal};
-ghost use Rattle.dm_rule.specs.declared.line.EndLine.TheVariants as end;
+ghost use Rattle.dm_line.specs.declared.end_line.EndLine.TheVariants as end;
 ghost use Rattle.dm_text.specs.Ends.{direction_word, doing_words, end_words, go_word, hex, kind_word, link_words, rights_word, standing_word};
 ghost use Rattle.dm_text.specs.Text.{spaced, spelled};
 ghost use Rattle.dm_text.specs.Words.{pid_word};
@@ -15,7 +15,7 @@ use dm_memory::NoMemory;
 use dm_message::MsgId;
 use dm_onekernel::Why;
 use dm_process::Direction;
-use dm_rule::line::{Doing, EndLine, Standing};
+use dm_line::end_line::{Doing, EndLine, Standing};
 
 /// The word for how a process stands on a machine.
 fn standing_name(standing: Standing) -> &'static str

@@ -1,12 +1,13 @@
-use crate::text::{write_line, write_lines};
+use crate::text::{write_end, write_line, write_lines};
 use arrayvec::ArrayVec;
 use dm_link::{Addr, Area, Kind, Link, Pid};
 use dm_lists::Items;
 use dm_message::{MessageKind, MsgId};
 use dm_onekernel::{Label, Reply, Why};
 use dm_process::Direction;
-use dm_regs::Fault;
-use dm_rule::line::{Doing, EndLine, Line, Load, Stage, Standing};
+use dm_processor::Fault;
+use dm_line::end_line::{Doing, EndLine, Standing};
+use dm_line::line::{Line, Load, Stage};
 use dm_schedule::Step;
 use std::test::Fail;
 
@@ -426,7 +427,7 @@ end 340282366920938463463374607431768211455
 ";
     let mut written = Vec::new(rt.alloc());
     for end in lines {
-        let done = write_line(&Line::End(end), &mut written);
+        let done = write_end(&end, &mut written);
         assert!(rt; done.is_ok());
     }
     assert_eq!(rt; written.as_slice(), text.as_bytes());

@@ -1,7 +1,7 @@
 //! Writing lines, a row a line.
 ghost use Rattle.std.specs.Prelude.{◌≡◌, ◌++◌, OnErr, OnOk};
-ghost use Rattle.dm_rule.specs.declared.line.Line.TheVariants as line;
-ghost use Rattle.dm_text.specs.Text.{stage_word, text, text_of_lines};
+ghost use Rattle.dm_line.specs.declared.line.Line.TheVariants as line;
+ghost use Rattle.dm_text.specs.Text.{end_text, stage_word, text, text_of_ends, text_of_lines};
 ghost use Rattle.dm_text.specs.Written.{Keeps};
 
 use crate::ends::put_end;
@@ -14,7 +14,8 @@ use crate::word::Word::{Byte, Name, Number, Process, Wide};
 use crate::word::put_line;
 use dm_link::Pid;
 use dm_memory::NoMemory;
-use dm_rule::line::{Line, Load, Stage};
+use dm_line::end_line::EndLine;
+use dm_line::line::{Line, Load, Stage};
 
 /// The number of a step of a migration.
 fn stage_name(stage: Stage) -> &'static str
@@ -95,7 +96,6 @@ fn put_text(into: &mut Vec<u8>, line: &Line) -> Result<(), NoMemory>
         Line::Proto(id) => put_message(into, "proto", id),
         Line::NoChild(pid) => put_process(into, "nochild", pid),
         Line::Pinned(pid) => put_process(into, "pinned", pid),
-        Line::End(ref end) => put_end(into, end),
     }
 }
 
@@ -120,6 +120,34 @@ pub fn write_lines(lines: &[Line], into: &mut Vec<u8>) -> Result<(), NoMemory>
     let len = into.len();
     for line in lines {
         if let Err(lack) = write_line(line, into) {
+            into.truncate(len);
+            return Err(lack);
+        }
+    }
+    Ok(())
+}
+
+/// Writes a line at the end of a run, with its line feed, at the end of a text. Want of memory leaves the text as it was.
+pub fn write_end(end: &EndLine, into: &mut Vec<u8>) -> Result<(), NoMemory>
+    ensures written { OnOk result (into.new.items ≡ into.old.items ++ end_text end.now) }
+    ensures same { OnErr result (into.new.items ≡ into.old.items) }
+{
+    let start = into.len();
+    let written = put_end(into, end);
+    if written.is_err() {
+        into.truncate(start);
+    }
+    written
+}
+
+/// Writes the lines at the end of a run, one after another, at the end of a text. Want of memory leaves the text as it was.
+pub fn write_ends(ends: &[EndLine], into: &mut Vec<u8>) -> Result<(), NoMemory>
+    ensures written { OnOk result (into.new.items ≡ into.old.items ++ text_of_ends ends.now) }
+    ensures same { OnErr result (into.new.items ≡ into.old.items) }
+{
+    let len = into.len();
+    for end in ends {
+        if let Err(lack) = write_end(end, into) {
             into.truncate(len);
             return Err(lack);
         }

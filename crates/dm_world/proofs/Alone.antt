@@ -17,8 +17,8 @@ use Rattle.dm_wire.specs.Sent.{Sent, bytes_at, marked}
 use Rattle.dm_wire.specs.Wire.{after_mark, is_pair}
 use Rattle.dm_onekernel.specs.declared.boot.Boot.{Boot}
 use Rattle.dm_onekernel.specs.Boot.{images_are_valid}
-use Rattle.dm_rule.specs.declared.line.Line.{Line}
-use Rattle.dm_rule.specs.Sets.{at_machine}
+use Rattle.dm_line.specs.declared.line.Line.{Line}
+use Rattle.dm_line.specs.Sets.{at_machine}
 use Rattle.dm_schedule.specs.declared.Step.{Step}
 use Rattle.dm_schedule.specs.declared.Step.TheVariants as step
 use Rattle.dm_node.specs.declared.out.Out.{Out}

@@ -11,9 +11,10 @@ use Rattle.dm_message.specs.declared.Message.{Message}
 use Rattle.dm_message.specs.declared.MsgId.{MsgId}
 use Rattle.dm_switchboard.specs.Board.{Named}
 use Rattle.dm_switchboard.specs.Lawful.{IsLawfulNamed}
-use Rattle.dm_rule.specs.declared.line.Line.{Line}
-use Rattle.dm_rule.specs.declared.line.EndLine.TheVariants as end
-use Rattle.dm_rule.specs.Ends.{says, or, before_zeros, trimmed}
+use Rattle.dm_line.specs.declared.end_line.EndLine.{EndLine}
+use Rattle.dm_line.specs.declared.end_line.EndLine.TheVariants as end
+use Rattle.dm_line.specs.Todo.{or}
+use Rattle.dm_line.specs.Ends.{before_zeros, trimmed}
 use Rattle.dm_world.specs.Ends.{SaysSome, first_says, lines_in, name_lines, names_of}
 
 drop_at : {X : Type 0} (xs : List X) (i : ℕ) (x : X) → slice_get xs i ≡ Some x → drop i xs ≡ x ∷ drop (i + 1) xs
@@ -31,10 +32,10 @@ pub names_more : (ms : List Message) (i : ℕ) (m : Message) (is whole : List Ms
 names_more ms i m is whole e h = append_assoc is (m.id ∷ []) (names_of (drop (i + 1) ms)) ∙ ap (λ l. is ++ names_of l) (sym (drop_at ms i m e)) ∙ h
 
 -- one more name is said
-pub name_more : (ks : List Named) (i : ℕ) (k : Named) (ls whole : List Line) → slice_get ks i ≡ Some k → ls ++ name_lines (drop i ks) ≡ whole
-    → (ls ++ says (end.Name (record { items = k.name }) k.link) ∷ []) ++ name_lines (drop (i + 1) ks) ≡ whole
+pub name_more : (ks : List Named) (i : ℕ) (k : Named) (ls whole : List EndLine) → slice_get ks i ≡ Some k → ls ++ name_lines (drop i ks) ≡ whole
+    → (ls ++ end.Name (record { items = k.name }) k.link ∷ []) ++ name_lines (drop (i + 1) ks) ≡ whole
 name_more ks i k ls whole e h =
-    append_assoc ls (says (end.Name (record { items = k.name }) k.link) ∷ []) (name_lines (drop (i + 1) ks)) ∙ ap (λ l. ls ++ name_lines l) (sym (drop_at ks i k e)) ∙ h
+    append_assoc ls (end.Name (record { items = k.name }) k.link ∷ []) (name_lines (drop (i + 1) ks)) ∙ ap (λ l. ls ++ name_lines l) (sym (drop_at ks i k e)) ∙ h
 
 -- a name of a lawful board is short
 pub short_name : (ks : List Named) (i : ℕ) (k : Named) → All IsLawfulNamed ks → slice_get ks i ≡ Some k → length k.name ≤ 16
@@ -68,7 +69,7 @@ pub shows_more : (bs : List ℕ) (i : ℕ) → i < length bs → (get_or bs i 0 
 shows_more bs i h other =
     take_more bs i h ∙ sym (trimmed_other (take i bs) (get_or bs i 0) other) ∙ ap trimmed (sym (take_more bs i h))
 
-first_stays : (f : ℕ → Option (List Line)) (m n : ℕ) (ls : List Line) → m < n → first_says f m ≡ None → Some ls ≡ f m → first_says f n ≡ Some ls
+first_stays : (f : ℕ → Option (List EndLine)) (m n : ℕ) (ls : List EndLine) → m < n → first_says f m ≡ None → Some ls ≡ f m → first_says f n ≡ Some ls
 first_stays f m zero ls h none some = absurd (omega arith)
 first_stays f m (suc n) ls h none some =
     elim (eqb_tells m n) [
@@ -82,14 +83,14 @@ first_stays f m (suc n) ls h none some =
     ]
 
 -- machine m is the first that says something
-pub found : (f : ℕ → Option (List Line)) (m n : ℕ) (said : Bool) (o : Option (List Line)) (old mid new : List Line) → first_says f m ≡ None → m < n → o ≡ f m → said ≡ true → mid ≡ old
+pub found : (f : ℕ → Option (List EndLine)) (m n : ℕ) (said : Bool) (o : Option (List EndLine)) (old mid new : List EndLine) → first_says f m ≡ None → m < n → o ≡ f m → said ≡ true → mid ≡ old
     → SaysSome said mid new o → new ≡ old ++ lines_in (first_says f n)
 found f m n said None old mid new none h is yes_ same says_ = cc
 found f m n said (Some ls) old mid new none h is yes_ same says_ =
     says_.1 ∙ ap (λ l. l ++ ls) same ∙ ap (λ o. old ++ lines_in o) (sym (first_stays f m n ls h none is))
 
 -- it isn't, so the search goes on
-pub not_found : (f : ℕ → Option (List Line)) (m : ℕ) (said : Bool) (o : Option (List Line)) (mid new : List Line) → first_says f m ≡ None → o ≡ f m → said ≡ false → SaysSome said mid new o
+pub not_found : (f : ℕ → Option (List EndLine)) (m : ℕ) (said : Bool) (o : Option (List EndLine)) (mid new : List EndLine) → first_says f m ≡ None → o ≡ f m → said ≡ false → SaysSome said mid new o
     → (first_says f (m + 1) ≡ None) × (new ≡ mid)
 not_found f m said None mid new none is no_ says_ =
     let next : m + 1 ≡ suc m = omega arith in
@@ -97,18 +98,18 @@ not_found f m said None mid new none is no_ says_ =
 not_found f m said (Some ls) mid new none is no_ says_ = cc
 
 -- machine m is the first, and so it is said whether there is one
-pub found_some : (f : ℕ → Option (List Line)) (m n : ℕ) (said : Bool) (o : Option (List Line)) (old mid new : List Line) → first_says f m ≡ None → m < n → o ≡ f m → said ≡ true → mid ≡ old
+pub found_some : (f : ℕ → Option (List EndLine)) (m n : ℕ) (said : Bool) (o : Option (List EndLine)) (old mid new : List EndLine) → first_says f m ≡ None → m < n → o ≡ f m → said ≡ true → mid ≡ old
     → SaysSome said mid new o → SaysSome true old new (first_says f n)
 found_some f m n said None old mid new none h is yes_ same says_ = cc
 found_some f m n said (Some ls) old mid new none h is yes_ same says_ =
     subst (SaysSome true old new) (sym (first_stays f m n ls h none is)) (refl, says_.1 ∙ ap (λ l. l ++ ls) same)
 
 -- what the first of two says, or else the second
-pub said_first : (said : Bool) (o q : Option (List Line)) (old new : List Line) → said ≡ true → SaysSome said old new o → new ≡ old ++ lines_in (or o q)
+pub said_first : (said : Bool) (o q : Option (List EndLine)) (old new : List EndLine) → said ≡ true → SaysSome said old new o → new ≡ old ++ lines_in (or o q)
 said_first said None q old new is h = let no_ = h.0 in cc
 said_first said (Some ls) q old new is h = h.1
 
-pub said_second : (said also : Bool) (o q : Option (List Line)) (old mid new : List Line) → said ≡ false → SaysSome said old mid o → SaysSome also mid new q → new ≡ old ++ lines_in (or o q)
+pub said_second : (said also : Bool) (o q : Option (List EndLine)) (old mid new : List EndLine) → said ≡ false → SaysSome said old mid o → SaysSome also mid new q → new ≡ old ++ lines_in (or o q)
 said_second said also None None old mid new is h g = g.1 ∙ h.1 ∙ sym (append-nil old)
 said_second said also None (Some ls) old mid new is h g = g.1 ∙ ap (λ l. l ++ ls) h.1
 said_second said also (Some ls) q old mid new is h g = let yes_ = h.0 in cc

@@ -9,7 +9,7 @@ use Rattle.std.proofs.lemmas.Iterator.Adapters.{position_from-zero}
 use Rattle.std.proofs.lemmas.List.{drop-append-le, drop_all, drop_at}
 use Rattle.dm_wire.specs.Sent.{Sent, is_unseen}
 use Rattle.dm_schedule.specs.declared.Step.TheVariants as step
-use Rattle.dm_rule.specs.Good.{Two, below, here_or_later, next_delivery, pairs_of, pairs_with}
+use Rattle.dm_line.specs.Todo.{Two, below, here_or_later, next_delivery, pairs_of, pairs_with}
 use Rattle.dm_world.specs.Cursor.{pairs_at, row_at}
 use Rattle.dm_world.specs.Next.{first_unseen, undelivered}
 use Rattle.dm_world.specs.World.{WorldState}

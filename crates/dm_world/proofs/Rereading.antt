@@ -10,7 +10,7 @@ use Rattle.dm_packet.specs.Packets.{packet_of, spelling}
 use Rattle.dm_stream.specs.Packets.{Data, Ack}
 use Rattle.dm_wire.specs.Sent.{bytes_at}
 use Rattle.dm_onekernel.specs.declared.boot.Boot.{Boot}
-use Rattle.dm_rule.specs.declared.line.Line.{Line}
+use Rattle.dm_line.specs.declared.line.Line.{Line}
 use Rattle.dm_node.specs.declared.node.Node.{Node}
 use Rattle.dm_node.specs.declared.out.Out.{Out}
 use Rattle.dm_node.specs.declared.out.Out.TheVariants.{Says, Sends}

@@ -5,7 +5,7 @@ use Rattle.std.specs.declared.option.Option.TheVariants.{None, Some}
 use Rattle.dm_schedule.specs.declared.Step.{Step}
 use Rattle.dm_schedule.specs.declared.Step.TheVariants as step
 use Rattle.dm_schedule.specs.declared.Directive.{Directive}
-use Rattle.dm_rule.specs.Good.{Next, Todo, Two, begin_round, below, following, in_round, next_delivery, next_round, next_turn, or, pairs_of}
+use Rattle.dm_line.specs.Todo.{Next, Todo, Two, begin_round, below, following, in_round, next_delivery, next_round, next_turn, or, pairs_of}
 use Rattle.dm_world.specs.declared.cursor.Cursor.{Cursor}
 use Rattle.dm_world.specs.declared.cursor.Stage.TheVariants.{Packets, Turns, Between}
 use Rattle.dm_world.specs.Cursor.{NextIs, pairs_at, todo_at, todo_of}

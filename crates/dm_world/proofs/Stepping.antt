@@ -12,8 +12,8 @@ use Rattle.dm_wire.specs.Sent.{Sent, bytes_at}
 use Rattle.dm_wire.specs.Wire.{after_mark, packets_on}
 use Rattle.dm_onekernel.specs.declared.boot.Boot.{Boot}
 use Rattle.dm_onekernel.specs.Boot.{IsValid}
-use Rattle.dm_rule.specs.declared.line.Line.{Line}
-use Rattle.dm_rule.specs.declared.line.Line.TheVariants as line
+use Rattle.dm_line.specs.declared.line.Line.{Line}
+use Rattle.dm_line.specs.declared.line.Line.TheVariants as line
 use Rattle.dm_schedule.specs.declared.Step.{Step}
 use Rattle.dm_node.specs.declared.node.Node.{Node}
 use Rattle.dm_node.specs.declared.stop.Stop.{Stop}

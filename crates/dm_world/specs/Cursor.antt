@@ -8,7 +8,7 @@ use Rattle.dm_schedule.specs.declared.Step.{Step}
 use Rattle.dm_schedule.specs.declared.Step.TheVariants as step
 use Rattle.dm_schedule.specs.declared.Directive.{Directive}
 use Rattle.dm_schedule.specs.declared.Directive.TheVariants as directive
-use Rattle.dm_rule.specs.Good.{Todo, Two, all_of, below, next_delivery, pairs_of, pairs_with}
+use Rattle.dm_line.specs.Todo.{Todo, Two, all_of, below, next_delivery, pairs_of, pairs_with}
 use Rattle.dm_world.specs.declared.cursor.Cursor.{Cursor}
 use Rattle.dm_world.specs.declared.cursor.Stage.{Stage}
 use Rattle.dm_world.specs.declared.cursor.Stage.TheVariants.{One, Packets, Turns, Between}

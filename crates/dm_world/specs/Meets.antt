@@ -10,8 +10,8 @@ use Rattle.dm_wire.specs.Sent.{Sent}
 use Rattle.dm_wire.specs.Wire.{packets_on}
 use Rattle.dm_onekernel.specs.declared.boot.Boot.{Boot}
 use Rattle.dm_onekernel.specs.Boot.{IsValid}
-use Rattle.dm_rule.specs.declared.line.Line.{Line}
-use Rattle.dm_rule.specs.Sets.{at_machine}
+use Rattle.dm_line.specs.declared.line.Line.{Line}
+use Rattle.dm_line.specs.Sets.{at_machine}
 use Rattle.dm_node.specs.declared.node.Node.{Node}
 use Rattle.dm_node.specs.declared.stop.Stop.{Stop}
 use Rattle.dm_node.specs.declared.stop.Stop.TheVariants as stop

@@ -3,7 +3,7 @@ use Rattle.std.specs.Prelude.{ℕ, ◌+◌, if◌then◌else◌, List, [], ◌�
 use Rattle.std.specs.declared.option.Option.{Option}
 use Rattle.std.specs.declared.option.Option.TheVariants.{None, Some}
 use Rattle.dm_wire.specs.Sent.{Sent}
-use Rattle.dm_rule.specs.Good.{Todo, Next, following}
+use Rattle.dm_line.specs.Todo.{Todo, Next, following}
 use Rattle.dm_world.specs.World.{WorldState}
 
 -- the first packet of a wire that was never delivered, counted from k

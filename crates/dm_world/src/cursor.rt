@@ -1,7 +1,7 @@
 //! How far a directive has come, and which elementary one comes next.
 ghost use Rattle.std.specs.Prelude.{◌≡◌, ◌≢◌, ◌∷◌, ◌+◌, ◌<◌, ◌≤◌, ℕ, List, None, Option, Some, IfSome, [], length};
 ghost use Rattle.dm_schedule.specs.declared.Directive.{Directive as TheDirective};
-ghost use Rattle.dm_rule.specs.Good.{Todo, Two, all_of, following};
+ghost use Rattle.dm_line.specs.Todo.{Todo, Two, all_of, following};
 ghost use Rattle.dm_world.specs.Cursor.{Falls, FirstIs, IsFresh, IsFreshStep, NextIs, RowIs, pairs_at, todo_of};
 ghost use Rattle.dm_world.specs.Meets.{IsWorld, state_of};
 ghost use Rattle.dm_world.specs.Next.{next_step};

@@ -1,25 +1,25 @@
 //! The messages that machines hold at the end of a run for processes that leave or come.
 ghost use Rattle.std.specs.Prelude.{◌≡◌, ◌<◌, ◌++◌, OnOk, length};
-ghost use Rattle.dm_forward.specs.Records.{at};
-ghost use Rattle.dm_rule.specs.Ends.{each_machine, home_with, list_line};
-ghost use Rattle.dm_rule.specs.declared.line.EndLine.TheVariants as end;
+ghost use Rattle.dm_records.specs.Records.{at};
+ghost use Rattle.dm_line.specs.Ends.{each_machine, home_with, list_line};
+ghost use Rattle.dm_line.specs.declared.end_line.EndLine.TheVariants as end;
 ghost use Rattle.dm_world.specs.Ends.{MayEnd, held_for, held_line, homes_with, names_of};
 ghost use Rattle.dm_world.specs.Meets.{IsWorld, state_of};
 
 use crate::end_lines::FIRST_NUMBER;
 use crate::end_messages::ids_of_held;
 use crate::world::World;
-use dm_forward::Record;
+use dm_records::Record;
 use dm_link::Pid;
 use dm_memory::NoMemory;
 use dm_message::Message;
 use dm_node::Node;
-use dm_rule::line::{EndLine, Line};
+use dm_line::end_line::EndLine;
 use std::alloc::Global;
 
 impl World {
     /// What each machine holds.
-    pub(crate) fn say_holding(&self, lines: &mut Vec<Line>) -> Result<(), NoMemory>
+    pub(crate) fn say_holding(&self, lines: &mut Vec<EndLine>) -> Result<(), NoMemory>
         requires world { IsWorld self.now }
         requires may { MayEnd (length self.now.boot.machines) (state_of self.now) }
         ensures { OnOk result (lines.new.items ≡ lines.old.items ++ each_machine (λ m. homes_with (state_of self.now) (held_line (state_of self.now) m) (length self.now.boot.machines)) (length self.now.boot.machines)) }
@@ -31,7 +31,7 @@ impl World {
     }
 
     /// What machine `m` holds, by the process's home and number.
-    fn say_holding_on(&self, m: u8, lines: &mut Vec<Line>) -> Result<(), NoMemory>
+    fn say_holding_on(&self, m: u8, lines: &mut Vec<EndLine>) -> Result<(), NoMemory>
         requires world { IsWorld self.now }
         requires may { MayEnd (length self.now.boot.machines) (state_of self.now) }
         requires within { m < length self.now.boot.machines }
@@ -44,7 +44,7 @@ impl World {
     }
 
     /// What machine `m` holds for processes of a home.
-    fn say_holding_of(&self, m: u8, home: u8, lines: &mut Vec<Line>) -> Result<(), NoMemory>
+    fn say_holding_of(&self, m: u8, home: u8, lines: &mut Vec<EndLine>) -> Result<(), NoMemory>
         requires world { IsWorld self.now }
         requires may { MayEnd (length self.now.boot.machines) (state_of self.now) }
         requires within { m < length self.now.boot.machines }
@@ -62,7 +62,7 @@ impl World {
     }
 
     /// What machine `m` holds for a process.
-    fn say_held(&self, m: u8, pid: Pid, lines: &mut Vec<Line>) -> Result<(), NoMemory>
+    fn say_held(&self, m: u8, pid: Pid, lines: &mut Vec<EndLine>) -> Result<(), NoMemory>
         requires world { IsWorld self.now }
         requires within { m < length self.now.boot.machines }
         ensures { OnOk result (lines.new.items ≡ lines.old.items ++ held_line (state_of self.now) m pid) }
@@ -72,7 +72,7 @@ impl World {
 }
 
 /// What a machine holds for a process.
-fn say_held_here(node: &Node, machine: u8, pid: Pid, lines: &mut Vec<Line>) -> Result<(), NoMemory>
+fn say_held_here(node: &Node, machine: u8, pid: Pid, lines: &mut Vec<EndLine>) -> Result<(), NoMemory>
     ensures { OnOk result (lines.new.items ≡ lines.old.items ++ list_line (end.Holding machine pid) (names_of (held_for (at node.now.kernel.records pid)))) }
 {
     match node.kernel().records().get(pid) {
@@ -92,13 +92,13 @@ fn say_messages(
     machine: u8,
     pid: Pid,
     held: &[Message],
-    lines: &mut Vec<Line>,
+    lines: &mut Vec<EndLine>,
 ) -> Result<(), NoMemory>
     ensures { OnOk result (lines.new.items ≡ lines.old.items ++ list_line (end.Holding machine pid) (names_of held.now)) }
 {
     let ids = ids_of_held(alloc, held)?;
     if ids.len() > 0 {
-        lines.push(Line::End(EndLine::Holding { machine, pid, ids }))?;
+        lines.push(EndLine::Holding { machine, pid, ids })?;
     }
     Ok(())
 }

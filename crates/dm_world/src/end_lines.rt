@@ -1,10 +1,10 @@
 //! The lines at the end of a run.
 ghost use Rattle.std.specs.Prelude.{◌≡◌, ◌<◌, ◌≤◌, ◌+◌, ◌^◌, ◌++◌, IfOk, OnOk, length};
-ghost use Rattle.dm_forward.specs.Records.{at};
+ghost use Rattle.dm_records.specs.Records.{at};
 ghost use Rattle.dm_node.specs.Meets as node;
 ghost use Rattle.dm_node.specs.Meets.{HasStreams};
-ghost use Rattle.dm_rule.specs.Ends.{each_machine, home_with, list_line};
-ghost use Rattle.dm_rule.specs.declared.line.EndLine.TheVariants as end;
+ghost use Rattle.dm_line.specs.Ends.{each_machine, home_with, list_line};
+ghost use Rattle.dm_line.specs.declared.end_line.EndLine.TheVariants as end;
 ghost use Rattle.dm_world.specs.Ends.{MayEnd, SaysSome, awaited_lines, end_lines, first_awaited, first_had, homes_with, names_of, process_lines, queue_of, record_lines, record_queue, stream_line};
 ghost use Rattle.dm_world.specs.Meets.{IsWorld, state_of};
 
@@ -12,13 +12,13 @@ use crate::end_messages::{ids_of, untaken_ids};
 use crate::end_process::{say_alive, say_arriving};
 use crate::end_servers::say_servers;
 use crate::world::World;
-use dm_forward::Record;
+use dm_records::Record;
 use dm_link::Pid;
 use dm_lists::Queue;
 use dm_memory::NoMemory;
 use dm_message::Message;
 use dm_node::Node;
-use dm_rule::line::{EndLine, Line, Standing};
+use dm_line::end_line::{EndLine, Standing};
 use std::alloc::Global;
 
 /// The number of the first process that a machine makes.
@@ -26,20 +26,20 @@ pub(crate) const FIRST_NUMBER: u32 = 3;
 
 impl World {
     /// The lines at the end of a run: where everything stands then.
-    pub fn end_lines(&self) -> Result<Vec<Line>, NoMemory>
+    pub fn end_lines(&self) -> Result<Vec<EndLine>, NoMemory>
         requires world { IsWorld self.now }
         requires may { MayEnd (length self.now.boot.machines) (state_of self.now) }
         ensures { IfOk result (λ lines. lines.items ≡ end_lines (length self.now.boot.machines) (state_of self.now)) }
     {
         let mut lines = Vec::new(self.alloc);
-        lines.push(Line::End(EndLine::Final))?;
+        lines.push(EndLine::Final)?;
         self.say_processes(&mut lines)?;
         say_servers(self.machine(0).kernel(), &mut lines)?;
         self.say_queues(&mut lines)?;
         self.say_holding(&mut lines)?;
         self.say_inboxes(&mut lines)?;
         self.say_streams(&mut lines)?;
-        lines.push(Line::End(EndLine::Groups(self.groups)))?;
+        lines.push(EndLine::Groups(self.groups))?;
         Ok(lines)
     }
 
@@ -65,7 +65,7 @@ impl World {
     }
 
     /// The lines of each process that was ever made, by home and by number.
-    fn say_processes(&self, lines: &mut Vec<Line>) -> Result<(), NoMemory>
+    fn say_processes(&self, lines: &mut Vec<EndLine>) -> Result<(), NoMemory>
         requires world { IsWorld self.now }
         requires may { MayEnd (length self.now.boot.machines) (state_of self.now) }
         ensures { OnOk result (lines.new.items ≡ lines.old.items ++ homes_with (state_of self.now) (process_lines (length self.now.boot.machines) (state_of self.now)) (length self.now.boot.machines)) }
@@ -77,7 +77,7 @@ impl World {
     }
 
     /// The lines of each process that a machine made.
-    fn say_home(&self, home: u8, lines: &mut Vec<Line>) -> Result<(), NoMemory>
+    fn say_home(&self, home: u8, lines: &mut Vec<EndLine>) -> Result<(), NoMemory>
         requires world { IsWorld self.now }
         requires may { MayEnd (length self.now.boot.machines) (state_of self.now) }
         requires within { home < length self.now.boot.machines }
@@ -94,7 +94,7 @@ impl World {
     }
 
     /// The lines of a process, by the first machine that has it, or else by the first that awaits it.
-    fn say_process(&self, pid: Pid, lines: &mut Vec<Line>) -> Result<(), NoMemory>
+    fn say_process(&self, pid: Pid, lines: &mut Vec<EndLine>) -> Result<(), NoMemory>
         requires { IsWorld self.now }
         ensures { OnOk result (lines.new.items ≡ lines.old.items ++ process_lines (length self.now.boot.machines) (state_of self.now) pid) }
     {
@@ -106,7 +106,7 @@ impl World {
     }
 
     /// The lines of a process, by the first machine that has it; whether there is one.
-    fn say_had(&self, pid: Pid, lines: &mut Vec<Line>) -> Result<bool, NoMemory>
+    fn say_had(&self, pid: Pid, lines: &mut Vec<EndLine>) -> Result<bool, NoMemory>
         requires { IsWorld self.now }
         ensures { IfOk result (λ said. SaysSome said lines.old.items lines.new.items (first_had (length self.now.boot.machines) (state_of self.now) pid)) }
     {
@@ -119,7 +119,7 @@ impl World {
     }
 
     /// The lines of a process, by the first machine that awaits it; whether there is one.
-    fn say_awaited(&self, pid: Pid, lines: &mut Vec<Line>) -> Result<bool, NoMemory>
+    fn say_awaited(&self, pid: Pid, lines: &mut Vec<EndLine>) -> Result<bool, NoMemory>
         requires { IsWorld self.now }
         ensures { IfOk result (λ said. SaysSome said lines.old.items lines.new.items (first_awaited (length self.now.boot.machines) (state_of self.now) pid)) }
     {
@@ -132,7 +132,7 @@ impl World {
     }
 
     /// The queue of each process that was ever made, by home and by number.
-    fn say_queues(&self, lines: &mut Vec<Line>) -> Result<(), NoMemory>
+    fn say_queues(&self, lines: &mut Vec<EndLine>) -> Result<(), NoMemory>
         requires world { IsWorld self.now }
         requires may { MayEnd (length self.now.boot.machines) (state_of self.now) }
         ensures { OnOk result (lines.new.items ≡ lines.old.items ++ homes_with (state_of self.now) (queue_of (length self.now.boot.machines) (state_of self.now)) (length self.now.boot.machines)) }
@@ -144,7 +144,7 @@ impl World {
     }
 
     /// The queue of each process that a machine made.
-    fn say_home_queues(&self, home: u8, lines: &mut Vec<Line>) -> Result<(), NoMemory>
+    fn say_home_queues(&self, home: u8, lines: &mut Vec<EndLine>) -> Result<(), NoMemory>
         requires world { IsWorld self.now }
         requires may { MayEnd (length self.now.boot.machines) (state_of self.now) }
         requires within { home < length self.now.boot.machines }
@@ -161,7 +161,7 @@ impl World {
     }
 
     /// The queue of a process, on the machine where it is.
-    fn say_queue(&self, pid: Pid, lines: &mut Vec<Line>) -> Result<(), NoMemory>
+    fn say_queue(&self, pid: Pid, lines: &mut Vec<EndLine>) -> Result<(), NoMemory>
         requires { IsWorld self.now }
         ensures { OnOk result (lines.new.items ≡ lines.old.items ++ queue_of (length self.now.boot.machines) (state_of self.now) pid) }
     {
@@ -174,7 +174,7 @@ impl World {
     }
 
     /// The inbox of each machine.
-    fn say_inboxes(&self, lines: &mut Vec<Line>) -> Result<(), NoMemory>
+    fn say_inboxes(&self, lines: &mut Vec<EndLine>) -> Result<(), NoMemory>
         requires { IsWorld self.now }
         ensures { OnOk result (lines.new.items ≡ lines.old.items ++ each_machine (λ m. list_line (end.Inbox m) (names_of ((state_of self.now).nodes m).kernel.inbox)) (length self.now.boot.machines)) }
     {
@@ -185,7 +185,7 @@ impl World {
     }
 
     /// What was given to each stream and not taken yet.
-    fn say_streams(&self, lines: &mut Vec<Line>) -> Result<(), NoMemory>
+    fn say_streams(&self, lines: &mut Vec<EndLine>) -> Result<(), NoMemory>
         requires { IsWorld self.now }
         ensures { OnOk result (lines.new.items ≡ lines.old.items ++ each_machine (λ a. each_machine (λ c. stream_line (state_of self.now) a c) (length self.now.boot.machines)) (length self.now.boot.machines)) }
     {
@@ -196,7 +196,7 @@ impl World {
     }
 
     /// What a machine gave to its streams and was not taken yet.
-    fn say_streams_from(&self, from: u8, lines: &mut Vec<Line>) -> Result<(), NoMemory>
+    fn say_streams_from(&self, from: u8, lines: &mut Vec<EndLine>) -> Result<(), NoMemory>
         requires world { IsWorld self.now }
         requires within { from < length self.now.boot.machines }
         ensures { OnOk result (lines.new.items ≡ lines.old.items ++ each_machine (λ c. stream_line (state_of self.now) from c) (length self.now.boot.machines)) }
@@ -208,7 +208,7 @@ impl World {
     }
 
     /// What was given to a stream and not taken yet.
-    fn say_stream(&self, from: u8, to: u8, lines: &mut Vec<Line>) -> Result<(), NoMemory>
+    fn say_stream(&self, from: u8, to: u8, lines: &mut Vec<EndLine>) -> Result<(), NoMemory>
         requires world { IsWorld self.now }
         requires from { from < length self.now.boot.machines }
         requires to { to < length self.now.boot.machines }
@@ -219,14 +219,14 @@ impl World {
         }
         let ids = untaken_ids(self.machine(from), self.machine(to), from, to)?;
         if ids.len() > 0 {
-            lines.push(Line::End(EndLine::Stream { from, to, ids }))?;
+            lines.push(EndLine::Stream { from, to, ids })?;
         }
         Ok(())
     }
 }
 
 /// The lines of a process on machine `m`, if it says something of it; whether it does.
-fn say_known(node: &Node, m: u8, pid: Pid, lines: &mut Vec<Line>) -> Result<bool, NoMemory>
+fn say_known(node: &Node, m: u8, pid: Pid, lines: &mut Vec<EndLine>) -> Result<bool, NoMemory>
     ensures { IfOk result (λ said. SaysSome said lines.old.items lines.new.items (record_lines m pid (at node.now.kernel.records pid))) }
 {
     match node.kernel().records().get(pid) {
@@ -239,7 +239,7 @@ fn say_known(node: &Node, m: u8, pid: Pid, lines: &mut Vec<Line>) -> Result<bool
             Ok(true)
         }
         Some(Record::Ended(why)) => {
-            lines.push(Line::End(EndLine::Ended { pid, why: *why }))?;
+            lines.push(EndLine::Ended { pid, why: *why })?;
             Ok(true)
         }
         _ => Ok(false),
@@ -247,7 +247,7 @@ fn say_known(node: &Node, m: u8, pid: Pid, lines: &mut Vec<Line>) -> Result<bool
 }
 
 /// The queue of a process, if it is on this machine; whether it is.
-fn say_known_queue(node: &Node, pid: Pid, lines: &mut Vec<Line>) -> Result<bool, NoMemory>
+fn say_known_queue(node: &Node, pid: Pid, lines: &mut Vec<EndLine>) -> Result<bool, NoMemory>
     ensures { IfOk result (λ said. SaysSome said lines.old.items lines.new.items (record_queue pid (at node.now.kernel.records pid))) }
 {
     match node.kernel().records().get(pid) {
@@ -268,19 +268,19 @@ fn say_messages(
     alloc: Global,
     pid: Pid,
     queue: &Queue<Message>,
-    lines: &mut Vec<Line>,
+    lines: &mut Vec<EndLine>,
 ) -> Result<(), NoMemory>
     ensures { OnOk result (lines.new.items ≡ lines.old.items ++ list_line (end.Queue pid) (names_of queue.now)) }
 {
     let ids = ids_of(alloc, queue)?;
     if ids.len() > 0 {
-        lines.push(Line::End(EndLine::Queue { pid, ids }))?;
+        lines.push(EndLine::Queue { pid, ids })?;
     }
     Ok(())
 }
 
 /// The lines of a process that comes to this machine; whether there are any.
-fn say_expected(node: &Node, m: u8, pid: Pid, lines: &mut Vec<Line>) -> Result<bool, NoMemory>
+fn say_expected(node: &Node, m: u8, pid: Pid, lines: &mut Vec<EndLine>) -> Result<bool, NoMemory>
     ensures { IfOk result (λ said. SaysSome said lines.old.items lines.new.items (awaited_lines m pid (at node.now.kernel.records pid))) }
 {
     match node.kernel().records().get(pid) {
@@ -290,12 +290,12 @@ fn say_expected(node: &Node, m: u8, pid: Pid, lines: &mut Vec<Line>) -> Result<b
 }
 
 /// The inbox of a machine.
-fn say_inbox(node: &Node, machine: u8, lines: &mut Vec<Line>) -> Result<(), NoMemory>
+fn say_inbox(node: &Node, machine: u8, lines: &mut Vec<EndLine>) -> Result<(), NoMemory>
     ensures { OnOk result (lines.new.items ≡ lines.old.items ++ list_line (end.Inbox machine) (names_of node.now.kernel.inbox)) }
 {
     let ids = ids_of(node.alloc(), node.kernel().inbox())?;
     if ids.len() > 0 {
-        lines.push(Line::End(EndLine::Inbox { machine, ids }))?;
+        lines.push(EndLine::Inbox { machine, ids })?;
     }
     Ok(())
 }

@@ -1,19 +1,19 @@
 //! The lines of a process at the end of a run.
 ghost use Rattle.std.specs.Prelude.{◌≡◌, ◌≤◌, ◌++◌, ◌/◌, IfOk, OnOk, length, take};
-ghost use Rattle.dm_rule.specs.Ends.{block_line, memory_lines, trimmed};
-ghost use Rattle.dm_rule.specs.declared.line.Standing.TheVariants as standing_;
+ghost use Rattle.dm_line.specs.Ends.{block_line, memory_lines, trimmed};
+ghost use Rattle.dm_line.specs.declared.end_line.Standing.TheVariants as standing_;
 ghost use Rattle.dm_migrate.specs.Arrival.{revived};
 ghost use Rattle.dm_world.specs.Ends.{SaysSome, alive_lines, come_lines, come_whole, doing_of, link_lines, parts_lines};
 
 use arrayvec::ArrayVec;
-use dm_carry::Shell;
+use dm_statebytes::Shell;
 use dm_link::Pid;
 use dm_linktable::Table;
 use dm_memory::NoMemory;
 use dm_migrate::{Arriving, Wanted};
 use dm_process::{Process, Status};
-use dm_regs::{Memory, Regs};
-use dm_rule::line::{Doing, EndLine, Line, Standing};
+use dm_processor::{Memory, Regs};
+use dm_line::end_line::{Doing, EndLine, Standing};
 
 /// The lines of a process that machine `m` has: how it stands there, its registers, its memory and its links.
 pub fn say_alive(
@@ -21,18 +21,18 @@ pub fn say_alive(
     pid: Pid,
     standing: Standing,
     process: &Process,
-    lines: &mut Vec<Line>,
+    lines: &mut Vec<EndLine>,
 ) -> Result<(), NoMemory>
     ensures { OnOk result (lines.new.items ≡ lines.old.items ++ alive_lines m pid standing process.now) }
 {
-    lines.push(Line::End(EndLine::Process {
+    lines.push(EndLine::Process {
         pid,
         at: m,
         standing,
         doing: doing(process.status),
         stopped: process.stopped,
         sent: process.sent,
-    }))?;
+    })?;
     say_parts(pid, &process.regs, &process.memory, &process.table, lines)
 }
 
@@ -41,7 +41,7 @@ pub fn say_arriving(
     m: u8,
     pid: Pid,
     arriving: &Arriving,
-    lines: &mut Vec<Line>,
+    lines: &mut Vec<EndLine>,
 ) -> Result<bool, NoMemory>
     ensures { IfOk result (λ said. SaysSome said lines.old.items lines.new.items (come_lines m pid (come_whole arriving.now arriving.now.wanted))) }
 {
@@ -61,18 +61,18 @@ fn say_come(
     pid: Pid,
     shell: &Shell,
     memory: &Memory,
-    lines: &mut Vec<Line>,
+    lines: &mut Vec<EndLine>,
 ) -> Result<(), NoMemory>
     ensures { OnOk result (lines.new.items ≡ lines.old.items ++ alive_lines m pid standing_.Arriving (revived shell.now memory.now)) }
 {
-    lines.push(Line::End(EndLine::Process {
+    lines.push(EndLine::Process {
         pid,
         at: m,
         standing: Standing::Arriving,
         doing: doing(shell.status),
         stopped: shell.stopped,
         sent: shell.sent,
-    }))?;
+    })?;
     say_parts(pid, &shell.regs, memory, &shell.table, lines)
 }
 
@@ -82,15 +82,15 @@ fn say_parts(
     regs: &Regs,
     memory: &Memory,
     table: &Table,
-    lines: &mut Vec<Line>,
+    lines: &mut Vec<EndLine>,
 ) -> Result<(), NoMemory>
     ensures { OnOk result (lines.new.items ≡ lines.old.items ++ parts_lines pid regs.now memory.now table.now) }
 {
-    lines.push(Line::End(EndLine::Registers {
+    lines.push(EndLine::Registers {
         pid,
         r: regs.r,
         pc: regs.pc,
-    }))?;
+    })?;
     say_memory(pid, memory, lines)?;
     say_links(pid, table, lines)
 }
@@ -120,7 +120,7 @@ fn doing(status: Status) -> Doing
 }
 
 /// The blocks of a memory, but for those of zeros alone.
-fn say_memory(pid: Pid, memory: &Memory, lines: &mut Vec<Line>) -> Result<(), NoMemory>
+fn say_memory(pid: Pid, memory: &Memory, lines: &mut Vec<EndLine>) -> Result<(), NoMemory>
     ensures { OnOk result (lines.new.items ≡ lines.old.items ++ memory_lines pid memory.now (length memory.now / 256)) }
 {
     for block in 0..memory.blocks() {
@@ -131,18 +131,18 @@ fn say_memory(pid: Pid, memory: &Memory, lines: &mut Vec<Line>) -> Result<(), No
 }
 
 /// The bytes of a block up to the last that isn't 0, if there is one.
-fn say_block(pid: Pid, block: u8, bytes: &[u8; 256], lines: &mut Vec<Line>) -> Result<(), NoMemory>
+fn say_block(pid: Pid, block: u8, bytes: &[u8; 256], lines: &mut Vec<EndLine>) -> Result<(), NoMemory>
     ensures { OnOk result (lines.new.items ≡ lines.old.items ++ block_line pid block (trimmed bytes.now)) }
 {
     let shown = shown(bytes);
     if shown > 0 {
         let mut bytes_shown = ArrayVec::new();
         let _ = bytes_shown.try_extend_from_slice(&bytes[..shown]);
-        lines.push(Line::End(EndLine::Memory {
+        lines.push(EndLine::Memory {
             pid,
             block,
             bytes: bytes_shown,
-        }))?;
+        })?;
     }
     Ok(())
 }
@@ -162,16 +162,16 @@ fn shown(bytes: &[u8]) -> usize
 }
 
 /// The links of a table, slot by slot.
-fn say_links(pid: Pid, table: &Table, lines: &mut Vec<Line>) -> Result<(), NoMemory>
+fn say_links(pid: Pid, table: &Table, lines: &mut Vec<EndLine>) -> Result<(), NoMemory>
     ensures { OnOk result (lines.new.items ≡ lines.old.items ++ link_lines pid 0 table.now) }
 {
     for slot in 0..table.cap() {
         if let Some(link) = table.get(slot) {
-            lines.push(Line::End(EndLine::Link {
+            lines.push(EndLine::Link {
                 pid,
                 slot,
                 link: *link,
-            }))?;
+            })?;
         }
     }
     Ok(())

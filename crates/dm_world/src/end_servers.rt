@@ -2,8 +2,8 @@
 ghost use Rattle.std.specs.Prelude.{◌≡◌, ◌<◌, ◌≤◌, ◌^◌, [], ◌∷◌, ◌++◌, OnOk, length};
 ghost use Rattle.std.specs.Option.{IfSome};
 ghost use Rattle.dm_switchboard.specs.Lawful.{IsLawfulBoard};
-ghost use Rattle.dm_rule.specs.Ends.{says};
-ghost use Rattle.dm_rule.specs.declared.line.EndLine.TheVariants as end;
+
+ghost use Rattle.dm_line.specs.declared.end_line.EndLine.TheVariants as end;
 ghost use Rattle.dm_world.specs.Ends.{HasPlainEnd, child_lines, name_lines, pending_lines, server_lines};
 
 use arrayvec::ArrayVec;
@@ -12,7 +12,7 @@ use dm_link::{Addr, Link, Pid};
 use dm_memory::NoMemory;
 use dm_message::MsgId;
 use dm_procman::Pending;
-use dm_rule::line::{EndLine, Line};
+use dm_line::end_line::EndLine;
 use dm_switchboard::Switchboard;
 
 /// The switchboard and the process manager.
@@ -21,19 +21,19 @@ const SWITCHBOARD: Pid = Pid { home: 0, num: 1 };
 const MANAGER: Pid = Pid { home: 0, num: 2 };
 
 /// The lines of the servers, where they are.
-pub fn say_servers(kernel: &Kernel, lines: &mut Vec<Line>) -> Result<(), NoMemory>
+pub fn say_servers(kernel: &Kernel, lines: &mut Vec<EndLine>) -> Result<(), NoMemory>
     requires { IfSome kernel.now.servers HasPlainEnd }
     ensures { OnOk result (lines.new.items ≡ lines.old.items ++ server_lines kernel.now.servers) }
 {
     if let Some(servers) = kernel.servers() {
-        lines.push(Line::End(EndLine::Server {
+        lines.push(EndLine::Server {
             pid: SWITCHBOARD,
             sent: servers.board().sent(),
-        }))?;
-        lines.push(Line::End(EndLine::Server {
+        })?;
+        lines.push(EndLine::Server {
             pid: MANAGER,
             sent: servers.manager().sent(),
-        }))?;
+        })?;
         say_names(servers.board(), lines)?;
         say_children(servers.manager().children(), lines)?;
         say_pending(servers.manager().pending(), lines)?;
@@ -42,7 +42,7 @@ pub fn say_servers(kernel: &Kernel, lines: &mut Vec<Line>) -> Result<(), NoMemor
 }
 
 /// The names, in order of registration.
-fn say_names(board: &Switchboard, lines: &mut Vec<Line>) -> Result<(), NoMemory>
+fn say_names(board: &Switchboard, lines: &mut Vec<EndLine>) -> Result<(), NoMemory>
     requires { IsLawfulBoard board.now }
     ensures { OnOk result (lines.new.items ≡ lines.old.items ++ name_lines board.now.names) }
 {
@@ -55,41 +55,41 @@ fn say_names(board: &Switchboard, lines: &mut Vec<Line>) -> Result<(), NoMemory>
 }
 
 /// A name and its link.
-fn say_name(bytes: &[u8], link: &Link, lines: &mut Vec<Line>) -> Result<(), NoMemory>
+fn say_name(bytes: &[u8], link: &Link, lines: &mut Vec<EndLine>) -> Result<(), NoMemory>
     requires { length bytes.now ≤ 16 }
-    ensures { OnOk result (lines.new.items ≡ lines.old.items ++ says (end.Name (record { items = bytes.now }) link.now) ∷ []) }
+    ensures { OnOk result (lines.new.items ≡ lines.old.items ++ (end.Name (record { items = bytes.now }) link.now) ∷ []) }
 {
     let mut name = ArrayVec::new();
     let _ = name.try_extend_from_slice(bytes);
-    lines.push(Line::End(EndLine::Name { name, link: *link }))?;
+    lines.push(EndLine::Name { name, link: *link })?;
     Ok(())
 }
 
 /// The children, counted from 1.
-fn say_children(children: &[Addr], lines: &mut Vec<Line>) -> Result<(), NoMemory>
+fn say_children(children: &[Addr], lines: &mut Vec<EndLine>) -> Result<(), NoMemory>
     requires { length children.now < 2 ^ 32 }
     ensures { OnOk result (lines.new.items ≡ lines.old.items ++ child_lines 1 children.now) }
 {
     for place in 0..children.len() {
-        lines.push(Line::End(EndLine::Child {
+        lines.push(EndLine::Child {
             number: place as u32 + 1,
             pid: children[place].pid,
             at: children[place].at,
-        }))?;
+        })?;
     }
     Ok(())
 }
 
 /// The requests without a taken answer.
-fn say_pending(pending: &[Pending], lines: &mut Vec<Line>) -> Result<(), NoMemory>
+fn say_pending(pending: &[Pending], lines: &mut Vec<EndLine>) -> Result<(), NoMemory>
     ensures { OnOk result (lines.new.items ≡ lines.old.items ++ pending_lines pending.now) }
 {
     for request in pending {
-        lines.push(Line::End(EndLine::Pending(MsgId {
+        lines.push(EndLine::Pending(MsgId {
             from: MANAGER,
             n: request.n,
             answer: false,
-        })))?;
+        }))?;
     }
     Ok(())
 }

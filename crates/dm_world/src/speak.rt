@@ -11,7 +11,7 @@ ghost use Rattle.dm_world.specs.Readable.{AreReadBack};
 use dm_memory::NoMemory;
 use dm_node::Out;
 use dm_packet::{Packet, encode};
-use dm_rule::line::{Line, Load};
+use dm_line::line::{Line, Load};
 use dm_wire::Wire;
 use std::alloc::Global;
 

@@ -1,6 +1,6 @@
 use Rattle.std.proofs.Common.{[], ap, length, refl, sym, subst, ◌∙◌, arith}
 use Rattle.dm_onekernel.specs.declared.boot.Boot.{Boot}
-use Rattle.dm_rule.specs.Good.{all_of}
+use Rattle.dm_line.specs.Todo.{all_of}
 use Rattle.dm_world.specs.Meets.{state_of}
 use Rattle.dm_world.specs.World.{WorldState}
 use Rattle.dm_cli.specs.Progress.{Ended, HasCome}

@@ -1,5 +1,5 @@
 use Rattle.std.proofs.Common.{◌≡◌, ◌≤◌, ◌*◌, ◌^◌, false, drop}
-use Rattle.dm_rule.specs.Good.{all_of}
+use Rattle.dm_line.specs.Todo.{all_of}
 use Rattle.dm_world.specs.Meets.{IsWorld, state_of}
 use Rattle.dm_cli.specs.Progress.{HasCome}
 use Rattle.dm_cli.proofs.run.run_and_end.Given as goal

@@ -1,5 +1,5 @@
 use Rattle.std.proofs.Common.{◌∷◌, length, refl, sym, ◌∙◌, arith}
-use Rattle.dm_rule.specs.Good.{all_of}
+use Rattle.dm_line.specs.Todo.{all_of}
 use Rattle.dm_world.specs.Cursor.{todo_of}
 use Rattle.dm_world.specs.Meets.{state_of}
 use Rattle.dm_world.specs.Next.{undelivered}

@@ -1,7 +1,7 @@
 use Rattle.std.proofs.Common.{◌≡◌, ◌≤◌, ◌+◌, ◌^◌, ℕ, false, List, ◌∷◌, length}
 use Rattle.std.specs.declared.option.Option.{Option}
 use Rattle.dm_schedule.specs.declared.Directive.{Directive}
-use Rattle.dm_rule.specs.Good.{all_of}
+use Rattle.dm_line.specs.Todo.{all_of}
 use Rattle.dm_world.specs.Cursor.{left, todo_of}
 use Rattle.dm_world.specs.Meets.{IsWorld, state_of}
 use Rattle.dm_cli.specs.Progress.{HasCome}

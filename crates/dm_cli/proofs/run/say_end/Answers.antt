@@ -1,5 +1,5 @@
 use Rattle.std.proofs.Common.{[], refl, ◌∙◌}
-use Rattle.dm_rule.specs.Good.{all_of}
+use Rattle.dm_line.specs.Todo.{all_of}
 use Rattle.dm_world.specs.Meets.{state_of}
 use Rattle.dm_cli.proofs.Comes.{ended_by, lacks_there}
 use Rattle.dm_cli.proofs.run.say_end.Goals as goal

@@ -1,5 +1,5 @@
 use Rattle.std.proofs.Common.{◌≡◌, ◌≤◌, take}
-use Rattle.dm_rule.specs.Ends.{trimmed}
+use Rattle.dm_line.specs.Ends.{trimmed}
 use Rattle.dm_world.proofs.end_process.shown.Given as goal
 
 abbrev pub invariant-loop-place : goal.invariant-loop-place

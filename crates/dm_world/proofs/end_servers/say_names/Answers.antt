@@ -1,7 +1,7 @@
 use Rattle.std.proofs.Common.{◌+◌, ◌<◌, ◌++◌, drop, length, arith, ap, ◌∙◌, sym}
 use Rattle.std.specs.Prelude.{Vec}
 use Rattle.std.specs.declared.alloc.Global.{Global}
-use Rattle.dm_rule.specs.declared.line.Line.{Line}
+use Rattle.dm_line.specs.declared.end_line.EndLine.{EndLine}
 use Rattle.dm_switchboard.specs.Board.{Named}
 use Rattle.dm_world.specs.Ends.{name_lines}
 use Rattle.dm_world.proofs.Ending.{name_more, short_name, within_some}

@@ -1,5 +1,5 @@
 use Rattle.std.proofs.Common.{◌∙◌, add-one, sym}
-use Rattle.dm_forward.specs.Records.{at}
+use Rattle.dm_records.specs.Records.{at}
 use Rattle.dm_kernel.proofs.Ringing.{found, not_found}
 use Rattle.dm_kernel.proofs.kernel.Kernel.first_runnable.Goals as goal
 

@@ -1,5 +1,5 @@
 use Rattle.std.proofs.Common.{◌≡◌, None, take}
-use Rattle.dm_forward.specs.Records.{at}
+use Rattle.dm_records.specs.Records.{at}
 use Rattle.dm_kernel.specs.Turn.{first_runnable}
 use Rattle.dm_kernel.proofs.kernel.Kernel.first_runnable.Given as goal
 

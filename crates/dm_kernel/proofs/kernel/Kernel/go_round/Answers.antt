@@ -1,6 +1,6 @@
 -- The process can be served.
 use Rattle.std.proofs.Common.{◌≡◌, true, refl}
-use Rattle.dm_forward.specs.Records.{at}
+use Rattle.dm_records.specs.Records.{at}
 use Rattle.dm_kernel.specs.Meets.{state_of}
 use Rattle.dm_kernel.specs.Turn.{known_is_runnable}
 use Rattle.dm_kernel.proofs.Known.{can_serve, runs_at}

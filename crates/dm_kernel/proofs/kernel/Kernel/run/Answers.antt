@@ -1,6 +1,6 @@
 -- What executing comes to, from what it did to the process in its place.
 use Rattle.std.proofs.Common.{◌≡◌, ◌∙◌, ap, refl, sym, subst, length, Some}
-use Rattle.dm_forward.specs.Records.{at}
+use Rattle.dm_records.specs.Records.{at}
 use Rattle.dm_process.specs.declared.process.Process.{Process}
 use Rattle.dm_kernel.specs.declared.run.Halt.TheVariants as halt
 use Rattle.dm_kernel.specs.Meets.{Answers, state_of}

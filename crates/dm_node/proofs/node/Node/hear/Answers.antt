@@ -1,7 +1,7 @@
 use Rattle.std.proofs.Common.{◌≡◌, ◌<◌, ◌≤◌, false, true, [], ◌∷◌, ◌++◌, sym, ap, subst, ◌∙◌, arith}
 use Rattle.std.specs.Prelude.{is_some}
 use Rattle.dm_stream.specs.Sending.{due, window, with_acked}
-use Rattle.dm_rule.specs.declared.line.Line.TheVariants as line
+use Rattle.dm_line.specs.declared.line.Line.TheVariants as line
 use Rattle.dm_node.specs.declared.out.Out.TheVariants.{Says}
 use Rattle.dm_node.specs.Acts.{lets_go}
 use Rattle.dm_node.specs.Meets.{Gave, state_of}

@@ -2,7 +2,7 @@ use Rattle.std.proofs.Common.{◌≡◌, ◌≢◌, ℕ, zero, suc, List, ◌∷
 use Rattle.std.specs.declared.option.Option.{Option}
 use Rattle.dm_schedule.specs.declared.Directive.{Directive}
 use Rattle.dm_schedule.specs.declared.Directive.TheVariants as directive
-use Rattle.dm_rule.specs.Good.{begin_rounds, next_round}
+use Rattle.dm_line.specs.Todo.{begin_rounds, next_round}
 use Rattle.dm_world.proofs.cursor.Cursor.new.Goals as goal
 
 -- so many rounds, at least one

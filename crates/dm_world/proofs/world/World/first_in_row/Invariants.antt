@@ -1,5 +1,5 @@
 use Rattle.std.proofs.Common.{◌≡◌, List, length}
-use Rattle.dm_rule.specs.Good.{Two, next_delivery}
+use Rattle.dm_line.specs.Todo.{Two, next_delivery}
 use Rattle.dm_world.specs.Cursor.{row_at}
 use Rattle.dm_world.specs.Meets.{state_of}
 use Rattle.dm_world.specs.Next.{undelivered}

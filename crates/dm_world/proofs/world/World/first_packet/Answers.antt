@@ -1,6 +1,6 @@
 use Rattle.std.proofs.Common.{◌+◌, ◌<◌, ◌≤◌, length, sym, ap, ◌∙◌, arith}
 use Rattle.std.specs.declared.option.Option.TheVariants.{Some}
-use Rattle.dm_rule.specs.Good.{next_delivery}
+use Rattle.dm_line.specs.Todo.{next_delivery}
 use Rattle.dm_schedule.specs.declared.Step.TheVariants as step
 use Rattle.dm_world.specs.Meets.{state_of}
 use Rattle.dm_world.specs.Next.{undelivered}

@@ -1,5 +1,5 @@
 use Rattle.std.proofs.Common.{◌≡◌, length}
-use Rattle.dm_rule.specs.Good.{next_delivery}
+use Rattle.dm_line.specs.Todo.{next_delivery}
 use Rattle.dm_world.specs.Cursor.{pairs_at}
 use Rattle.dm_world.specs.Meets.{state_of}
 use Rattle.dm_world.specs.Next.{undelivered}

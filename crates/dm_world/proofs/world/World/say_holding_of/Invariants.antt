@@ -1,5 +1,5 @@
 use Rattle.std.proofs.Common.{◌≡◌, ◌++◌}
-use Rattle.dm_rule.specs.Ends.{home_with}
+use Rattle.dm_line.specs.Ends.{home_with}
 use Rattle.dm_world.specs.Ends.{held_line}
 use Rattle.dm_world.specs.Meets.{state_of}
 use Rattle.dm_world.proofs.world.World.say_holding_of.Given as goal

@@ -1,5 +1,5 @@
 use Rattle.std.proofs.Common.{◌≡◌, ◌++◌, length}
-use Rattle.dm_rule.specs.Ends.{home_with}
+use Rattle.dm_line.specs.Ends.{home_with}
 use Rattle.dm_world.specs.Ends.{process_lines}
 use Rattle.dm_world.specs.Meets.{state_of}
 use Rattle.dm_world.proofs.world.World.say_home.Given as goal

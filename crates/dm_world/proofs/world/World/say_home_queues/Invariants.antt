@@ -1,5 +1,5 @@
 use Rattle.std.proofs.Common.{◌≡◌, ◌++◌, length}
-use Rattle.dm_rule.specs.Ends.{home_with}
+use Rattle.dm_line.specs.Ends.{home_with}
 use Rattle.dm_world.specs.Ends.{queue_of}
 use Rattle.dm_world.specs.Meets.{state_of}
 use Rattle.dm_world.proofs.world.World.say_home_queues.Given as goal

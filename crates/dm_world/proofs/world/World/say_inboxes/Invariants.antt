@@ -1,6 +1,6 @@
 use Rattle.std.proofs.Common.{◌≡◌, ◌++◌}
-use Rattle.dm_rule.specs.Ends.{each_machine, list_line}
-use Rattle.dm_rule.specs.declared.line.EndLine.TheVariants as end
+use Rattle.dm_line.specs.Ends.{each_machine, list_line}
+use Rattle.dm_line.specs.declared.end_line.EndLine.TheVariants as end
 use Rattle.dm_world.specs.Ends.{names_of}
 use Rattle.dm_world.specs.Meets.{state_of}
 use Rattle.dm_world.proofs.world.World.say_inboxes.Given as goal

@@ -1,6 +1,6 @@
 use Rattle.std.proofs.Common.{ℕ, ◌<◌, List, length, arith, ap}
 use Rattle.std.specs.declared.option.Option.{Option}
-use Rattle.dm_rule.specs.declared.line.Line.{Line}
+use Rattle.dm_line.specs.declared.line.Line.{Line}
 use Rattle.dm_node.specs.State.{NodeState}
 use Rattle.dm_world.specs.Ends.{record_queue}
 use Rattle.dm_world.specs.Meets.{state_of}

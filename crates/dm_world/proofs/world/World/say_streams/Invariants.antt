@@ -1,5 +1,5 @@
 use Rattle.std.proofs.Common.{◌≡◌, ◌++◌, length}
-use Rattle.dm_rule.specs.Ends.{each_machine}
+use Rattle.dm_line.specs.Ends.{each_machine}
 use Rattle.dm_world.specs.Ends.{stream_line}
 use Rattle.dm_world.specs.Meets.{state_of}
 use Rattle.dm_world.proofs.world.World.say_streams.Given as goal

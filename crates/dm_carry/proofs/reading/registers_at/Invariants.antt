@@ -1,8 +1,0 @@
-use Rattle.std.proofs.Common.{◌≡◌, ◌-◌, length, take}
-use Rattle.dm_packet.specs.Field.{number, read_times}
-use Rattle.dm_packet.proofs.Loop.{with_front}
-use Rattle.dm_carry.specs.Shell.{registers}
-use Rattle.dm_carry.proofs.reading.registers_at.Given as goal
-
-abbrev pub invariant-loop-place : goal.invariant-loop-place
-invariant-loop-place l = (with_front (take l.place l.registers) (read_times (number 4).read (16 - l.place) l.rest) ≡ registers.read l.bytes) × (length l.registers ≡ 16)

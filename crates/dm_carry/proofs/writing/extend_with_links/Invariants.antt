@@ -1,8 +1,0 @@
-use Rattle.std.proofs.Common.{◌≡◌, ◌++◌, take}
-use Rattle.std.specs.List.{All, flat_map}
-use Rattle.dm_carry.specs.Table.{spell_slot}
-use Rattle.dm_carry.specs.Widths.{FitsSlot}
-use Rattle.dm_carry.proofs.writing.extend_with_links.Given as goal
-
-abbrev pub invariant-loop-slot : goal.invariant-loop-slot
-invariant-loop-slot l = (l.out.items ≡ l.fn.out.items ++ flat_map spell_slot (take l.slot l.table)) × All FitsSlot (take l.slot l.table)

@@ -1,8 +1,0 @@
-use Rattle.std.proofs.Common.{rules}
-use Rattle.dm_forward.specs.Records.{at}
-use Rattle.dm_forward.proofs.Kept.{still_some}
-use Rattle.dm_forward.proofs.records.Records.set.Goals as goal
-
-pub returns-in-Ok-clause-grows : goal.returns-in-Ok-clause-grows
-unfolding at
-returns-in-Ok-clause-grows g c = λ q s. still_some (at c.args.self.now) _ c.args.pid q c.args.entry (search rules) s

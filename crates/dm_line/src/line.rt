@@ -1,0 +1,119 @@
+//! The lines of groups.
+use dm_link::Pid;
+use dm_message::{MessageKind, MsgId};
+use dm_onekernel::Label;
+use dm_schedule::Step;
+
+/// A line of a group.
+#[derive(Drop)]
+pub enum Line {
+    /// The head of a group: the directive that the machine acts on.
+    Head(Step),
+    /// The machine had nothing to do.
+    Idle(u8),
+    /// A step of the kernel without machines.
+    Label(Label),
+    /// A message was routed from a machine to a machine.
+    Put {
+        from: u8,
+        to: u8,
+        id: MsgId,
+        kind: MessageKind,
+        receiver: Pid,
+    },
+    /// A packet was put on the wire, as number k of the pair.
+    Packet {
+        from: u8,
+        to: u8,
+        k: u64,
+        load: Load,
+    },
+    /// What became of a delivered packet: data number n was taken, had been taken before, or came early; count n was
+    /// acknowledged; there was no such packet.
+    Taken {
+        from: u8,
+        to: u8,
+        n: u32,
+    },
+    Old {
+        from: u8,
+        to: u8,
+        n: u32,
+    },
+    Early {
+        from: u8,
+        to: u8,
+        n: u32,
+    },
+    Acked {
+        from: u8,
+        to: u8,
+        n: u32,
+    },
+    Nothing,
+    /// So many outstanding packets go out again.
+    Resent {
+        machine: u8,
+        count: u32,
+    },
+    /// A message stands at the back of its receiver's queue.
+    Queued(MsgId),
+    /// A message waits until its receiver's migration has ended.
+    Held(MsgId),
+    /// A message goes on to the machine where its receiver went.
+    Forwarded {
+        id: MsgId,
+        to: u8,
+    },
+    /// So many links follow a process.
+    Updated {
+        id: MsgId,
+        count: u32,
+    },
+    /// A step of a migration.
+    Migration {
+        step: Stage,
+        pid: Pid,
+    },
+    /// Step 6 of a migration: so many messages go on to the new machine.
+    SentOn {
+        pid: Pid,
+        count: u32,
+    },
+    /// A process can't come for want of room.
+    Lacks {
+        pid: Pid,
+        free_slots: u8,
+        free_blocks: u16,
+    },
+    /// A process stays where it was.
+    Stays(Pid),
+    /// A process that is to move is where it is to go, or has ended.
+    Here(MsgId),
+    NoMove(MsgId),
+    /// A message of a migration that is no step of it.
+    Proto(MsgId),
+    /// A process that is to move is none of the manager's, or can't move.
+    NoChild(Pid),
+    Pinned(Pid),
+}
+
+/// What a packet carries: message number n, or how many messages have come.
+#[derive(Clone, Copy, Debug, PartialEq, Eq)]
+pub enum Load {
+    Data(u32),
+    Ack(u32),
+}
+
+/// The steps of a migration that have a line of the same form, by their numbers 1 to 5, 7 and 8.
+#[derive(Clone, Copy, Debug, PartialEq, Eq)]
+pub enum Stage {
+    Frozen,
+    Asked,
+    Accepted,
+    StateTaken,
+    MemoryTaken,
+    Left,
+    Restarted,
+}
+

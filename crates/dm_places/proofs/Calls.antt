@@ -1,0 +1,296 @@
+-- What a call leaves of a process with places, and of what it sends: each address that it gives is the one that stands there.
+use Rattle.std.proofs.Common.{◌≡◌, ℕ, zero, suc, ◌==◌, ◌&&◌, ◌||◌, Bool, true, false, List, [], ◌∷◌, refl, ap, ◌∙◌, sym, subst, inl, inr, arith, nat_lt}
+use Rattle.std.specs.Prelude.{⊤, if◌then◌else◌, map, slice_get, slice_set, filter_map}
+use Rattle.std.specs.List.{cons_option}
+use Rattle.std.specs.Option.{is_none}
+use Rattle.std.specs.declared.option.Option.{Option}
+use Rattle.std.specs.declared.option.Option.TheVariants.{None, Some}
+use Rattle.std.proofs.lemmas.Bool.Decides.{nat_tests}
+use Rattle.dm_link.specs.declared.Pid.{Pid}
+use Rattle.dm_link.specs.declared.Link.{Link}
+use Rattle.dm_link.specs.Names.{Place, place_of, pid_eq}
+use Rattle.dm_link.specs.Plain.{plain_link}
+use Rattle.dm_linktable.specs.Slots.{first_empty, link_at, plain_slot}
+use Rattle.dm_message.specs.declared.MsgId.{MsgId}
+use Rattle.dm_message.specs.declared.Message.{Message}
+use Rattle.dm_message.specs.Ids.{id_eq}
+use Rattle.dm_message.specs.Plain.{PlainMessage, User, Read, Write, plain_message}
+use Rattle.dm_process.specs.declared.process.Process.{Process}
+use Rattle.dm_process.specs.declared.process.Direction.{Direction}
+use Rattle.dm_process.specs.declared.process.Direction.TheVariants as direction
+use Rattle.dm_process.specs.declared.process.Status.TheVariants as status
+use Rattle.dm_process.specs.Directions.{direction_numbered}
+use Rattle.dm_processor.specs.declared.registers.Regs.{Regs}
+use Rattle.dm_processor.specs.Instructions.{past}
+use Rattle.dm_onekernel.specs.declared.label.Reply.{Reply}
+use Rattle.dm_onekernel.specs.declared.label.Reply.TheVariants as reply
+use Rattle.dm_onekernel.specs.Plain.{plain_process}
+use Rattle.dm_onekernel.specs.PlainProcess.{reg}
+use Rattle.dm_onekernel.specs.Calls as one
+use Rattle.dm_onekernel.specs.Calls.{CallNumber}
+use Rattle.dm_onekernel.specs.Refusals.{first_failed}
+use Rattle.dm_onekernel.specs.Pieces.{piece_of}
+use Rattle.dm_datamove.specs.Requests.{address_of, moving, request}
+use Rattle.dm_syscall.specs.declared.Called.{Called}
+use Rattle.dm_syscall.specs.declared.Called.TheVariants as called
+use Rattle.dm_syscall.specs.Calls as calls
+use Rattle.dm_syscall.specs.Calls.{Done}
+use Rattle.dm_syscall.specs.Sends.{emptied, links_in}
+use Rattle.dm_syscall.proofs.PlainCalls.{first_of, slot_at}
+use Rattle.dm_laws.proofs.Equal.{pid_eq-same, id_eq-same}
+use Rattle.dm_rule.specs.View.{View}
+use Rattle.dm_rule.specs.Addresses.{Addresses, Gets, gets, given, Slot, Owner, Receiver, Sender, here, encloses, fills, fills_by, sends_what}
+use Rattle.dm_rule.proofs.HomesSlots.{set_link, emptied_link}
+use Rattle.dm_rule.proofs.HomesRows.{SameProcess, SameMessage, SameServers, encloses_servers, encloses_process, encloses_message, encloses_at}
+use Rattle.dm_rule.proofs.HomesCalls.{gives_by, no_gives, or-left, or-right}
+use Rattle.dm_places.specs.Placed.{MirrorsProcess, MirrorsMessage, enclosed, owner_at}
+
+-- the process behind its call
+abbrev pub behind : Process → Process
+behind x = record x { regs = past x.regs }
+
+-- a process that has sent a message, where b is a with what the sending gives
+pub record MirrorsSent (v : View) (a b : Addresses) (p : Pid) (m : Message) (y : Process) : Type 0 where
+  pub process : MirrorsProcess v b p y
+  pub message : MirrorsMessage b m.id m
+  pub others : (q : Pid) → pid_eq p q ≡ false → SameProcess a b q
+  pub messages : (i : MsgId) → id_eq m.id i ≡ false → SameMessage a b i
+  pub servers : SameServers a b
+
+abbrev pub SentPlainly : View → Addresses → Pid → Process → Message → Process → Type 0
+SentPlainly v a p x m y = (k : PlainMessage) → plain_message m ≡ Some k → MirrorsSent v a (given a (sends_what v a p (plain_process x) k.id k.what)) p m y
+
+abbrev pub MirrorsCalled : View → Addresses → Pid → Process → CallNumber → Called → Process → Type 0
+MirrorsCalled v a p x n (called.Replied c) y = MirrorsProcess v (given a (gives_by v a p (plain_process x) n c)) p y
+MirrorsCalled v a p x n (called.Sent m) y = SentPlainly v a p x m y
+MirrorsCalled v a p x n (called.Moving m) y = SentPlainly v a p x m y
+MirrorsCalled v a p x n called.Waits y = MirrorsProcess v a p y
+MirrorsCalled v a p x n (called.Out w) y = MirrorsProcess v a p y
+MirrorsCalled v a p x n (called.Ended because) y = ⊤
+
+abbrev pub MirrorsDone : View → Addresses → Pid → Process → CallNumber → Done → Type 0
+MirrorsDone v a p x n d = MirrorsCalled v a p x n d.called d.process
+
+-- where a process says that it is
+pub stands_here : (v : View) (a : Addresses) (p : Pid) (x : Process) → MirrorsProcess v a p x → here v p ≡ place_of (address_of v.acting x)
+stands_here v a p x h = ap (λ (n : ℕ). record { at = v.acting; moves = n }) (sym h.moves)
+
+-- registers hold no addresses
+regs_kept : (v : View) (a : Addresses) (p : Pid) (x : Process) (regs : Regs) → MirrorsProcess v a p x → MirrorsProcess v a p (record x { regs = regs })
+regs_kept v a p x regs h = record { pid = h.pid; moves = h.moves; slots = h.slots; owner = h.owner }
+
+refused_kept : (v : View) (a : Addresses) (p : Pid) (x : Process) (n : CallNumber) (c : Reply) → fills_by v a p (plain_process x) n ≡ [] → MirrorsProcess v a p x → MirrorsDone v a p x n (calls.replied c (behind x))
+refused_kept v a p x n c e h =
+    subst (λ (gs : List Gets). MirrorsProcess v (given a gs) p (calls.replied c (behind x)).process) (sym (no_gives v a p (plain_process x) n c e)) (regs_kept v a p x (calls.replied c (behind x)).process.regs h)
+
+unless_kept : (v : View) (a : Addresses) (p : Pid) (x : Process) (n : CallNumber) (c : Option Reply) (d : Done) → fills_by v a p (plain_process x) n ≡ [] → MirrorsProcess v a p x → MirrorsDone v a p x n d
+    → MirrorsDone v a p x n (calls.unless_refused c (behind x) d)
+unless_kept v a p x n None d e h j = j
+unless_kept v a p x n (Some c) d e h j = refused_kept v a p x n c e h
+
+if_kept : (v : View) (a : Addresses) (p : Pid) (x : Process) (n : CallNumber) (b : Bool) (c d : Done) → MirrorsDone v a p x n c → MirrorsDone v a p x n d → MirrorsDone v a p x n (if b then c else d)
+if_kept v a p x n true c d h k = h
+if_kept v a p x n false c d h k = k
+
+-- a link goes into a slot
+set_slot_kept : (v : View) (a : Addresses) (p : Pid) (x : Process) (regs : Regs) (slot : ℕ) (w : Link) (place : Place) → place ≡ place_of w.addr → MirrorsProcess v a p x
+    → MirrorsProcess v (given a (gets (Slot p slot) place ∷ [])) p (record x { regs = regs; table = slice_set x.table slot (Some w) })
+set_slot_kept v a p x regs slot w place is h = record {
+  pid = h.pid;
+  moves = h.moves;
+  slots = λ k u e. elim (set_link x.table slot k (Some w) u e) [
+    | inl there ↦
+        let same : (pid_eq p p && (slot == k)) ≡ true = let g = pid_eq-same p in let f = there.0 in grind (arith, nat_tests) in
+        let f : Some w ≡ Some u = there.1 in
+        let wu : w ≡ u = cc in
+        ap (λ (c : Bool). if c then place else a (Slot p k)) same ∙ is ∙ ap (λ (z : Link). place_of z.addr) wu
+    | inr off ↦
+        let apart : (pid_eq p p && (slot == k)) ≡ false = let g = pid_eq-same p in let f = off.0 in grind (arith, nat_tests) in
+        ap (λ (c : Bool). if c then place else a (Slot p k)) apart ∙ h.slots k u off.1
+  ];
+  owner = h.owner;
+}
+
+puts_kept : (v : View) (a : Addresses) (p : Pid) (x : Process) (n : CallNumber) (w : Link) (place : Place) (o : Option ℕ) → fills_by v a p (plain_process x) n ≡ fills p o place → place ≡ place_of w.addr → MirrorsProcess v a p x
+    → MirrorsDone v a p x n (calls.puts_link (behind x) w o)
+puts_kept v a p x n w place None fills is h = regs_kept v a p x (calls.replied reply.TableFull (behind x)).process.regs h
+puts_kept v a p x n w place (Some slot) fills is h =
+    let y = (calls.puts_link (behind x) w (Some slot)).process in
+    subst (λ (gs : List Gets). MirrorsProcess v (given a gs) p y) (sym fills) (set_slot_kept v a p x y.regs slot w place is h)
+
+copies_kept : (v : View) (a : Addresses) (p : Pid) (x : Process) (o : Option Link) → link_at x.table (reg x.regs 1) ≡ o → MirrorsProcess v a p x → MirrorsDone v a p x one.Copy (calls.copies (behind x) o)
+copies_kept v a p x None is h = regs_kept v a p x (calls.replied reply.NoLink (behind x)).process.regs h
+copies_kept v a p x (Some w) is h =
+    if_kept v a p x one.Copy (one.is_reply w.kind) (calls.replied reply.NotCopyable (behind x)) (calls.puts_link (behind x) w (first_empty x.table))
+    (regs_kept v a p x (calls.replied reply.NotCopyable (behind x)).process.regs h)
+    (puts_kept v a p x one.Copy w (a (Slot p (reg x.regs 1))) (first_empty x.table) (ap (λ (o : Option ℕ). fills p o (a (Slot p (reg x.regs 1)))) (first_of x.table)) (h.slots (reg x.regs 1) w is) h)
+
+drops_kept : (v : View) (a : Addresses) (p : Pid) (x : Process) (o : Option Link) → MirrorsProcess v a p x → MirrorsDone v a p x one.Drop (calls.drops (behind x) o)
+drops_kept v a p x None h = regs_kept v a p x (calls.replied reply.NoLink (behind x)).process.regs h
+drops_kept v a p x (Some w) h = record { pid = h.pid; moves = h.moves; slots = λ k u e. h.slots k u (emptied_link x.table (reg x.regs 1) k u e); owner = h.owner }
+
+makes_by : (v : View) (a : Addresses) (p : Pid) (x : Process) (b c : Bool) → MirrorsProcess v a p x
+    → MirrorsDone v a p x one.Make (calls.unless_refused (first_failed (record { fails = b; reply = reply.BadKind } ∷ record { fails = c; reply = reply.BadRange } ∷ [])) (behind x) (calls.puts_link (behind x) (calls.own_link v.acting (behind x)) (first_empty x.table)))
+makes_by v a p x true c h = regs_kept v a p x (calls.replied reply.BadKind (behind x)).process.regs h
+makes_by v a p x false true h = regs_kept v a p x (calls.replied reply.BadRange (behind x)).process.regs h
+makes_by v a p x false false h =
+    puts_kept v a p x one.Make (calls.own_link v.acting (behind x)) (here v p) (first_empty x.table) (ap (λ (o : Option ℕ). fills p o (here v p)) (first_of x.table)) (stands_here v a p x h) h
+
+-- the links that a message encloses have their places among the slots'
+record Listed (a : Addresses) (p : Pid) (ss : List ℕ) (k : ℕ) (w : Link) : Type 0 where
+  place : Place
+  there : slice_get (map (λ (n : ℕ). a (Slot p n)) ss) k ≡ Some place
+  is : place ≡ place_of w.addr
+
+none_plainly : (o : Option Link) → is_none (plain_slot o) ≡ is_none o
+none_plainly None = refl
+none_plainly (Some w) = refl
+
+listed_step : (v : View) (a : Addresses) (p : Pid) (x : Process) (s : ℕ) (ss : List ℕ) (k : ℕ) (w : Link) (o : Option Link) → MirrorsProcess v a p x → link_at x.table s ≡ o → is_none o ≡ false
+    → ((j : ℕ) → slice_get (filter_map (link_at x.table) ss) j ≡ Some w → Listed a p ss j w) → slice_get (cons_option o (filter_map (link_at x.table) ss)) k ≡ Some w → Listed a p (s ∷ ss) k w
+listed_step v a p x s ss k w None h is some rest e = cc
+listed_step v a p x s ss zero w (Some u) h is some rest e = let f : u ≡ w = cc in record { place = a (Slot p s); there = refl; is = h.slots s u is ∙ ap (λ (z : Link). place_of z.addr) f }
+listed_step v a p x s ss (suc k) w (Some u) h is some rest e = let r = rest k e in record { place = r.place; there = r.there; is = r.is }
+
+listed_kept : (v : View) (a : Addresses) (p : Pid) (x : Process) (ss : List ℕ) (k : ℕ) (w : Link) → MirrorsProcess v a p x → one.any_empty (map plain_slot x.table) ss ≡ false → slice_get (filter_map (link_at x.table) ss) k ≡ Some w → Listed a p ss k w
+listed_kept v a p x [] k w h some e = cc
+listed_kept v a p x (s ∷ ss) k w h some e =
+    let first : is_none (link_at (map plain_slot x.table) s) ≡ false = or-left (is_none (link_at (map plain_slot x.table) s)) (one.any_empty (map plain_slot x.table) ss) some in
+    listed_step v a p x s ss k w (link_at x.table s) h refl (sym (none_plainly (link_at x.table s)) ∙ sym (ap is_none (slot_at x.table s)) ∙ first)
+    (λ j f. listed_kept v a p x ss j w h (or-right (is_none (link_at (map plain_slot x.table) s)) (one.any_empty (map plain_slot x.table) ss) some) f) e
+
+-- of slots some of which were emptied
+emptied_if : (b : Bool) (slots : List (Option Link)) (k j : ℕ) (w : Link) → link_at (if b then slice_set slots k None else slots) j ≡ Some w → link_at slots j ≡ Some w
+emptied_if true slots k j w e = emptied_link slots k j w e
+emptied_if false slots k j w e = e
+
+emptied_at : (ss : List ℕ) (slots : List (Option Link)) (j : ℕ) (w : Link) → link_at (emptied slots ss) j ≡ Some w → link_at slots j ≡ Some w
+emptied_at [] slots j w e = e
+emptied_at (s ∷ ss) slots j w e =
+    let b = one.holds_reply (plain_slot (link_at slots s)) in
+    emptied_if b slots s j w (emptied_at ss (if b then slice_set slots s None else slots) j w e)
+
+-- a user message goes over the link in slot r1
+user_sent : (v : View) (a : Addresses) (p : Pid) (x : Process) (w : Link) → link_at x.table (reg x.regs 1) ≡ Some w → one.any_empty (map plain_slot x.table) (calls.listed x) ≡ false → MirrorsProcess v a p x
+    → SentPlainly v a p x (calls.message_over v.acting (behind x) w) (calls.after_send (behind x))
+user_sent v a p x w over some h k e =
+    let m = calls.message_over v.acting (behind x) w in
+    let id = m.id in
+    let ps = map (λ (n : ℕ). a (Slot p n)) (calls.listed x) in
+    let to = a (Slot p (reg x.regs 1)) in
+    let z : PlainMessage = record { id = m.id; to = m.to.pid; sender = m.sender.pid; what = User w.code w.channel (one.bytes_at (plain_process x) (reg x.regs 2) (reg x.regs 3)) (map plain_link (links_in x.table (calls.listed x))) } in
+    let f : z ≡ k = cc in
+    subst (λ (u : PlainMessage). MirrorsSent v a (given a (sends_what v a p (plain_process x) u.id u.what)) p m (calls.after_send (behind x))) f
+    (record {
+      process = record {
+        pid = h.pid;
+        moves = h.moves;
+        slots = λ n u g. (encloses_process a id 0 ps p).slot n ∙ h.slots n u (emptied_at (reg x.regs 1 ∷ calls.listed x) x.table n u g);
+        owner = λ q g. (encloses_process a id 0 ps p).owner ∙ h.owner q g;
+      };
+      message = record {
+        id = refl;
+        receiver = ap (λ (c : Bool). if c then to else given a (encloses id 0 ps) (Receiver id)) (id_eq-same id) ∙ h.slots (reg x.regs 1) w over;
+        sender = ap (λ (c : Bool). if c then here v p else given a (encloses id 0 ps) (Sender id)) (id_eq-same id) ∙ stands_here v a p x h;
+        enclosed = λ n u g.
+            let r = listed_kept v a p x (calls.listed x) n u h some g in
+            encloses_at a id 0 ps n n r.place r.there (omega arith) ∙ r.is;
+      };
+      others = λ q g. let s = encloses_process a id 0 ps q in record { slot = s.slot; owner = s.owner };
+      messages = λ i g. let s = encloses_message a id 0 ps i g in record {
+        receiver = ap (λ (c : Bool). if c then to else given a (encloses id 0 ps) (Receiver i)) g ∙ s.receiver;
+        sender = ap (λ (c : Bool). if c then here v p else given a (encloses id 0 ps) (Sender i)) g ∙ s.sender;
+        enclosed = s.enclosed;
+      };
+      servers = let s = encloses_servers a id 0 ps in record { child = s.child; name = s.name; answer = s.answer };
+    })
+
+sends_by : (v : View) (a : Addresses) (p : Pid) (x : Process) (w : Link) (b c d e : Bool) → d ≡ one.any_empty (map plain_slot x.table) (calls.listed x) → link_at x.table (reg x.regs 1) ≡ Some w → MirrorsProcess v a p x
+    → MirrorsDone v a p x one.Send (calls.unless_refused
+    (first_failed (record { fails = b; reply = reply.TooLong } ∷ record { fails = c; reply = reply.BadRange } ∷ record { fails = d; reply = reply.NoLink } ∷ record { fails = e; reply = reply.BadKind } ∷ []))
+    (behind x) (record { called = called.Sent (calls.message_over v.acting (behind x) w); process = calls.after_send (behind x) }))
+sends_by v a p x w true c d e f over h = regs_kept v a p x (calls.replied reply.TooLong (behind x)).process.regs h
+sends_by v a p x w false true d e f over h = regs_kept v a p x (calls.replied reply.BadRange (behind x)).process.regs h
+sends_by v a p x w false false true e f over h = regs_kept v a p x (calls.replied reply.NoLink (behind x)).process.regs h
+sends_by v a p x w false false false true f over h = regs_kept v a p x (calls.replied reply.BadKind (behind x)).process.regs h
+sends_by v a p x w false false false false f over h = user_sent v a p x w over (sym f) h
+
+sends_kept : (v : View) (a : Addresses) (p : Pid) (x : Process) (o : Option Link) → link_at x.table (reg x.regs 1) ≡ o → MirrorsProcess v a p x → MirrorsDone v a p x one.Send (calls.sends v.acting (behind x) o)
+sends_kept v a p x None over h = regs_kept v a p x (calls.replied reply.NoLink (behind x)).process.regs h
+sends_kept v a p x (Some w) over h =
+    let y = plain_process x in
+    sends_by v a p x w (nat_lt (one.most_body y) (reg x.regs 3) || nat_lt 4 (reg x.regs 4)) (one.is_outside y (reg x.regs 2) (reg x.regs 3) || one.is_outside y (reg x.regs 5) (reg x.regs 4))
+    (one.any_empty y.links (one.listed y)) (one.reply_named_twice y.links (reg x.regs 1 ∷ one.listed y)) refl over h
+
+-- a data move begins, with the owner of the link in slot r1
+move_sent : (v : View) (a : Addresses) (p : Pid) (m : Message) (x y : Process) (to : Place) → to ≡ place_of m.to → here v p ≡ place_of m.sender → enclosed m.what ≡ [] → y.pid ≡ x.pid → y.moves ≡ x.moves → y.table ≡ x.table → owner_at y.status ≡ Some m.to → MirrorsProcess v a p x
+    → MirrorsSent v a (given a (gets (Receiver m.id) to ∷ gets (Sender m.id) (here v p) ∷ gets (Owner p) to ∷ [])) p m y
+move_sent v a p m x y to there from none pid moves table owner h = record {
+  process = record {
+    pid = pid ∙ h.pid;
+    moves = moves ∙ h.moves;
+    slots = λ k w e. h.slots k w (ap (λ (s : List (Option Link)). link_at s k) (sym table) ∙ e);
+    owner = λ q e.
+        let f : Some m.to ≡ Some q = sym owner ∙ e in
+        let g : m.to ≡ q = cc in
+        ap (λ (c : Bool). if c then to else a (Owner p)) (pid_eq-same p) ∙ there ∙ ap place_of g;
+  };
+  message = record {
+    id = refl;
+    receiver = ap (λ (c : Bool). if c then to else a (Receiver m.id)) (id_eq-same m.id) ∙ there;
+    sender = ap (λ (c : Bool). if c then here v p else a (Sender m.id)) (id_eq-same m.id) ∙ from;
+    enclosed = λ k w e. absurd (let f : None ≡ Some w = ap (λ (ls : List Link). slice_get ls k) (sym none) ∙ e in cc);
+  };
+  others = λ q e. record { slot = λ k. refl; owner = ap (λ (c : Bool). if c then to else a (Owner q)) e };
+  messages = λ i e. record {
+    receiver = ap (λ (c : Bool). if c then to else a (Receiver i)) e;
+    sender = ap (λ (c : Bool). if c then here v p else a (Sender i)) e;
+    enclosed = λ k. refl;
+  };
+  servers = record { child = λ n. refl; name = λ n. refl; answer = λ n. refl };
+}
+
+begins_kept : (v : View) (a : Addresses) (p : Pid) (x : Process) (w : Link) (dir : Direction) → link_at x.table (reg x.regs 1) ≡ Some w → MirrorsProcess v a p x
+    → MirrorsDone v a p x one.Move (calls.begins v.acting (behind x) (calls.whole (behind x) w dir))
+begins_kept v a p x w direction.FromArea over h k e =
+    let r = calls.whole (behind x) w direction.FromArea in
+    let m = request v.acting (behind x) r in
+    let z : PlainMessage = record { id = m.id; to = m.to.pid; sender = m.sender.pid; what = Read r.base (piece_of r.left) } in
+    let f : z ≡ k = cc in
+    subst (λ (u : PlainMessage). MirrorsSent v a (given a (sends_what v a p (plain_process x) u.id u.what)) p m (moving (behind x) r)) f
+    (move_sent v a p m x (moving (behind x) r) (a (Slot p (reg x.regs 1))) (h.slots (reg x.regs 1) w over) (stands_here v a p x h) refl refl refl refl refl h)
+begins_kept v a p x w direction.IntoArea over h k e =
+    let r = calls.whole (behind x) w direction.IntoArea in
+    let m = request v.acting (behind x) r in
+    let z : PlainMessage = record { id = m.id; to = m.to.pid; sender = m.sender.pid; what = Write r.base (one.bytes_at (plain_process x) r.own (piece_of r.left)) } in
+    let f : z ≡ k = cc in
+    subst (λ (u : PlainMessage). MirrorsSent v a (given a (sends_what v a p (plain_process x) u.id u.what)) p m (moving (behind x) r)) f
+    (move_sent v a p m x (moving (behind x) r) (a (Slot p (reg x.regs 1))) (h.slots (reg x.regs 1) w over) (stands_here v a p x h) refl refl refl refl refl h)
+
+moves_over_kept : (v : View) (a : Addresses) (p : Pid) (x : Process) (w : Link) (o : Option Direction) → link_at x.table (reg x.regs 1) ≡ Some w → MirrorsProcess v a p x
+    → MirrorsDone v a p x one.Move (calls.moves_over v.acting (behind x) w o)
+moves_over_kept v a p x w None over h = regs_kept v a p x (calls.replied reply.BadKind (behind x)).process.regs h
+moves_over_kept v a p x w (Some dir) over h =
+    unless_kept v a p x one.Move (first_failed (one.move_refusals (plain_process (behind x)) (plain_link w) dir)) (calls.moves_bytes v.acting (behind x) w dir) refl h
+    (if_kept v a p x one.Move (reg x.regs 5 == 0) (calls.replied reply.Done (behind x)) (calls.begins v.acting (behind x) (calls.whole (behind x) w dir))
+    (regs_kept v a p x (calls.replied reply.Done (behind x)).process.regs h)
+    (begins_kept v a p x w dir over h))
+
+moves_kept : (v : View) (a : Addresses) (p : Pid) (x : Process) (o : Option Link) → link_at x.table (reg x.regs 1) ≡ o → MirrorsProcess v a p x → MirrorsDone v a p x one.Move (calls.moves v.acting (behind x) o)
+moves_kept v a p x None over h = regs_kept v a p x (calls.replied reply.NoLink (behind x)).process.regs h
+moves_kept v a p x (Some w) over h = moves_over_kept v a p x w (direction_numbered (reg x.regs 2)) over h
+
+pub does_call_kept : (v : View) (a : Addresses) (p : Pid) (x : Process) (n : CallNumber) → MirrorsProcess v a p x → MirrorsDone v a p x n (calls.does_call v.acting (behind x) n)
+does_call_kept v a p x one.Exit h = tt
+does_call_kept v a p x one.Out h = regs_kept v a p x (calls.replied reply.Done (behind x)).process.regs h
+does_call_kept v a p x one.Make h =
+    let y = plain_process x in
+    makes_by v a p x (nat_lt 7 (reg x.regs 3)) (nat_lt 31 (reg x.regs 2) || one.is_outside y (reg x.regs 4) (reg x.regs 5)) h
+does_call_kept v a p x one.Copy h = copies_kept v a p x (link_at x.table (reg x.regs 1)) refl h
+does_call_kept v a p x one.Drop h = drops_kept v a p x (link_at x.table (reg x.regs 1)) h
+does_call_kept v a p x one.Send h = sends_kept v a p x (link_at x.table (reg x.regs 1)) refl h
+does_call_kept v a p x one.Receive h =
+    if_kept v a p x one.Receive (one.is_outside (plain_process x) (reg x.regs 2) (reg x.regs 3)) (calls.replied reply.BadRange (behind x)) (record { called = called.Waits; process = record (behind x) { status = status.Waiting (reg x.regs 1) (reg x.regs 2) (reg x.regs 3) } })
+    (regs_kept v a p x (calls.replied reply.BadRange (behind x)).process.regs h) (record { pid = h.pid; moves = h.moves; slots = h.slots; owner = λ q e. absurd (let f : None ≡ Some q = e in cc) })
+does_call_kept v a p x one.Move h = moves_kept v a p x (link_at x.table (reg x.regs 1)) refl h
+does_call_kept v a p x one.Unknown h = tt

@@ -1,0 +1,210 @@
+-- What a step with places leaves as it is.
+use Rattle.std.proofs.Common.{◌≡◌, ℕ, Bool, true, false, List, refl, ap, sym, subst}
+use Rattle.std.specs.Prelude.{if◌then◌else◌, slice_get}
+use Rattle.std.specs.declared.option.Option.{Option}
+use Rattle.std.specs.declared.option.Option.TheVariants.{None, Some}
+use Rattle.std.proofs.lemmas.Bool.{false≢true}
+use Rattle.dm_link.specs.declared.Pid.{Pid}
+use Rattle.dm_link.specs.Names.{pid_eq}
+use Rattle.dm_message.specs.declared.MsgId.{MsgId}
+use Rattle.dm_message.specs.declared.Message.{Message}
+use Rattle.dm_message.specs.declared.What.{What}
+use Rattle.dm_message.specs.declared.What.TheVariants as what
+use Rattle.dm_process.specs.declared.process.Process.{Process}
+use Rattle.dm_process.specs.Begun.{begun}
+use Rattle.dm_processor.specs.Instructions.{instruction}
+use Rattle.dm_onekernel.specs.declared.boot.Format.{Format}
+use Rattle.dm_onekernel.specs.declared.boot.BootImage.{BootImage}
+use Rattle.dm_onekernel.specs.declared.label.Label.{Label}
+use Rattle.dm_onekernel.specs.declared.label.Label.TheVariants as label
+use Rattle.dm_onekernel.specs.Boot.{manager, slots_of, switchboard}
+use Rattle.dm_onekernel.specs.Options.{bind}
+use Rattle.dm_onekernel.specs.Start.{memory_of, slots_with}
+use Rattle.dm_onekernel.specs.Step.{Machine, plain_steps}
+use Rattle.dm_datamove.specs.declared.Landed.{Landed}
+use Rattle.dm_datamove.specs.declared.Landed.TheVariants as landed
+use Rattle.dm_datamove.specs.Landing.{Landing, landing}
+use Rattle.dm_datamove.specs.Serving.{after_serving, answer, gone_answer, serving_answer}
+use Rattle.dm_syscall.specs.Completing.{Completion}
+use Rattle.dm_switchboard.specs.Taking as board
+use Rattle.dm_procman.specs.Taking as manage
+use Rattle.dm_laws.proofs.Steps.{bind-is}
+use Rattle.dm_places.specs.Placed.{Placed}
+use Rattle.dm_places.specs.PlacedStep.{Acted, acted, acts, after_landing, answers, board_took, completed, creates, lands, machine_of, manager_took, ran, running, serves, takes, with_acted, with_child, with_machine, with_process, with_sent, without_message}
+use Rattle.dm_places.specs.Changes.{Changes, StepsChangeLittle, changed, is_named, receiver_in, taken, taken_out}
+
+-- a process set, and a message sent or none
+kept_process : (l : Placed) (p : Pid) (x : Option Process) (o : Option Message) (q : Pid) → pid_eq p q ≡ false → (with_sent (with_process l p x) o).processes q ≡ l.processes q
+kept_process l p x None q e = ap (λ (c : Bool). if c then x else l.processes q) e
+kept_process l p x (Some m) q e = ap (λ (c : Bool). if c then x else l.processes q) e
+
+kept_bag : (l : Placed) (p : Pid) (x : Option Process) (o : Option Message) (i : MsgId) → (with_sent (with_process l p x) o).bag i ≡ (with_sent l o).bag i
+kept_bag l p x None i = refl
+kept_bag l p x (Some m) i = refl
+
+kept_board : (l : Placed) (o : Option Message) → (with_sent l o).board ≡ l.board
+kept_board l None = refl
+kept_board l (Some m) = refl
+
+kept_manager : (l : Placed) (o : Option Message) → (with_sent l o).manager ≡ l.manager
+kept_manager l None = refl
+kept_manager l (Some m) = refl
+
+kept_processes : (l : Placed) (o : Option Message) (q : Pid) → (with_sent l o).processes q ≡ l.processes q
+kept_processes l None q = refl
+kept_processes l (Some m) q = refl
+
+-- what a step leaves that changes a process, if any, and takes a message, if any
+record Leaves (l : Placed) (p : Option Pid) (id : Option MsgId) (m : Placed) : Type 0 where
+  processes : (q : Pid) → is_named p q ≡ false → m.processes q ≡ l.processes q
+  sent : Option Message
+  bag : (i : MsgId) → m.bag i ≡ (with_sent (taken_out l id) sent).bag i
+  board : m.board ≡ l.board
+  manager : m.manager ≡ l.manager
+
+sets : (l : Placed) (p : Pid) (x : Option Process) (o : Option Message) → Leaves l (Some p) None (with_sent (with_process l p x) o)
+sets l p x o = record { processes = kept_process l p x o; sent = o; bag = kept_bag l p x o; board = kept_board (with_process l p x) o; manager = kept_manager (with_process l p x) o }
+
+sets_and_takes : (l : Placed) (id : MsgId) (p : Pid) (x : Option Process) (o : Option Message) → Leaves l (Some p) (Some id) (with_sent (with_process (without_message l id) p x) o)
+sets_and_takes l id p x o = record {
+  processes = kept_process (without_message l id) p x o;
+  sent = o;
+  bag = kept_bag (without_message l id) p x o;
+  board = kept_board (with_process (without_message l id) p x) o;
+  manager = kept_manager (with_process (without_message l id) p x) o;
+}
+
+only_takes : (l : Placed) (id : MsgId) (o : Option Message) → Leaves l None (Some id) (with_sent (without_message l id) o)
+only_takes l id o = record {
+  processes = λ q e. kept_processes (without_message l id) o q;
+  sent = o;
+  bag = λ i. refl;
+  board = kept_board (without_message l id) o;
+  manager = kept_manager (without_message l id) o;
+}
+
+leaves : (l : Placed) (e : Label) (m : Placed) → Leaves l (changed l e) (taken e) m → Changes l e m
+leaves l e m h = record { processes = h.processes; sent = h.sent; bag = h.bag; board = λ k. h.board; manager = λ k. h.manager }
+
+ran_leaves : (l m : Placed) (p : Pid) (k : ℕ) → ran l p k ≡ Some m → Leaves l (Some p) None m
+ran_leaves l m p k e =
+    let (x, runs, rest) = bind-is (running l p) (λ (y : Process). bind (plain_steps k (machine_of y)) (λ (n : Machine). Some (with_process l p (Some (with_machine y n))))) m e in
+    let (n, steps, last) = bind-is (plain_steps k (machine_of x)) (λ (n : Machine). Some (with_process l p (Some (with_machine x n)))) m rest in
+    let f : with_process l p (Some (with_machine x n)) ≡ m = cc in
+    subst (Leaves l (Some p) None) f (sets l p (Some (with_machine x n)) None)
+
+acts_leaves : (here : ℕ) (l m : Placed) (p : Pid) → acts here l p ≡ Some m → Leaves l (Some p) None m
+acts_leaves here l m p e =
+    let (x, runs, rest) = bind-is (running l p) (λ (y : Process). bind (acted here y (instruction y.regs y.memory)) (λ (w : Acted). Some (with_acted l p w))) m e in
+    let (w, acts, last) = bind-is (acted here x (instruction x.regs x.memory)) (λ (w : Acted). Some (with_acted l p w)) m rest in
+    let f : with_acted l p w ≡ m = cc in
+    subst (Leaves l (Some p) None) f (sets l p w.process w.message)
+
+landing_leaves : (l : Placed) (id : MsgId) (p : Pid) (d : Landed) (x : Process) → Leaves l (Some p) (Some id) (after_landing (without_message l id) p d x)
+landing_leaves l id p (landed.Next n) x = sets_and_takes l id p (Some x) (Some n)
+landing_leaves l id p (landed.Done c) x = sets_and_takes l id p (Some x) None
+
+lands_leaves : (here : ℕ) (l m : Placed) (id : MsgId) (n : Message) (x : Process) → lands here (without_message l id) n x ≡ Some m → Leaves l (Some n.to.pid) (Some id) m
+lands_leaves here l m id n x e =
+    let (d, is, last) = bind-is (landing here x n.what x.status) (λ (d : Landing). Some (after_landing (without_message l id) n.to.pid d.landed d.process)) m e in
+    let f : after_landing (without_message l id) n.to.pid d.landed d.process ≡ m = cc in
+    subst (Leaves l (Some n.to.pid) (Some id)) f (landing_leaves l id n.to.pid d.landed d.process)
+
+answers_leaves : (here : ℕ) (l m : Placed) (id : MsgId) (n : Message) (x : Process) → answers here (without_message l id) n x ≡ Some m → Leaves l (Some n.to.pid) (Some id) m
+answers_leaves here l m id n x e =
+    let y = after_serving x n.what in
+    let (a, is, last) = bind-is (serving_answer here x n) (λ (a : Message). Some (with_sent (with_process (without_message l id) n.to.pid (Some y)) (Some a))) m e in
+    let f : with_sent (with_process (without_message l id) n.to.pid (Some y)) (Some a) ≡ m = cc in
+    subst (Leaves l (Some n.to.pid) (Some id)) f (sets_and_takes l id n.to.pid (Some y) (Some a))
+
+goes_leaves : (l m : Placed) (id : MsgId) (p : Pid) (x : Option Process) → Some (with_process (without_message l id) p x) ≡ Some m → Leaves l (Some p) (Some id) m
+goes_leaves l m id p x e =
+    let f : with_process (without_message l id) p x ≡ m = cc in
+    subst (Leaves l (Some p) (Some id)) f (sets_and_takes l id p x None)
+
+serves_leaves : (here : ℕ) (l m : Placed) (id : MsgId) (n : Message) (x : Process) (w : What) → serves here (without_message l id) n x w ≡ Some m → Leaves l (Some n.to.pid) (Some id) m
+serves_leaves here l m id n x what.Stop e = goes_leaves l m id n.to.pid (Some (record x { stopped = true })) e
+serves_leaves here l m id n x what.Resume e = goes_leaves l m id n.to.pid (Some (record x { stopped = false })) e
+serves_leaves here l m id n x what.Kill e = goes_leaves l m id n.to.pid None e
+serves_leaves here l m id n x (what.Read base len) e = answers_leaves here l m id n x e
+serves_leaves here l m id n x (what.Write base bytes) e = answers_leaves here l m id n x e
+serves_leaves here l m id n x (what.Block bytes) e = lands_leaves here l m id n x e
+serves_leaves here l m id n x what.Written e = lands_leaves here l m id n x e
+serves_leaves here l m id n x what.Gone e = lands_leaves here l m id n x e
+serves_leaves here l m id n x w e = cc
+
+creates_leaves : (here : ℕ) (f : Format) (images : List BootImage) (l m : Placed) (id : MsgId) (n : Message) (child : Pid) (w : What) → creates here f images (without_message l id) n child w ≡ Some m → Leaves l (Some child) (Some id) m
+creates_leaves here f images l m id n child (what.Create number links) e =
+    let a = answer here 0 n (what.Created child) in
+    let (i, is, last) = bind-is (slice_get images number) (λ (i : BootImage). Some (with_sent (with_child (without_message l id) f child i links.items) (Some a))) m e in
+    let g : with_sent (with_child (without_message l id) f child i links.items) (Some a) ≡ m = cc in
+    subst (Leaves l (Some child) (Some id)) g (sets_and_takes l id child (Some (begun child (memory_of i) (slots_with (slots_of f) links.items))) (Some a))
+creates_leaves here f images l m id n child w e = cc
+
+-- the servers
+record Serves (l : Placed) (id : MsgId) (m : Placed) : Type 0 where
+  processes : (q : Pid) → m.processes q ≡ l.processes q
+  sent : Option Message
+  bag : (i : MsgId) → m.bag i ≡ (with_sent (without_message l id) sent).bag i
+
+with_board : (l : Placed) (b : _) (o : Option Message) (i : MsgId) → (with_sent (record l { board = b }) o).bag i ≡ (with_sent l o).bag i
+with_board l b None i = refl
+with_board l b (Some m) i = refl
+
+with_manager : (l : Placed) (g : _) (o : Option Message) (i : MsgId) → (with_sent (record l { manager = g }) o).bag i ≡ (with_sent l o).bag i
+with_manager l g None i = refl
+with_manager l g (Some m) i = refl
+
+takes_if : (l m : Placed) (id : MsgId) (n : Message) (b c : Bool)
+    → (if b then bind (board.takes l.board n.what) (λ (t : board.Taken). Some (board_took (without_message l id) t)) else if c then bind (manage.takes l.manager n.id.n n.what) (λ (t : manage.Taken). Some (manager_took (without_message l id) t)) else None) ≡ Some m
+    → Serves l id m
+takes_if l m id n true c e =
+    let (t, is, last) = bind-is (board.takes l.board n.what) (λ (t : board.Taken). Some (board_took (without_message l id) t)) m e in
+    let f : board_took (without_message l id) t ≡ m = cc in
+    subst (Serves l id) f
+    (record { processes = kept_processes (record (without_message l id) { board = t.board }) t.took.answer; sent = t.took.answer; bag = with_board (without_message l id) t.board t.took.answer })
+takes_if l m id n false true e =
+    let (t, is, last) = bind-is (manage.takes l.manager n.id.n n.what) (λ (t : manage.Taken). Some (manager_took (without_message l id) t)) m e in
+    let f : manager_took (without_message l id) t ≡ m = cc in
+    subst (Serves l id) f
+    (record { processes = kept_processes (record (without_message l id) { manager = t.manager }) t.message; sent = t.message; bag = with_manager (without_message l id) t.manager t.message })
+takes_if l m id n false false e = cc
+
+took_leaves : (l m : Placed) (id : MsgId) → bind (l.bag id) (takes (without_message l id)) ≡ Some m → Changes l (label.Took id) m
+took_leaves l m id e =
+    let (n, found, rest) = bind-is (l.bag id) (takes (without_message l id)) m e in
+    let h = takes_if l m id n (pid_eq n.to.pid switchboard) (pid_eq n.to.pid manager) rest in
+    record { processes = λ q k. h.processes q; sent = h.sent; bag = h.bag; board = λ k. absurd (false≢true (sym k)); manager = λ k. absurd (false≢true (sym k)) }
+
+pub steps_change_little : StepsChangeLittle
+steps_change_little here f images l m (label.Ran p k) e = leaves l (label.Ran p k) m (ran_leaves l m p k e)
+steps_change_little here f images l m (label.Call p n c) e = leaves l (label.Call p n c) m (acts_leaves here l m p e)
+steps_change_little here f images l m (label.Send p id) e = leaves l (label.Send p id) m (acts_leaves here l m p e)
+steps_change_little here f images l m (label.Wait p) e = leaves l (label.Wait p) m (acts_leaves here l m p e)
+steps_change_little here f images l m (label.Out p w) e = leaves l (label.Out p w) m (acts_leaves here l m p e)
+steps_change_little here f images l m (label.End p y) e = leaves l (label.End p y) m (acts_leaves here l m p e)
+steps_change_little here f images l m (label.Receive p id) e =
+    let (d, is, last) = bind-is (completed l p id) (λ (d : Completion). Some (with_process (without_message l id) p (Some d.process))) m e in
+    leaves l (label.Receive p id) m (goes_leaves l m id p (Some d.process) last)
+steps_change_little here f images l m (label.Refuse p id c) e =
+    let (d, is, last) = bind-is (completed l p id) (λ (d : Completion). Some (with_process l p (Some d.process))) m e in
+    let g : with_process l p (Some d.process) ≡ m = cc in
+    leaves l (label.Refuse p id c) m (subst (Leaves l (Some p) None) g (sets l p (Some d.process) None))
+steps_change_little here f images l m (label.Dropped id) e =
+    let g : without_message l id ≡ m = cc in leaves l (label.Dropped id) m (subst (Leaves l None (Some id)) g (only_takes l id None))
+steps_change_little here f images l m (label.Served id) e =
+    let (n, found, rest) = bind-is (l.bag id) (λ (n : Message). bind (l.processes n.to.pid) (λ (x : Process). serves here (without_message l id) n x n.what)) m e in
+    let (x, stands, last) = bind-is (l.processes n.to.pid) (λ (x : Process). serves here (without_message l id) n x n.what) m rest in
+    leaves l (label.Served id) m (subst (λ (p : Option Pid). Leaves l p (Some id) m) (ap receiver_in (sym found)) (serves_leaves here l m id n x n.what last))
+steps_change_little here f images l m (label.Gone id) e =
+    let (n, found, last) = bind-is (l.bag id) (λ (n : Message). Some (with_sent (without_message l id) (Some (gone_answer here n)))) m e in
+    let g : with_sent (without_message l id) (Some (gone_answer here n)) ≡ m = cc in
+    leaves l (label.Gone id) m (subst (Leaves l None (Some id)) g (only_takes l id (Some (gone_answer here n))))
+steps_change_little here f images l m (label.Took id) e = took_leaves l m id e
+steps_change_little here f images l m (label.Created id child) e =
+    let (n, found, last) = bind-is (l.bag id) (λ (n : Message). creates here f images (without_message l id) n child n.what) m e in
+    leaves l (label.Created id child) m (creates_leaves here f images l m id n child n.what last)
+steps_change_little here f images l m (label.NoSpace id slots blocks) e =
+    let (n, found, last) = bind-is (l.bag id) (λ (n : Message). Some (with_sent (without_message l id) (Some (answer here 0 n what.NoRoom)))) m e in
+    let g : with_sent (without_message l id) (Some (answer here 0 n what.NoRoom)) ≡ m = cc in
+    leaves l (label.NoSpace id slots blocks) m (subst (Leaves l None (Some id)) g (only_takes l id (Some (answer here 0 n what.NoRoom))))

@@ -1,0 +1,193 @@
+-- What each way of changing the kernel with places keeps: a process that goes on or ends, a message that comes or goes.
+use Rattle.std.proofs.Common.{◌≡◌, Bool, true, false, refl, ap, ◌∙◌, sym, subst, inl, inr}
+use Rattle.std.specs.Prelude.{if◌then◌else◌, option_map}
+use Rattle.std.specs.declared.option.Option.{Option}
+use Rattle.std.specs.declared.option.Option.TheVariants.{None, Some}
+use Rattle.std.proofs.lemmas.Bool.{cases_Bool}
+use Rattle.dm_link.specs.declared.Pid.{Pid}
+use Rattle.dm_link.specs.Names.{pid_eq}
+use Rattle.dm_message.specs.declared.MsgId.{MsgId}
+use Rattle.dm_message.specs.declared.Message.{Message}
+use Rattle.dm_message.specs.Ids.{id_eq}
+use Rattle.dm_message.specs.Plain.{PlainMessage, PlainWhat, plain_message, plain_what, with_what}
+use Rattle.dm_process.specs.declared.process.Process.{Process}
+use Rattle.dm_onekernel.specs.Kernel as one
+use Rattle.dm_onekernel.specs.Kernel.{Life, OneKernel}
+use Rattle.dm_onekernel.specs.Options.{bind}
+use Rattle.dm_onekernel.specs.Plain.{plain_process}
+use Rattle.dm_onekernel.specs.PlainProcess.{PlainProcess}
+use Rattle.dm_onekernel.specs.Service as service
+use Rattle.dm_onekernel.specs.Step as kernel
+use Rattle.dm_laws.proofs.Equal.{pid_eq-is, id_eq-is}
+use Rattle.dm_laws.proofs.Steps.{bind-is}
+use Rattle.dm_rule.specs.View.{View}
+use Rattle.dm_rule.specs.Addresses.{Addresses}
+use Rattle.dm_rule.proofs.HomesRows.{SameProcess, SameMessage, SameServers}
+use Rattle.dm_places.specs.Placed.{Placed, Mirrors, MirrorsKernel, MirrorsMessage, MirrorsPlaces, MirrorsProcess}
+use Rattle.dm_places.specs.PlacedStep.{with_message, with_process, with_sent, without_message}
+
+-- what there is with places where there is something without
+pub of_map : {A B : Type 0} (f : A → B) (o : Option A) (x : B) → Some x ≡ option_map f o → (y : A) × (o ≡ Some y) × (f y ≡ x)
+of_map f None x e = cc
+of_map f (Some y) x e = (y, refl, let g : f y ≡ x = cc in g)
+
+pub alive_of : (s : OneKernel) (l : Placed) (p : Pid) (x : PlainProcess) → MirrorsKernel s l → kernel.alive (s.processes p) ≡ Some x → (y : Process) × (l.processes p ≡ Some y) × (plain_process y ≡ x)
+alive_of s l p x h e = of_map plain_process (l.processes p) x (sym e ∙ h.processes p)
+
+pub there_of : (s : OneKernel) (l : Placed) (i : MsgId) (k : PlainMessage) → MirrorsKernel s l → s.bag i ≡ Some k → (m : Message) × (l.bag i ≡ Some m) × (plain_message m ≡ Some k)
+there_of s l i k h e = bind-is (l.bag i) plain_message k (h.bag i ∙ e)
+
+-- the parts of a message without places
+pub record Parts (m : Message) (o : Option PlainWhat) (k : PlainMessage) : Type 0 where
+  pub id : m.id ≡ k.id
+  pub to : m.to.pid ≡ k.to
+  pub sender : m.sender.pid ≡ k.sender
+  pub what : o ≡ Some k.what
+
+parts_of : (m : Message) (o : Option PlainWhat) (k : PlainMessage) → with_what m o ≡ Some k → Parts m o k
+parts_of m None k e = cc
+parts_of m (Some w) k e =
+    let z : PlainMessage = record { id = m.id; to = m.to.pid; sender = m.sender.pid; what = w } in
+    let f : z ≡ k = cc in
+    record {
+      id = ap (λ (v : PlainMessage). v.id) f;
+      to = ap (λ (v : PlainMessage). v.to) f;
+      sender = ap (λ (v : PlainMessage). v.sender) f;
+      what = ap (λ (v : PlainMessage). Some v.what) f;
+    }
+
+pub parts : (m : Message) (k : PlainMessage) → plain_message m ≡ Some k → Parts m (plain_what m.what) k
+parts m k e = parts_of m (plain_what m.what) k e
+
+-- without places
+both_if : {A B C : Type 0} (f : A → C) (g : B → C) (b : Bool) (x u : A) (y w : B) → f x ≡ g y → f u ≡ g w → f (if b then x else u) ≡ g (if b then y else w)
+both_if f g true x u y w e h = e
+both_if f g false x u y w e h = h
+
+pub kernel_process : (s : OneKernel) (l : Placed) (p : Pid) (life : Life) (y : Option Process) → kernel.alive (Some life) ≡ option_map plain_process y → MirrorsKernel s l → MirrorsKernel (one.with_process s p life) (with_process l p y)
+kernel_process s l p life y e h = record {
+  processes = λ q. both_if kernel.alive (option_map plain_process) (pid_eq p q) (Some life) (s.processes q) y (l.processes q) e (h.processes q);
+  bag = h.bag;
+  board = h.board;
+  manager = h.manager;
+  machines = h.machines;
+  images = h.images;
+}
+
+pub kernel_message : (s : OneKernel) (l : Placed) (i : MsgId) (k : Option PlainMessage) (m : Option Message) → bind m plain_message ≡ k → MirrorsKernel s l → MirrorsKernel (one.with_message s i k) (with_message l i m)
+kernel_message s l i k m e h = record {
+  processes = h.processes;
+  bag = λ j. both_if (λ (o : Option Message). bind o plain_message) (λ (o : Option PlainMessage). o) (id_eq i j) m (l.bag j) k (s.bag j) e (h.bag j);
+  board = h.board;
+  manager = h.manager;
+  machines = h.machines;
+  images = h.images;
+}
+
+pub kernel_out : (s : OneKernel) (l : Placed) (i : MsgId) → MirrorsKernel s l → MirrorsKernel (service.without_message s i) (without_message l i)
+kernel_out s l i h = kernel_message s l i None None refl h
+
+pub kernel_sent : (s : OneKernel) (l : Placed) (k : PlainMessage) (m : Message) → plain_message m ≡ Some k → MirrorsKernel s l → MirrorsKernel (one.with_sent s (Some k)) (with_sent l (Some m))
+kernel_sent s l k m e h =
+    subst (λ (j : MsgId). MirrorsKernel (one.with_message s j (Some k)) (with_message l m.id (Some m))) (parts m k e).id (kernel_message s l m.id (Some k) (Some m) e h)
+
+-- the places
+pub process_same : (v : View) (a b : Addresses) (p : Pid) (x : Process) → SameProcess a b p → MirrorsProcess v a p x → MirrorsProcess v b p x
+process_same v a b p x w h = record { pid = h.pid; moves = h.moves; slots = λ k l e. w.slot k ∙ h.slots k l e; owner = λ q e. w.owner ∙ h.owner q e }
+
+pub message_same : (a b : Addresses) (i : MsgId) (m : Message) → SameMessage a b i → MirrorsMessage a i m → MirrorsMessage b i m
+message_same a b i m w h = record { id = h.id; receiver = w.receiver ∙ h.receiver; sender = w.sender ∙ h.sender; enclosed = λ k l e. w.enclosed k ∙ h.enclosed k l e }
+
+pub stays_process : (a : Addresses) (q : Pid) → SameProcess a a q
+stays_process a q = record { slot = λ k. refl; owner = refl }
+
+pub stays_message : (a : Addresses) (i : MsgId) → SameMessage a a i
+stays_message a i = record { receiver = refl; sender = refl; enclosed = λ k. refl }
+
+pub stays_servers : (a : Addresses) → SameServers a a
+stays_servers a = record { child = λ n. refl; name = λ n. refl; answer = λ n. refl }
+
+-- processes once one was set
+set_places : (v : View) (a b : Addresses) (l : Placed) (p : Pid) (y : Option Process) → ((q : Pid) (x : Process) → l.processes q ≡ Some x → MirrorsProcess v a q x) → ((q : Pid) → pid_eq p q ≡ false → SameProcess a b q)
+    → ((x : Process) → y ≡ Some x → MirrorsProcess v b p x) → (q : Pid) (x : Process) → (with_process l p y).processes q ≡ Some x → MirrorsProcess v b q x
+set_places v a b l p y h off on q x e = elim (cases_Bool (pid_eq p q)) [
+  | inl same ↦
+      subst (λ (w : Pid). MirrorsProcess v b w x) (pid_eq-is p q same) (on x (sym (ap (λ (c : Bool). if c then y else l.processes q) same) ∙ e))
+  | inr apart ↦
+      process_same v a b q x (off q apart) (h q x (sym (ap (λ (c : Bool). if c then y else l.processes q) apart) ∙ e))
+]
+
+-- messages once one came
+pub came_places : (a b : Addresses) (l : Placed) (m : Message) → ((i : MsgId) (x : Message) → l.bag i ≡ Some x → MirrorsMessage a i x) → ((i : MsgId) → id_eq m.id i ≡ false → SameMessage a b i) → MirrorsMessage b m.id m
+    → (i : MsgId) (x : Message) → (with_sent l (Some m)).bag i ≡ Some x → MirrorsMessage b i x
+came_places a b l m h off on i x e = elim (cases_Bool (id_eq m.id i)) [
+  | inl same ↦
+      let f : Some m ≡ Some x = sym (ap (λ (c : Bool). if c then Some m else l.bag i) same) ∙ e in
+      let g : m ≡ x = cc in
+      subst (λ (w : Message). MirrorsMessage b i w) g (subst (λ (j : MsgId). MirrorsMessage b j m) (id_eq-is m.id i same) on)
+  | inr apart ↦ message_same a b i x (off i apart) (h i x (sym (ap (λ (c : Bool). if c then Some m else l.bag i) apart) ∙ e))
+]
+
+pub places_process : (v : View) (a b : Addresses) (l : Placed) (p : Pid) (y : Option Process) → MirrorsPlaces v a l → ((q : Pid) → pid_eq p q ≡ false → SameProcess a b q) → ((x : Process) → y ≡ Some x → MirrorsProcess v b p x)
+    → ((i : MsgId) → SameMessage a b i) → SameServers a b → MirrorsPlaces v b (with_process l p y)
+places_process v a b l p y h off on messages servers = record {
+  process = set_places v a b l p y h.process off on;
+  message = λ i m e. message_same a b i m (messages i) (h.message i m e);
+  name = λ n k e. servers.name n ∙ h.name n k e;
+  child = λ n c e. servers.child n ∙ h.child n c e;
+  answer = λ n r e. servers.answer n ∙ h.answer n r e;
+}
+
+pub places_sent : (v : View) (a b : Addresses) (l : Placed) (m : Message) → MirrorsPlaces v a l → ((q : Pid) → SameProcess a b q) → ((i : MsgId) → id_eq m.id i ≡ false → SameMessage a b i) → MirrorsMessage b m.id m → SameServers a b
+    → MirrorsPlaces v b (with_sent l (Some m))
+places_sent v a b l m h processes off on servers = record {
+  process = λ q x e. process_same v a b q x (processes q) (h.process q x e);
+  message = came_places a b l m h.message off on;
+  name = λ n k e. servers.name n ∙ h.name n k e;
+  child = λ n c e. servers.child n ∙ h.child n c e;
+  answer = λ n r e. servers.answer n ∙ h.answer n r e;
+}
+
+-- a process's and a message's
+pub places_sends : (v : View) (a b : Addresses) (l : Placed) (p : Pid) (y : Option Process) (m : Message) → MirrorsPlaces v a l → ((q : Pid) → pid_eq p q ≡ false → SameProcess a b q) → ((x : Process) → y ≡ Some x → MirrorsProcess v b p x)
+    → ((i : MsgId) → id_eq m.id i ≡ false → SameMessage a b i) → MirrorsMessage b m.id m → SameServers a b → MirrorsPlaces v b (with_sent (with_process l p y) (Some m))
+places_sends v a b l p y m h off on messages sent servers = record {
+  process = set_places v a b l p y h.process off on;
+  message = came_places a b l m h.message messages sent;
+  name = λ n k e. servers.name n ∙ h.name n k e;
+  child = λ n c e. servers.child n ∙ h.child n c e;
+  answer = λ n r e. servers.answer n ∙ h.answer n r e;
+}
+
+stood : (l : Placed) (id i : MsgId) (m : Message) (b : Bool) → (if b then None else l.bag i) ≡ Some m → l.bag i ≡ Some m
+stood l id i m true e = cc
+stood l id i m false e = e
+
+pub places_out : (v : View) (a : Addresses) (l : Placed) (id : MsgId) → MirrorsPlaces v a l → MirrorsPlaces v a (without_message l id)
+places_out v a l id h = record {
+  process = h.process;
+  message = λ i m e. h.message i m (stood l id i m (id_eq id i) e);
+  name = h.name;
+  child = h.child;
+  answer = h.answer;
+}
+
+pub this_process : (v : View) (a : Addresses) (p : Pid) (x : Process) → MirrorsProcess v a p x → (y : Process) → Some x ≡ Some y → MirrorsProcess v a p y
+this_process v a p x h y e = let f : x ≡ y = cc in subst (MirrorsProcess v a p) f h
+
+-- a process goes on where it was
+pub places_goes : (v : View) (a : Addresses) (l : Placed) (p : Pid) (x : Process) → MirrorsPlaces v a l → MirrorsProcess v a p x → MirrorsPlaces v a (with_process l p (Some x))
+places_goes v a l p x h k = places_process v a a l p (Some x) h (λ q e. stays_process a q) (this_process v a p x k) (stays_message a) (stays_servers a)
+
+pub places_ends : (v : View) (a : Addresses) (l : Placed) (p : Pid) → MirrorsPlaces v a l → MirrorsPlaces v a (with_process l p None)
+places_ends v a l p h = places_process v a a l p None h (λ q e. stays_process a q) (λ x e. absurd (let f : None ≡ Some x = e in cc)) (stays_message a) (stays_servers a)
+
+-- a process goes on, without places too
+pub goes_mirrors : (s : OneKernel) (v : View) (a : Addresses) (l : Placed) (p : Pid) (x : Process) → Mirrors s v a l → MirrorsProcess v a p x → Mirrors (kernel.goes_on s p (plain_process x)) v a (with_process l p (Some x))
+goes_mirrors s v a l p x h k = record { plain = kernel_process s l p (one.Alive (plain_process x)) (Some x) refl h.plain; places = places_goes v a l p x h.places k }
+
+pub ends_mirrors : (s : OneKernel) (v : View) (a : Addresses) (l : Placed) (p : Pid) (y : _) → Mirrors s v a l → Mirrors (one.with_process s p (one.Ended y)) v a (with_process l p None)
+ends_mirrors s v a l p y h = record { plain = kernel_process s l p (one.Ended y) None refl h.plain; places = places_ends v a l p h.places }
+
+pub out_mirrors : (s : OneKernel) (v : View) (a : Addresses) (l : Placed) (i : MsgId) → Mirrors s v a l → Mirrors (service.without_message s i) v a (without_message l i)
+out_mirrors s v a l i h = record { plain = kernel_out s l i h.plain; places = places_out v a l i h.places }

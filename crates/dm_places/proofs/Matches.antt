@@ -1,0 +1,106 @@
+-- The rows with places in a machine's terms: where the kernel with places has a machine's process but for its queue, each row
+-- is what the machine's code does to that process, but for its queue.
+use Rattle.std.proofs.Common.{◌≡◌, ℕ, Bool, true, false, List, refl, ap, ◌∙◌, sym}
+use Rattle.std.specs.Prelude.{if◌then◌else◌, option_map}
+use Rattle.std.specs.declared.option.Option.{Option}
+use Rattle.std.specs.declared.option.Option.TheVariants.{None, Some}
+use Rattle.dm_link.specs.declared.Pid.{Pid}
+use Rattle.dm_message.specs.declared.MsgId.{MsgId}
+use Rattle.dm_message.specs.declared.Message.{Message}
+use Rattle.dm_process.specs.declared.process.Process.{Process}
+use Rattle.dm_process.specs.declared.process.Status.{Status}
+use Rattle.dm_process.specs.declared.process.Status.TheVariants as status
+use Rattle.dm_processor.specs.declared.registers.Regs.{Regs}
+use Rattle.dm_processor.specs.declared.registers.Fault.{Fault}
+use Rattle.dm_processor.specs.Instructions.{Row, instruction}
+use Rattle.dm_processor.specs.Instructions as row
+use Rattle.dm_onekernel.specs.Options.{bind}
+use Rattle.dm_onekernel.specs.Step.{Machine, plain_steps}
+use Rattle.dm_datamove.specs.Landing.{Landing, landing}
+use Rattle.dm_datamove.specs.Serving.{after_serving, serving_answer}
+use Rattle.dm_syscall.specs.declared.Called.{Called}
+use Rattle.dm_syscall.specs.declared.Called.TheVariants as called
+use Rattle.dm_syscall.specs.Calls.{Done, calls}
+use Rattle.dm_syscall.specs.Completing.{Completion, completion}
+use Rattle.dm_places.specs.Placed.{Placed}
+use Rattle.dm_places.specs.PlacedStep.{Acted, acted, acts, after_call, after_done, after_landing, answers, completed, if_ready, lands, machine_of, ran, running, with_acted, with_machine, with_process, with_sent}
+use Rattle.dm_places.proofs.Keeps.{of_map}
+use Rattle.dm_places.proofs.Queues.{after_serving_with, calls_with, completion_is, completion_with, landing_is, landing_with, queue_after, serving_with, with_queue}
+
+-- a process that is ready, and not stopped
+ready_if : (b : Bool) (x y : Process) (q : List Message) → (if b then None else Some x) ≡ Some y → (if b then None else Some (with_queue x q)) ≡ Some (with_queue y q)
+ready_if true x y q e = cc
+ready_if false x y q e = let f : x ≡ y = cc in ap (λ (z : Process). Some (with_queue z q)) f
+
+ready_with : (x y : Process) (st : Status) (q : List Message) → if_ready x st ≡ Some y → if_ready (with_queue x q) st ≡ Some (with_queue y q)
+ready_with x y status.Ready q e = ready_if x.stopped x y q e
+ready_with x y (status.Waiting mask base size) q e = cc
+ready_with x y (status.Moving dir owner base own left pending) q e = cc
+
+runs_with : (l : Placed) (p : Pid) (y : Process) (q : List Message) → l.processes p ≡ Some (with_queue y q) → if_ready y y.status ≡ Some y → running l p ≡ Some (with_queue y q)
+runs_with l p y q there ready = ap (λ (o : Option Process). bind o (λ (z : Process). if_ready z z.status)) there ∙ ready_with y y y.status q ready
+
+-- so many plain instructions
+pub ran_matches : (l : Placed) (p : Pid) (k : ℕ) (y : Process) (q : List Message) (m : Machine) → l.processes p ≡ Some (with_queue y q) → if_ready y y.status ≡ Some y → plain_steps k (machine_of y) ≡ Some m
+    → ran l p k ≡ Some (with_process l p (Some (with_queue (with_machine y m) q)))
+ran_matches l p k y q m there ready plain =
+    ap (λ (o : Option Process). bind o (λ (z : Process). bind (plain_steps k (machine_of z)) (λ (n : Machine). Some (with_process l p (Some (with_machine z n)))))) (runs_with l p y q there ready)
+    ∙ ap (λ (o : Option Machine). bind o (λ (n : Machine). Some (with_process l p (Some (with_machine (with_queue y q) n))))) plain
+
+-- a call, or a fault
+abbrev pub acted_with : List Message → Acted → Acted
+acted_with q w = record { process = option_map (λ (z : Process). with_queue z q) w.process; message = w.message }
+
+after_with : (c : Called) (x : Process) (q : List Message) → after_call c (with_queue x q) ≡ acted_with q (after_call c x)
+after_with (called.Replied c) x q = refl
+after_with (called.Sent m) x q = refl
+after_with (called.Moving m) x q = refl
+after_with called.Waits x q = refl
+after_with (called.Out w) x q = refl
+after_with (called.Ended y) x q = refl
+
+acts_by : (here : ℕ) (l : Placed) (p : Pid) (y : Process) (q : List Message) (w : Acted) → l.processes p ≡ Some (with_queue y q) → if_ready y y.status ≡ Some y → acted here (with_queue y q) (instruction y.regs y.memory) ≡ Some w → acts here l p ≡ Some (with_acted l p w)
+acts_by here l p y q w there ready e =
+    ap (λ (o : Option Process). bind o (λ (z : Process). bind (acted here z (instruction z.regs z.memory)) (λ (d : Acted). Some (with_acted l p d)))) (runs_with l p y q there ready)
+    ∙ ap (λ (o : Option Acted). bind o (λ (d : Acted). Some (with_acted l p d))) e
+
+pub call_matches : (here : ℕ) (l : Placed) (p : Pid) (y : Process) (q : List Message) (n : ℕ) (regs : Regs) → l.processes p ≡ Some (with_queue y q) → if_ready y y.status ≡ Some y → instruction y.regs y.memory ≡ row.Calls n regs
+    → acts here l p ≡ Some (with_acted l p (acted_with q (after_done (calls here (record y { regs = regs }) n))))
+call_matches here l p y q n regs there ready is =
+    let d = calls here (record y { regs = regs }) n in
+    acts_by here l p y q (acted_with q (after_done d)) there ready
+    (ap (acted here (with_queue y q)) is ∙ ap (λ (z : Done). Some (after_done z)) (calls_with here (record y { regs = regs }) n q) ∙ ap Some (after_with d.called d.process q))
+
+pub fault_matches : (here : ℕ) (l : Placed) (p : Pid) (y : Process) (q : List Message) (f : Fault) → l.processes p ≡ Some (with_queue y q) → if_ready y y.status ≡ Some y → instruction y.regs y.memory ≡ row.Faults f
+    → acts here l p ≡ Some (with_process l p None)
+fault_matches here l p y q f there ready is =
+    let w : Acted = record { process = None; message = None } in acts_by here l p y q w there ready (ap (acted here (with_queue y q)) is)
+
+-- a receive that ends with the message at a place of the machine's queue
+pub record Ends (l : Placed) (p : Pid) (id : MsgId) (d : Completion) : Type 0 where
+  pub queue : List Message
+  pub is : completed l p id ≡ Some (record { completed = d.completed; process = with_queue d.process queue })
+
+pub completed_matches : (l : Placed) (p : Pid) (id : MsgId) (y : Process) (q : List Message) (place : ℕ) (m : Message) (d : Completion) → l.processes p ≡ Some (with_queue y q) → l.bag id ≡ Some m → completion y place y.status (Some m) ≡ Some d → Ends l p id d
+completed_matches l p id y q place m d there found e =
+    let plain = completion_is y y.queue place y.status (Some m) in
+    let (c, first, last) = of_map (completion_with y.queue place) (completion y 0 y.status (Some m)) d (sym e ∙ plain) in
+    let r = queue_after c.completed q 0 in
+    record {
+      queue = r;
+      is = ap (λ (o : Option Process). bind o (λ (z : Process). bind (l.bag id) (λ (n : Message). completion z 0 z.status (Some n)))) there
+          ∙ ap (λ (o : Option Message). bind o (λ (n : Message). completion (with_queue y q) 0 y.status (Some n))) found
+          ∙ completion_is y q 0 y.status (Some m) ∙ ap (option_map (completion_with q 0)) first
+          ∙ ap (λ (z : Completion). Some (record { completed = z.completed; process = with_queue z.process r })) last;
+    }
+
+-- a piece that is served, and one that lands
+pub answers_match : (here : ℕ) (l : Placed) (m a : Message) (y : Process) (q : List Message) → serving_answer here y m ≡ Some a
+    → answers here l m (with_queue y q) ≡ Some (with_sent (with_process l m.to.pid (Some (with_queue (after_serving y m.what) q))) (Some a))
+answers_match here l m a y q e =
+    ap (λ (o : Option Message). bind o (λ (z : Message). Some (with_sent (with_process l m.to.pid (Some (after_serving (with_queue y q) m.what))) (Some z)))) (serving_with here y m q ∙ e)
+    ∙ ap (λ (z : Process). Some (with_sent (with_process l m.to.pid (Some z)) (Some a))) (after_serving_with y m.what q)
+
+pub lands_match : (here : ℕ) (l : Placed) (m : Message) (y : Process) (q : List Message) (d : Landing) → landing here y m.what y.status ≡ Some d → lands here l m (with_queue y q) ≡ Some (after_landing l m.to.pid d.landed (with_queue d.process q))
+lands_match here l m y q d e =
+    ap (λ (o : Option Landing). bind o (λ (z : Landing). Some (after_landing l m.to.pid z.landed z.process))) (landing_is here y m.what y.status q ∙ ap (option_map (landing_with q)) e)

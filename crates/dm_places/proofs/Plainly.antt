@@ -1,0 +1,60 @@
+-- The kernel with places without the messages that machines' kernels send themselves: it mirrors the same point.
+use Rattle.std.proofs.Common.{◌≡◌, refl, ap, ◌∙◌}
+use Rattle.std.specs.declared.option.Option.{Option}
+use Rattle.std.specs.declared.option.Option.TheVariants.{None, Some}
+use Rattle.dm_message.specs.declared.MsgId.{MsgId}
+use Rattle.dm_message.specs.declared.Message.{Message}
+use Rattle.dm_message.specs.Plain.{PlainWhat, plain_message, plain_what, with_what}
+use Rattle.dm_onekernel.specs.Kernel.{OneKernel}
+use Rattle.dm_onekernel.specs.Options.{bind}
+use Rattle.dm_rule.specs.View.{View}
+use Rattle.dm_rule.specs.Addresses.{Addresses}
+use Rattle.dm_places.specs.Placed.{Placed, Mirrors}
+
+abbrev if_plain : Message → Option PlainWhat → Option Message
+if_plain m None = None
+if_plain m (Some w) = Some m
+
+abbrev kept : Option Message → Option Message
+kept None = None
+kept (Some m) = if_plain m (plain_what m.what)
+
+abbrev pub without_own : Placed → Placed
+without_own l = record l { bag = λ i. kept (l.bag i) }
+
+means_if : (m : Message) (o : Option PlainWhat) → plain_what m.what ≡ o → bind (if_plain m o) plain_message ≡ with_what m o
+means_if m None e = refl
+means_if m (Some w) e = ap (with_what m) e
+
+means_same : (o : Option Message) → bind (kept o) plain_message ≡ bind o plain_message
+means_same None = refl
+means_same (Some m) = means_if m (plain_what m.what) refl
+
+is_if : (m x : Message) (o : Option PlainWhat) → if_plain m o ≡ Some x → Some m ≡ Some x
+is_if m x None e = cc
+is_if m x (Some w) e = e
+
+is_there : (o : Option Message) (x : Message) → kept o ≡ Some x → o ≡ Some x
+is_there None x e = e
+is_there (Some m) x e = is_if m x (plain_what m.what) e
+
+gone_if : (m : Message) (o : Option PlainWhat) → with_what m o ≡ None → if_plain m o ≡ None
+gone_if m None e = refl
+gone_if m (Some w) e = cc
+
+gone : (o : Option Message) → bind o plain_message ≡ None → kept o ≡ None
+gone None e = refl
+gone (Some m) e = gone_if m (plain_what m.what) e
+
+pub without_own_mirrors : (s : OneKernel) (v : View) (a : Addresses) (l : Placed) → Mirrors s v a l → Mirrors s v a (without_own l)
+without_own_mirrors s v a l h =
+    let k = h.plain in
+    let g = h.places in
+    record {
+      plain = record { processes = k.processes; bag = λ i. means_same (l.bag i) ∙ k.bag i; board = k.board; manager = k.manager; machines = k.machines; images = k.images };
+      places = record { process = g.process; message = λ i m e. g.message i m (is_there (l.bag i) m e); name = g.name; child = g.child; answer = g.answer };
+    }
+
+-- none is left that isn't the kernel's
+pub none_own : (s : OneKernel) (v : View) (a : Addresses) (l : Placed) (i : MsgId) → s.bag i ≡ None → Mirrors s v a l → (without_own l).bag i ≡ None
+none_own s v a l i none h = gone (l.bag i) (h.plain.bag i ∙ none)

@@ -1,0 +1,104 @@
+-- Where a run begins, the boot file's processes with their links mirror the first point.
+use Rattle.std.proofs.Common.{◌≡◌, ℕ, zero, suc, ◌-◌, Bool, true, false, List, [], ◌∷◌, length, refl, ap, ◌∙◌, sym, subst, inl, inr}
+use Rattle.std.specs.Prelude.{if◌then◌else◌, map, option_map, slice_get}
+use Rattle.std.specs.declared.option.Option.{Option}
+use Rattle.std.specs.declared.option.Option.TheVariants.{None, Some}
+use Rattle.std.proofs.lemmas.Bool.{cases_Bool}
+use Rattle.dm_link.specs.declared.Pid.{Pid}
+use Rattle.dm_link.specs.declared.Addr.{Addr}
+use Rattle.dm_link.specs.declared.Link.{Link}
+use Rattle.dm_link.specs.Names.{pid_eq, place_of}
+use Rattle.dm_link.specs.Plain.{plain_link}
+use Rattle.dm_process.specs.declared.process.Process.{Process}
+use Rattle.dm_process.specs.Begun.{begun}
+use Rattle.dm_onekernel.specs.declared.boot.BootImage.{BootImage}
+use Rattle.dm_onekernel.specs.declared.boot.BootProcess.{BootProcess}
+use Rattle.dm_onekernel.specs.declared.boot.Boot.{Boot}
+use Rattle.dm_onekernel.specs.Boot.{slots_of}
+use Rattle.dm_onekernel.specs.Kernel.{Alive, Life}
+use Rattle.dm_onekernel.specs.Plain.{plain_process}
+use Rattle.dm_onekernel.specs.Start as one
+use Rattle.dm_onekernel.specs.Start.{memory_of, slots_with}
+use Rattle.dm_onekernel.specs.Step as kernel
+use Rattle.dm_procman.specs.Managing.{child_of, plain_child}
+use Rattle.dm_procman.specs.Taking.{child_numbered}
+use Rattle.dm_laws.proofs.Equal.{pid_eq-is}
+use Rattle.dm_rule.specs.View.{first_view}
+use Rattle.dm_rule.specs.Addresses.{first_addresses, home_of, links_at, nth_child, place_in, unmoved}
+use Rattle.dm_places.specs.Placed.{MirrorsProcess}
+use Rattle.dm_places.specs.PlacedStart.{started, started_at}
+use Rattle.dm_places.specs.Laws.{StartMirrors}
+use Rattle.dm_places.proofs.Creates.{begun_link, begun_plainly}
+
+-- without places
+started_plainly_of : (b : Boot) (p : BootProcess) (o : Option BootImage)
+    → kernel.alive (option_map (λ image. Alive (one.begun b.format image (map plain_link p.links))) o)
+    ≡ option_map plain_process (option_map (λ image. begun p.pid (memory_of image) (slots_with (slots_of b.format) p.links)) o)
+started_plainly_of b p None = refl
+started_plainly_of b p (Some image) = ap Some (begun_plainly b.format p.pid image p.links)
+
+started_if : (b : Boot) (p : BootProcess) (c : Bool) (x : Option Life) (y : Option Process) → kernel.alive x ≡ option_map plain_process y
+    → kernel.alive (if c then one.first_life b p else x) ≡ option_map plain_process (if c then started b p else y)
+started_if b p true x y e = started_plainly_of b p (slice_get b.images p.image)
+started_if b p false x y e = e
+
+started_plainly : (b : Boot) (ps : List BootProcess) (q : Pid) → kernel.alive (one.life_at b ps q) ≡ option_map plain_process (started_at b ps q)
+started_plainly b [] q = refl
+started_plainly b (p ∷ ps) q = started_if b p (pid_eq p.pid q) (one.life_at b ps q) (started_at b ps q) (started_plainly b ps q)
+
+children_plainly : (ps : List BootProcess) → map plain_child (map child_of ps) ≡ map (λ (p : BootProcess). p.pid) ps
+children_plainly [] = refl
+children_plainly (p ∷ ps) = ap (λ (qs : List Pid). p.pid ∷ qs) (children_plainly ps)
+
+-- its links are the file's
+begun_kept : (b : Boot) (p : BootProcess) (q : Pid) (x : Process) (o : Option BootImage) → p.pid ≡ q → links_at b.processes q ≡ p.links
+    → option_map (λ image. begun p.pid (memory_of image) (slots_with (slots_of b.format) p.links)) o ≡ Some x → MirrorsProcess (first_view b) (first_addresses b) q x
+begun_kept b p q x None name at e = cc
+begun_kept b p q x (Some image) name at e =
+    let f : begun p.pid (memory_of image) (slots_with (slots_of b.format) p.links) ≡ x = cc in
+    subst (MirrorsProcess (first_view b) (first_addresses b) q) f
+    (record {
+      pid = name;
+      moves = refl;
+      slots = λ k w there.
+          ap (λ (ls : List Link). place_in (slice_get ls k)) at ∙ ap place_in (begun_link p.links (slots_of b.format - length p.links) k w there);
+      owner = λ o moving. absurd (let g : None ≡ Some o = moving in cc);
+    })
+
+started_kept : (b : Boot) (ps : List BootProcess) (q : Pid) (x : Process) → links_at b.processes q ≡ links_at ps q → started_at b ps q ≡ Some x → MirrorsProcess (first_view b) (first_addresses b) q x
+started_kept b [] q x at e = cc
+started_kept b (p ∷ ps) q x at e = elim (cases_Bool (pid_eq p.pid q)) [
+  | inl same ↦
+      begun_kept b p q x (slice_get b.images p.image) (pid_eq-is p.pid q same) (at ∙ ap (λ (c : Bool). if c then p.links else links_at ps q) same)
+      (sym (ap (λ (c : Bool). if c then started b p else started_at b ps q) same) ∙ e)
+  | inr apart ↦
+      started_kept b ps q x (at ∙ ap (λ (c : Bool). if c then p.links else links_at ps q) apart) (sym (ap (λ (c : Bool). if c then started b p else started_at b ps q) apart) ∙ e)
+]
+
+child_kept_of : (ps : List BootProcess) (n : ℕ) (c : Addr) → slice_get (map child_of ps) n ≡ Some c → unmoved (home_of (slice_get ps n)) ≡ place_of c
+child_kept_of [] n c e = cc
+child_kept_of (p ∷ ps) zero c e = let f : child_of p ≡ c = cc in ap place_of f
+child_kept_of (p ∷ ps) (suc n) c e = child_kept_of ps n c e
+
+child_kept : (ps : List BootProcess) (n : ℕ) (c : Addr) → child_numbered (map child_of ps) n ≡ Some c → unmoved (home_of (nth_child ps n)) ≡ place_of c
+child_kept ps zero c e = cc
+child_kept ps (suc n) c e = child_kept_of ps n c e
+
+pub start_mirrors : StartMirrors
+start_mirrors b = record {
+  plain = record {
+    processes = started_plainly b b.processes;
+    bag = λ i. refl;
+    board = refl;
+    manager = ap (λ (cs : List Pid). record { children = cs; pending = []; sent = 0 }) (children_plainly b.processes);
+    machines = refl;
+    images = refl;
+  };
+  places = record {
+    process = λ q x e. started_kept b b.processes q x refl e;
+    message = λ i m e. absurd (let f : None ≡ Some m = e in cc);
+    name = λ n k e. absurd (let f : None ≡ Some k = e in cc);
+    child = λ n c e. child_kept b.processes n c e;
+    answer = λ n r e. absurd (let f : None ≡ Some r = e in cc);
+  };
+}

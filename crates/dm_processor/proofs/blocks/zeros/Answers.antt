@@ -1,0 +1,12 @@
+-- Blocks of zeros are whole, and their bytes are zeros.
+use Rattle.std.proofs.Common.{arith}
+use Rattle.std.proofs.lemmas.Grind.{common_steps}
+use Rattle.dm_processor.proofs.Concat.{concat-zeros, AreWhole-zeros}
+use Rattle.dm_processor.proofs.blocks.zeros.Goals as goal
+
+pub invariant_of-result : goal.invariant_of-result
+invariant_of-result c =
+    rw c.in_ok-blocks.ensures (grind (arith, common_steps, AreWhole-zeros c.from.result), grind (arith, common_steps), AreWhole-zeros c.from.result)
+
+pub returns : goal.returns
+returns c = record { ok = rw c.in_ok-blocks.ensures (grind (arith, concat-zeros c.from.result)) }

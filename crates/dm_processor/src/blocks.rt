@@ -1,0 +1,219 @@
+//! A memory of blocks.
+ghost use Rattle.std.specs.Prelude.{◌≡◌, ◌+◌, ◌-◌, ◌*◌, ◌%◌, ◌<◌, ◌≤◌, ◌++◌, IfOk, drop, length, replicate, slice_index, slice_set, take};
+ghost use Rattle.std.specs.List.{concat};
+ghost use Rattle.dm_processor.specs.WholeBlocks.{AreWhole};
+
+use crate::flat_bytes::write_at;
+use crate::storage::Cells;
+use dm_memory::NoMemory;
+use std::alloc::Global;
+use std::marker::Model;
+
+/// How many bytes a block has.
+const BLOCK: usize = 256;
+
+/// The memory of a process: 1 to 256 blocks of 256 bytes.
+#[derive(Drop)]
+pub struct Memory {
+    blocks: Vec<[u8; 256]>,
+}
+
+impl Model for Memory {
+    ghost use Rattle.std.specs.Prelude.{List, ℕ};
+
+    ghost Value = { List ℕ };
+
+    ghost use Rattle.std.specs.List.{concat};
+    ghost use Rattle.dm_processor.specs.WholeBlocks.{IsMemory};
+
+    ghost view = { λ m. concat m.blocks.items };
+
+    ghost invariant = { λ m. IsMemory m.blocks.items };
+}
+
+/// The byte at a place in a list of blocks.
+#[tactic(auto, using(crate::proofs::Concat::places))]
+fn byte_at(blocks: &[[u8; 256]], at: usize) -> u8
+    requires whole { AreWhole blocks.now }
+    requires within { at < length (concat blocks.now) }
+    ensures { result ≡ slice_index (concat blocks.now) at }
+{
+    blocks[at / BLOCK][at % BLOCK]
+}
+
+/// Changes the byte at a place in a list of blocks.
+#[tactic(auto, using(crate::proofs::Concat::places))]
+fn set_byte_at(blocks: &mut [[u8; 256]], at: usize, value: u8)
+    requires whole { AreWhole blocks.old }
+    requires within { at < length (concat blocks.old) }
+    ensures bytes { concat blocks.new ≡ slice_set (concat blocks.old) at value }
+    ensures whole { AreWhole blocks.new }
+{
+    blocks[at / BLOCK][at % BLOCK] = value;
+}
+
+/// The rest of a block from a place in a list of blocks on.
+#[tactic(auto, using(crate::proofs::Concat::places))]
+fn rest_at(blocks: &[[u8; 256]], at: usize) -> &[u8]
+    requires whole { AreWhole blocks.now }
+    requires within { at < length (concat blocks.now) }
+    ensures len { length result.now ≡ 256 - at % 256 }
+    ensures bytes { result.now ≡ take (256 - at % 256) (drop at (concat blocks.now)) }
+{
+    &blocks[at / BLOCK][at % BLOCK..]
+}
+
+/// Copies as much of a slice as its block has room for to a place in a list of blocks, and says how much.
+#[tactic(auto, using(crate::proofs::Concat::places))]
+fn write_part(blocks: &mut [[u8; 256]], at: usize, from: &[u8]) -> usize
+    requires whole { AreWhole blocks.old }
+    requires within { at + length from.now ≤ length (concat blocks.old) }
+    requires some { 0 < length from.now }
+    ensures some { 0 < result }
+    ensures part { result ≤ length from.now }
+    ensures bytes { concat blocks.new ≡ take at (concat blocks.old) ++ take result from.now ++ drop (at + result) (concat blocks.old) }
+    ensures whole { AreWhole blocks.new }
+{
+    let n = from.len().min(BLOCK - at % BLOCK);
+    write_at(&mut blocks[at / BLOCK], at % BLOCK, &from[..n]);
+    n
+}
+
+/// A block of a list of blocks.
+#[tactic(auto, using(crate::proofs::Concat::places))]
+fn block_at(blocks: &[[u8; 256]], k: usize) -> &[u8; 256]
+    requires whole { AreWhole blocks.now }
+    requires within { k < length blocks.now }
+    ensures { result.now ≡ take 256 (drop (256 * k) (concat blocks.now)) }
+{
+    &blocks[k]
+}
+
+/// Changes a block of a list of blocks.
+#[tactic(auto, using(crate::proofs::Concat::places))]
+fn put_block_at(blocks: &mut [[u8; 256]], k: usize, block: &[u8; 256])
+    requires whole { AreWhole blocks.old }
+    requires within { k < length blocks.old }
+    ensures bytes { concat blocks.new ≡ take (256 * k) (concat blocks.old) ++ block.now ++ drop (256 * k + 256) (concat blocks.old) }
+    ensures whole { AreWhole blocks.new }
+{
+    blocks[k] = *block;
+}
+
+/// So many blocks of zeros.
+fn zero_blocks(alloc: Global, n: usize) -> Result<Vec<[u8; 256]>, NoMemory>
+    ensures { IfOk result (λ v. v.items ≡ replicate n (replicate 256 0)) }
+{
+    let mut blocks = Vec::with_capacity(alloc, n)?;
+    while blocks.len() < n {
+        blocks.push([0; 256])?;
+    }
+    Ok(blocks)
+}
+
+#[tactic(auto, using(crate::proofs::Concat::places))]
+impl Memory {
+    /// An image, and zeros up to the end of so many blocks.
+    pub fn from_image(alloc: Global, image: &[u8], blocks: u16) -> Result<Memory, NoMemory>
+        requires least { 1 ≤ blocks }
+        requires most { blocks ≤ 256 }
+        requires fits { length image.now ≤ 256 * blocks }
+        ensures ok { IfOk result (λ m. m ≡ image.now ++ replicate (256 * blocks - length image.now) 0) }
+    {
+        let mut memory = zeros(alloc, blocks)?;
+        memory.copy_in(0, image);
+        Ok(memory)
+    }
+
+    /// How many blocks there are: 1 to 256.
+    pub fn blocks(&self) -> u16
+        ensures all { 256 * result ≡ length self.now }
+        ensures least { 1 ≤ result }
+        ensures most { result ≤ 256 }
+    {
+        self.blocks.len() as u16
+    }
+
+    /// A block, by its number from 0.
+    pub fn block(&self, k: u8) -> &[u8; 256]
+        requires { 256 * k < length self.now }
+        ensures { result.now ≡ take 256 (drop (256 * k) self.now) }
+    {
+        block_at(&self.blocks, usize::from(k))
+    }
+
+    /// Changes a block.
+    pub fn put_block(&mut self, k: u8, block: &[u8; 256])
+        requires { 256 * k < length self.old }
+        ensures { self.new ≡ take (256 * k) self.old ++ block.now ++ drop (256 * k + 256) self.old }
+    {
+        put_block_at(&mut self.blocks, usize::from(k), block);
+    }
+}
+
+/// A memory of zeros.
+#[tactic(auto, using(crate::proofs::Concat::places))]
+fn zeros(alloc: Global, blocks: u16) -> Result<Memory, NoMemory>
+    requires least { 1 ≤ blocks }
+    requires most { blocks ≤ 256 }
+    ensures ok { IfOk result (λ m. m ≡ replicate (256 * blocks) 0) }
+{
+    let blocks = zero_blocks(alloc, usize::from(blocks))?;
+    Ok(Memory { blocks })
+}
+
+impl Cells for Memory {
+    ghost use Rattle.std.specs.Prelude.{ℕ};
+
+    ghost bytes = { λ m. m };
+
+    fn len(&self) -> u32 {
+        256 * u32::from(self.blocks())
+    }
+
+    fn byte(&self, at: u32) -> u8 {
+        byte_at(&self.blocks, at as usize)
+    }
+
+    fn set_byte(&mut self, at: u32, value: u8) {
+        set_byte_at(&mut self.blocks, at as usize, value);
+    }
+
+    fn copy_out(&self, at: u32, into: &mut [u8]) {
+        read_at(&self.blocks, at as usize, into);
+    }
+
+    fn copy_in(&mut self, at: u32, from: &[u8]) {
+        write_all_at(&mut self.blocks, at as usize, from);
+    }
+}
+
+/// Fills a slice with the bytes from a place in a list of blocks on.
+fn read_at(blocks: &[[u8; 256]], at: usize, into: &mut [u8])
+    requires whole { AreWhole blocks.now }
+    requires few { length blocks.now ≤ 256 }
+    requires within { at + length into.old ≤ length (concat blocks.now) }
+    ensures { into.new ≡ take (length into.old) (drop at (concat blocks.now)) }
+{
+    let mut done = 0;
+    while done < into.len() {
+        let rest = rest_at(blocks, at + done);
+        let n = rest.len().min(into.len() - done);
+        write_at(into, done, &rest[..n]);
+        done += n;
+    }
+}
+
+/// Copies all of a slice to a place in a list of blocks.
+fn write_all_at(blocks: &mut [[u8; 256]], at: usize, from: &[u8])
+    requires whole { AreWhole blocks.old }
+    requires few { length blocks.old ≤ 256 }
+    requires within { at + length from.now ≤ length (concat blocks.old) }
+    ensures bytes { concat blocks.new ≡ take at (concat blocks.old) ++ from.now ++ drop (at + length from.now) (concat blocks.old) }
+    ensures whole { AreWhole blocks.new }
+{
+    let mut done = 0;
+    while done < from.len() {
+        done += write_part(blocks, at + done, &from[done..]);
+    }
+}

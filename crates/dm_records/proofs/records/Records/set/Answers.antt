@@ -1,0 +1,8 @@
+use Rattle.std.proofs.Common.{rules}
+use Rattle.dm_records.specs.Records.{at}
+use Rattle.dm_records.proofs.Kept.{still_some}
+use Rattle.dm_records.proofs.records.Records.set.Goals as goal
+
+pub returns-in-Ok-clause-grows : goal.returns-in-Ok-clause-grows
+unfolding at
+returns-in-Ok-clause-grows g c = λ q s. still_some (at c.args.self.now) _ c.args.pid q c.args.entry (search rules) s

@@ -1,0 +1,69 @@
+-- What a machine's records say, as a function of the process.
+use Rattle.std.specs.Prelude.{if◌then◌else◌, IsSome}
+use Rattle.std.specs.declared.option.Option.{Option}
+use Rattle.std.specs.declared.option.Option.TheVariants.{None, Some}
+use Rattle.std.specs.BTreeMap.{get}
+use Rattle.dm_link.specs.declared.Pid.{Pid}
+use Rattle.dm_link.specs.Names.{pid_eq, pid_cmp}
+use Rattle.dm_records.specs.declared.record.Record.{Record}
+use Rattle.dm_records.specs.declared.record.Record.TheVariants.{Here, Frozen, Incoming, Forward, Ended}
+use Rattle.dm_records.specs.declared.record.Whereabouts.{Whereabouts}
+use Rattle.dm_records.specs.declared.record.Whereabouts.TheVariants as where_
+use Rattle.dm_records.specs.declared.records.Records.{Records}
+
+-- the record of a process
+unfoldable pub at : {H L A E : Type 0} → Records H L A E → Pid → Option (Record H L A E)
+at records q = get pid_cmp records.map q
+
+-- the records with that of p set
+abbrev pub with_record : {H L A E : Type 0} → (Pid → Option (Record H L A E)) → Pid → Record H L A E → Pid → Option (Record H L A E)
+with_record records p entry q = if pid_eq p q then Some entry else records q
+
+-- where a record says that its process is
+abbrev pub whereabouts_of : {H L A E : Type 0} → Record H L A E → Whereabouts
+whereabouts_of (Here process) = where_.Here
+whereabouts_of (Frozen leaving) = where_.Frozen
+whereabouts_of (Incoming arriving) = where_.Incoming
+whereabouts_of (Forward machine moves) = where_.Forward machine moves
+whereabouts_of (Ended why) = where_.Ended
+
+-- the process, where it is here
+abbrev pub process_of : {H L A E : Type 0} → Record H L A E → Option H
+process_of (Here process) = Some process
+process_of (Frozen leaving) = None
+process_of (Incoming arriving) = None
+process_of (Forward machine moves) = None
+process_of (Ended why) = None
+
+-- the process, where it leaves
+abbrev pub leaving_of : {H L A E : Type 0} → Record H L A E → Option L
+leaving_of (Here process) = None
+leaving_of (Frozen leaving) = Some leaving
+leaving_of (Incoming arriving) = None
+leaving_of (Forward machine moves) = None
+leaving_of (Ended why) = None
+
+-- what has come of the process, where parts have come
+abbrev pub arriving_of : {H L A E : Type 0} → Record H L A E → Option A
+arriving_of (Here process) = None
+arriving_of (Frozen leaving) = None
+arriving_of (Incoming arriving) = Some arriving
+arriving_of (Forward machine moves) = None
+arriving_of (Ended why) = None
+
+-- the same of a record that there may be
+abbrev pub here_of : {H L A E : Type 0} → Option (Record H L A E) → Option H
+here_of None = None
+here_of (Some entry) = process_of entry
+
+abbrev pub frozen_of : {H L A E : Type 0} → Option (Record H L A E) → Option L
+frozen_of None = None
+frozen_of (Some entry) = leaving_of entry
+
+abbrev pub incoming_of : {H L A E : Type 0} → Option (Record H L A E) → Option A
+incoming_of None = None
+incoming_of (Some entry) = arriving_of entry
+
+-- each process that had a record has one
+abbrev pub Grows : {H L A E : Type 0} → (Pid → Option (Record H L A E)) → (Pid → Option (Record H L A E)) → Type 0
+Grows before after = (q : Pid) → IsSome (before q) → IsSome (after q)

@@ -1,0 +1,89 @@
+//! What a machine knows of one process.
+ghost use Rattle.std.specs.Prelude.{◌≡◌};
+ghost use Rattle.std.specs.Borrow.{sem};
+ghost use Rattle.std.specs.Option.{option_copied_mut};
+ghost use Rattle.dm_records.specs.Lent.{LendsArriving, LendsLeaving, LendsProcess};
+ghost use Rattle.dm_records.specs.Records.{arriving_of, leaving_of, process_of, whereabouts_of};
+
+/// What a machine knows of a process: `H` is a process that is here, `L` one that leaves, `A` one that arrives,
+/// `E` why one has ended.
+#[derive(Drop)]
+pub enum Record<H, L, A, E> {
+    /// It is here.
+    Here(H),
+    /// It is here, but leaves, and doesn't run (1983).
+    Frozen(L),
+    /// Parts of it have come from another machine (1983).
+    Incoming(A),
+    /// It has gone on to machine `at`, 0 to 15, by its move number `moves`; that is all that is kept of it (1983).
+    Forward { at: u8, moves: u32 },
+    /// It has ended here.
+    Ended(E),
+}
+
+/// Which of these a machine knows.
+#[derive(Clone, Copy, Debug, PartialEq, Eq)]
+pub enum Whereabouts {
+    Here,
+    Frozen,
+    Incoming,
+    Forward { at: u8, moves: u32 },
+    Ended,
+}
+
+impl<H, L, A, E> Record<H, L, A, E> {
+    /// Where it says that its process is.
+    pub fn whereabouts(&self) -> Whereabouts
+        ensures { result ≡ whereabouts_of self.now }
+    {
+        match self {
+            Record::Here(_) => Whereabouts::Here,
+            Record::Frozen(_) => Whereabouts::Frozen,
+            Record::Incoming(_) => Whereabouts::Incoming,
+            Record::Forward { at, moves } => Whereabouts::Forward {
+                at: *at,
+                moves: *moves,
+            },
+            Record::Ended(_) => Whereabouts::Ended,
+        }
+    }
+    /// The process, if it is here, for writing.
+    pub fn here_mut(&mut self) -> Option<&mut H>
+        ensures* writes_back { sem 𝓛 (LendsProcess H.row L.row A.row E.row self.entry result) }
+        ensures value { option_copied_mut result ≡ process_of self.old }
+    {
+        match self {
+            Record::Here(process) => Some(process),
+            Record::Frozen(_) => None,
+            Record::Incoming(_) => None,
+            Record::Forward { .. } => None,
+            Record::Ended(_) => None,
+        }
+    }
+    /// The process, if it leaves, for writing.
+    pub fn frozen_mut(&mut self) -> Option<&mut L>
+        ensures* writes_back { sem 𝓛 (LendsLeaving H.row L.row A.row E.row self.entry result) }
+        ensures value { option_copied_mut result ≡ leaving_of self.old }
+    {
+        match self {
+            Record::Here(_) => None,
+            Record::Frozen(leaving) => Some(leaving),
+            Record::Incoming(_) => None,
+            Record::Forward { .. } => None,
+            Record::Ended(_) => None,
+        }
+    }
+    /// What has come of the process, if parts have come, for writing.
+    pub fn incoming_mut(&mut self) -> Option<&mut A>
+        ensures* writes_back { sem 𝓛 (LendsArriving H.row L.row A.row E.row self.entry result) }
+        ensures value { option_copied_mut result ≡ arriving_of self.old }
+    {
+        match self {
+            Record::Here(_) => None,
+            Record::Frozen(_) => None,
+            Record::Incoming(arriving) => Some(arriving),
+            Record::Forward { .. } => None,
+            Record::Ended(_) => None,
+        }
+    }
+}

@@ -1,6 +1,0 @@
--- The lemma.
-use Rattle.dm_regs.proofs.Lengths.{instruction-lengths}
-use Rattle.dm_regs.proofs.laws.instructions_keep_lengths.Goals as goal
-
-pub returns : goal.returns
-returns c = instruction-lengths

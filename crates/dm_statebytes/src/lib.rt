@@ -1,0 +1,130 @@
+//! A process as bytes, without its memory and its queue: what a machine hands on first when a process moves.
+#![tactic(auto)]
+
+ghost use Rattle.std.specs.Prelude.{◌≡◌, ◌⊎◌, ◌≤◌, IfOk, Ok, OnOk, length};
+ghost use Rattle.dm_process.specs.Lawful.{IsLawfulProcess};
+ghost use Rattle.dm_statebytes.specs.Lawful.{IsLawfulShell};
+ghost use Rattle.dm_statebytes.specs.Rules.{number_of_rule, rule_of};
+ghost use Rattle.dm_statebytes.specs.Shell.{shell_of, shell_of_bytes, spelling};
+ghost use Rattle.dm_statebytes.specs.Widths.{FitsShell};
+
+mod reading;
+mod status;
+mod writing;
+
+use dm_link::Pid;
+use dm_linktable::Table;
+pub use dm_memory::NoMemory;
+use dm_packet::Bad;
+use dm_packet::writing::Buffer;
+use dm_process::{Process, Status};
+use dm_processor::Regs;
+use reading::state_at;
+use std::alloc::Global;
+use thiserror::Error;
+use writing::{extend_with_links, put_front, put_mask};
+
+/// The parts of a process that its state bytes carry.
+#[derive(Drop)]
+pub struct Shell {
+    pub pid: Pid,
+    /// How many blocks of 256 bytes its memory has, 1 to 256.
+    pub blocks: u16,
+    /// A stopped process isn't served.
+    pub stopped: bool,
+    pub status: Status,
+    /// How many messages it has sent.
+    pub sent: u32,
+    /// How often it has moved.
+    pub moves: u32,
+    pub regs: Regs,
+    pub table: Table,
+}
+
+/// Why some bytes are no process: the first rule that they break, from the left.
+#[derive(Clone, Copy, Debug, PartialEq, Eq, Error)]
+pub enum CarryBad {
+    /// A field's bytes are not all there.
+    #[error("bytes are missing")]
+    Missing,
+    /// The format's version isn't 3.
+    #[error("the version isn't 3")]
+    Version,
+    /// A machine is above 15.
+    #[error("no such machine")]
+    Machine,
+    /// Neither stopped nor not, no such status or direction, spare flags, or a link to a kernel.
+    #[error("a byte that stands for nothing, or flags that no link of a process has")]
+    Flags,
+    /// A number of blocks, a channel or a range outside its limits, or a link in a slot that the table doesn't have.
+    #[error("a number outside its limits")]
+    Limit,
+    /// Bytes stand after the end.
+    #[error("bytes stand after the end")]
+    Trailing,
+}
+
+impl CarryBad {
+    /// The rule's number, 1 to 6.
+    pub fn number(self) -> u8
+        ensures { result ≡ number_of_rule self }
+    {
+        match self {
+            CarryBad::Missing => 1,
+            CarryBad::Version => 2,
+            CarryBad::Machine => 3,
+            CarryBad::Flags => 4,
+            CarryBad::Limit => 5,
+            CarryBad::Trailing => 6,
+        }
+    }
+}
+
+/// The rule that a field breaks.
+fn rule_of(bad: Bad) -> CarryBad
+    ensures { result ≡ rule_of bad }
+{
+    match bad {
+        Bad::Missing => CarryBad::Missing,
+        Bad::Version => CarryBad::Version,
+        Bad::Machine => CarryBad::Machine,
+        Bad::Flags | Bad::PacketKind | Bad::MessageKind | Bad::Answer => CarryBad::Flags,
+        Bad::Limit => CarryBad::Limit,
+        Bad::Trailing => CarryBad::Trailing,
+    }
+}
+
+/// The state bytes of a process, 102 to 3,201.
+pub fn pack(alloc: Global, process: &Process) -> Result<Vec<u8>, NoMemory>
+    requires lawful { IsLawfulProcess process.now }
+    ensures ok { IfOk result (λ v. v.items ≡ spelling (shell_of process.now)) }
+    ensures size { IfOk result (λ v. (102 ≤ length v.items) × (length v.items ≤ 3201)) }
+    ensures lawful { IsLawfulShell (length process.now.table) (shell_of process.now) }
+    // What is packed is unpacked at the table's number of slots.
+    ensures again { IfOk result (λ v. shell_of_bytes v.items (length process.now.table) ≡ Ok (shell_of process.now)) }
+{
+    let mut front = Buffer::new();
+    put_front(&mut front, process);
+    put_mask(&mut front, &process.table);
+    let mut bytes = Vec::from_slice(alloc, &front)?;
+    extend_with_links(&mut bytes, &process.table)?;
+    Ok(bytes)
+}
+
+/// The process that the bytes spell, all of them, with a table of 32 or 128 slots, or the first rule from the left that
+/// they break. It takes no memory.
+pub fn unpack(bytes: &[u8], cap: u8) -> Result<Shell, CarryBad>
+    requires { (cap ≡ 32) ⊎ (cap ≡ 128) }
+    // Which process, and which rule.
+    ensures exact { result ≡ shell_of_bytes bytes.now cap }
+    // What is read is lawful, and spelled so and in no other way.
+    ensures found { IfOk result (λ s. IsLawfulShell cap s × (bytes.now ≡ spelling s)) }
+    // What is spelled so is read, where its numbers fit their fields, as those of a process that stands in memory do.
+    ensures only { (s : Shell) → IsLawfulShell cap s → FitsShell s → bytes.now ≡ spelling s → result ≡ Ok s }
+    ensures size { OnOk result (length bytes.now ≤ 3201) }
+{
+    state_at(bytes, cap)
+}
+
+#[cfg(test)]
+mod tests;

@@ -1,0 +1,6 @@
+use Rattle.std.proofs.Common.{◌≡◌, ◌++◌, take}
+use Rattle.dm_text.specs.Text.{text_of_ends}
+use Rattle.dm_text.proofs.text.write_ends.Given as goal
+
+abbrev pub invariant-loop-end : goal.invariant-loop-end
+invariant-loop-end l = l.into.items ≡ l.initial.into.items ++ text_of_ends (take l.end-index l.ends)
