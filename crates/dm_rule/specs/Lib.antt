@@ -1,4 +1,3 @@
-pub mod Sets
 pub mod View
 pub mod Holders
 pub mod Given
