@@ -1,5 +1,5 @@
 -- The text of lines spells those lines, and no others.
-use Rattle.std.proofs.Common.{◌≡◌, ℕ, suc, List, [], ◌∷◌, ◌++◌, refl, ap, sym, ◌∙◌, append_assoc, append-nil, arith, Some, None, true}
+use Rattle.std.proofs.Common.{◌≡◌, ℕ, suc, ◌==◌, if◌then◌else◌, Bool, true, false, List, [], ◌∷◌, ◌++◌, length, refl, ap, sym, ◌∙◌, append_assoc, append-nil, arith, Some, None}
 use Rattle.std.specs.List.{All}
 use Rattle.std.specs.declared.option.Option.{Option}
 use Rattle.dm_line.specs.declared.end_line.EndLine.{EndLine}
@@ -7,7 +7,7 @@ use Rattle.dm_line.specs.declared.line.Line.{Line}
 use Rattle.dm_text.specs.Ends.{end_words}
 use Rattle.dm_text.specs.Text.{words, spaced, spelled, text_of_lines, text_of_ends}
 use Rattle.dm_text.specs.Reading.{pieces}
-use Rattle.dm_text.specs.LinesOf.{line_of, line_of_words, lines_from, lines_in, lines_of, end_of, end_of_words, ends_from, Trace, led_or_ended, trace_from, trace_in, trace_of}
+use Rattle.dm_text.specs.LinesOf.{line_of, line_of_words, lines_from, lines_in, lines_of, end_of, end_of_words, ends_from, Trace, at_end, led_or_ended, trace_from, trace_in, trace_of}
 use Rattle.dm_text.specs.Fits.{LineFits, EndFits}
 use Rattle.dm_text.proofs.Pieces.{free, free-above, free-append, above-le, AreWords, pieces-free, pieces-next}
 use Rattle.dm_text.proofs.LineBack.{words-are, words-back}
@@ -109,8 +109,12 @@ before_trace : (w : List ℕ) (l : Line) (ps : List (List ℕ)) (t : Trace) → 
 before_trace w l [] t e f = absurd (cc)
 before_trace w l (p ∷ ps) t e f = rw (e, f) refl
 
+alone : (b : Bool) (es : List EndLine) → (if b then Some [] else None) ≡ Some es → (if b then Some (at_end []) else None) ≡ Some (at_end es)
+alone true es f = ap (λ (x : List EndLine). Some (at_end x)) (cc)
+alone false es f = absurd (cc)
+
 ends_alone : (w : List ℕ) (ps : List (List ℕ)) (es : List EndLine) → line_of w ≡ None → ends_from w ps ≡ Some es → trace_from w ps ≡ Some (record { lines = []; ends = es })
-ends_alone w [] es e f = absurd (cc)
+ends_alone w [] es e f = alone (length w == 0) es f
 ends_alone w (p ∷ ps) es e f = rw (e, f) refl
 
 pub trace-back : (ls : List Line) (es : List EndLine) → All LineFits ls → All EndFits es → trace_of (text_of_lines ls ++ text_of_ends es) ≡ Some (record { lines = ls; ends = es })

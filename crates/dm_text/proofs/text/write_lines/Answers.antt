@@ -1,5 +1,3 @@
-use Rattle.std.proofs.Common.{◌++◌, ap, ◌∙◌}
-use Rattle.dm_text.specs.Text.{text}
 use Rattle.dm_text.proofs.Lines.{lines-none, lines-more}
 use Rattle.dm_text.proofs.text.write_lines.Goals as goal
 
@@ -7,4 +5,4 @@ pub loop-line-init : goal.loop-line-init
 loop-line-init c = lines-none c.args.into.now.items c.args.lines.now
 
 pub loop-line-preserved : goal.loop-line-preserved
-loop-line-preserved c = lines-more _ _ _ _ _ _ c.loop-line-test.true c.loop-line.invariant (c.in_default.ensures.written ∙ ap (λ l. c.loop-line.into.items ++ text l) c.line-item.is)
+loop-line-preserved c = lines-more _ _ _ _ _ _ c.loop-line-test.true c.loop-line.invariant c.in_default.ensures.written
