@@ -1,4 +1,4 @@
--- Words that the command takes give both names.
+-- Words that the command line takes ask for something.
 use Rattle.std.proofs.Common.{◌≡◌, ◌<◌, ◌&&◌, ◌||◌, ◌⊎◌, Bool, true, false, not, ℕ, zero, suc, List, [], ◌∷◌, ◌++◌, length, length-append, refl, ap, ap₂, sym, subst, ◌∙◌, inl, inr, arith, cond, codes, None, Some, is_some, option_map, if◌then◌else◌, drop}
 use Rattle.std.specs.Prelude.{⊤, encode_utf8, find, fold, option_and_then, slice_get}
 use Rattle.std.specs.declared.option.Option.{Option}
@@ -10,13 +10,15 @@ use Rattle.clap.specs.Walk.{Held, Names, Outcome, Row, Rule, Step, Text, Waiting
 use Rattle.clap.specs.Kinds.{Kinds, check_kinds, or_else, range_kinds}
 use Rattle.clap.specs.Takes.{is_given}
 use Rattle.clap.specs.Faults.{action_fault, bundle_step_fault, check_fault, defaults_fault, entered_fault, fault_of, flag_word_fault, flags_fault, level_fault, long_fault, option_fault, other_fault, positional_fault, react_fault, settle_fault, short_fault, step_fault, stray_fault, use_fault, walk_fault, word_fault}
-use Rattle.clap.specs.Simple.{Shape, argument_words, built, entered, label_of, names_of as labels_of, rows_at}
+use Rattle.clap.specs.Simple.{Shape, argument_words, built, entered, label_of, names_of as labels_of, rows_at, subcommand_of}
 use Rattle.clap.specs.declared.builder.action.ArgAction.TheVariants as action
 use Rattle.clap.specs.declared.error.kind.ErrorKind.TheVariants as kind
 use Rattle.clap.specs.declared.parser.matches.ValueSource.{ValueSource}
 use Rattle.clap.specs.declared.parser.matches.ValueSource.TheVariants.{DefaultValue, CommandLine}
 use Rattle.clap.specs.declared.builder.value_parser.Reading.{Reading}
-use Rattle.dm_cli.specs.Words.{IsTaken, both, demosmp, files_in, matches_in, names_of, run_command}
+use Rattle.dm_cli.specs.Request.{Request, Run}
+use Rattle.dm_cli.specs.RunWords.{both, run_command}
+use Rattle.dm_cli.specs.Words.{IsTaken, demosmp, request_at, request_of}
 
 -- where two steps pass, each does
 both_pass : (a b : Kinds) → or_else a b ≡ [] → (a ≡ []) × (b ≡ [])
@@ -267,9 +269,13 @@ level_passes s names h words has_subcommand below e =
     let settles = both_pass settle (or_else defaults check) under.1 in
     record { walks = walks.0; under = under.0; settles = settles.0; checks = (both_pass defaults check settles.1).1 }
 
--- ---- the command
+-- ---- the commands
 
--- the subcommand as it is read
+-- a command whose words pass asks for something
+abbrev Asks : Shape → Type 0
+Asks s = (words : List Text) → level_fault s [] nothing_held words false [] ≡ [] → (r : Request) × (request_at (rows_at s words) ≡ Some r)
+
+-- the first subcommand as it is read
 abbrev first_of_all : List Shape → Shape
 first_of_all [] = run_command
 first_of_all (s ∷ ss) = s
@@ -285,8 +291,8 @@ both_given true true e = (refl, refl)
 both_given true false e = cc
 both_given false y e = cc
 
-run_given : (words : List Text) → level_fault run_built [] nothing_held words false [] ≡ [] → (n : Text × Text) × (files_in (rows_after run_built.rules [] words) ≡ Some n)
-run_given words e =
+run_asks : Asks run_built
+run_asks words e =
     let end : Held = (walk run_built.rules [] nothing_held words).held in
     let rows : List Row = finished run_built.rules end in
     let passes = level_passes run_built [] nothing_held words false [] e in
@@ -295,15 +301,37 @@ run_given words e =
     let given = both_given (is_given (codes "boot") rows) (is_given (codes "schedule") rows) passes.checks in
     let boot = given_first (codes "boot") rows full given.0 in
     let schedule = given_first (codes "schedule") rows full given.1 in
-    ((boot.0, schedule.0), ap₂ both boot.1 schedule.1)
+    (Run boot.0 schedule.0, ap₂ both boot.1 schedule.1)
 
-entered_names : (stop : Option (Text × List Text)) → is_some (entered (built demosmp) stop) ≡ true → entered_fault (built demosmp) stop ≡ [] → (n : Text × Text) × (option_and_then files_in (option_map (λ found. found.1) (entered (built demosmp) stop)) ≡ Some n)
-entered_names None has below = cc
-entered_names (Some p) has below = go (answers_to p.0 (label_of run_built)) has below
+-- ---- the command line
+
+abbrev AllAsk : List Shape → Type 0
+AllAsk [] = ⊤
+AllAsk (s ∷ ss) = Asks s × AllAsk ss
+
+-- a row a command
+all_ask : AllAsk (built demosmp).subs
+all_ask = (run_asks, tt)
+
+abbrev AsksIf : Option Shape → Type 0
+AsksIf None = ⊤
+AsksIf (Some s) = Asks s
+
+found_asks : (test : Shape → Bool) (ss : List Shape) → AllAsk ss → AsksIf (find test ss)
+found_asks test [] all = tt
+found_asks test (s ∷ ss) all = go (test s) (found_asks test ss all.1)
   where
-    go : (b : Bool) → is_some (option_map (λ s. rows_at s p.1) (cond b (Some run_built) None)) ≡ true → option_map_or (λ s. level_fault s [] nothing_held p.1 false []) (cond b (Some run_built) None) [] ≡ [] → (n : Text × Text) × (option_and_then files_in (option_map (λ found. found.1) (option_map (λ s. rows_at s p.1) (cond b (Some run_built) None))) ≡ Some n)
-    go true has below = run_given p.1 below
-    go false has below = cc
+    go : (b : Bool) → AsksIf (find test ss) → AsksIf (cond b (Some s) (find test ss))
+    go true later = all.0
+    go false later = later
+
+entered_asks : (stop : Option (Text × List Text)) → is_some (entered (built demosmp) stop) ≡ true → entered_fault (built demosmp) stop ≡ [] → (r : Request) × (option_and_then request_at (entered (built demosmp) stop) ≡ Some r)
+entered_asks None has below = cc
+entered_asks (Some p) has below = go (find (λ s. answers_to p.0 (label_of s)) (built demosmp).subs) (found_asks (λ s. answers_to p.0 (label_of s)) (built demosmp).subs all_ask) has below
+  where
+    go : (o : Option Shape) → AsksIf o → is_some (option_map (λ s. rows_at s p.1) o) ≡ true → option_map_or (λ s. level_fault s [] nothing_held p.1 false []) o [] ≡ [] → (r : Request) × (option_and_then request_at (option_map (λ s. rows_at s p.1) o) ≡ Some r)
+    go None asks has below = cc
+    go (Some s) asks has below = asks p.1 below
 
 wants_one : (b : Bool) (rows : List Row) → check_fault (built demosmp).top rows b ≡ [] → b ≡ true
 wants_one true rows e = refl
@@ -311,20 +339,20 @@ wants_one false rows e =
     let bad : kind.MissingSubcommand ∷ [] ≡ [] = e in
     cc
 
--- words that the command takes give both names
-pub names_there : (words : List Text) → fault_of demosmp words ≡ [] → (n : Text × Text) × (option_and_then files_in (matches_in words) ≡ Some n)
-names_there words e =
+-- words that the command line takes ask for something
+pub asked_there : (words : List Text) → fault_of demosmp words ≡ [] → (r : Request) × (option_and_then request_at (subcommand_of demosmp words) ≡ Some r)
+asked_there words e =
     let stop : Option (Text × List Text) = stop_after (built demosmp).top.rules (labels_of (built demosmp)) (argument_words demosmp words) in
     let top : Shape = (built demosmp).top in
     let names : Names = labels_of (built demosmp) in
     let given : List Text = argument_words demosmp words in
     let passes = level_passes top names nothing_held given (is_some (entered (built demosmp) stop)) (entered_fault (built demosmp) stop) e in
-    entered_names stop (wants_one (is_some (entered (built demosmp) stop)) (finished top.rules (walk top.rules names nothing_held given).held) passes.checks) passes.under
+    entered_asks stop (wants_one (is_some (entered (built demosmp) stop)) (finished top.rules (walk top.rules names nothing_held given).held) passes.checks) passes.under
 
--- so there is a name missing only where the command doesn't take the words
-pub only_refused : (words : List Text) → names_of words ≡ None → IsTaken words → ⊥
+-- so nothing is asked for only where the command line doesn't take the words
+pub only_refused : (words : List Text) → request_of words ≡ None → IsTaken words → ⊥
 only_refused words none taken =
-    let there = names_there words taken in
-    let some : names_of words ≡ Some there.0 = ap (λ (kinds : Kinds). if is_empty kinds then option_and_then files_in (matches_in words) else None) taken ∙ there.1 in
+    let there = asked_there words taken in
+    let some : request_of words ≡ Some there.0 = ap (λ (kinds : Kinds). if is_empty kinds then option_and_then request_at (subcommand_of demosmp words) else None) taken ∙ there.1 in
     let bad : None ≡ Some there.0 = sym none ∙ some in
     cc

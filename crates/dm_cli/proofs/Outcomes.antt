@@ -15,10 +15,9 @@ use Rattle.dm_outside.specs.Outside.{RoseOrFull}
 use Rattle.dm_cli.specs.declared.status.Status.{Status}
 use Rattle.dm_cli.specs.declared.status.Status.TheVariants.{Done, Usage, ReadFault, NoMemory, WriteFault, BootRefused, ScheduleRefused, TooLong, Worn}
 use Rattle.dm_cli.specs.declared.status.Input.TheVariants as input
-use Rattle.dm_cli.specs.Inputs.{Accepts, AfterBoot, HasFile, NoFiles, NoRun, Refuses, RefusesBoot, RefusesSchedule, SaysBoot, SaysDirectives, SaysFiles, most_boot, most_schedule}
+use Rattle.dm_cli.specs.Inputs.{AcceptsFiles, AfterBoot, HasFile, NoFiles, RefusesBoot, RefusesSchedule, SaysBoot, SaysDirectives, SaysFiles, most_boot, most_schedule}
 use Rattle.dm_cli.specs.Files.{IsLonger}
-use Rattle.dm_cli.specs.Status.{IsWant}
-use Rattle.dm_cli.specs.Words.{names_of}
+use Rattle.dm_cli.specs.Status.{BlamesSink, IsWant}
 
 abbrev Files : Type 0
 Files = List ℕ → Option (List ℕ)
@@ -119,25 +118,6 @@ no_files files boot schedule old new (TooLong input.Boot) quiet some h = long_bo
 no_files files boot schedule old new (TooLong input.Schedule) quiet some h = late_schedule files boot schedule h
 no_files files boot schedule old new (Worn from to) quiet some h = absurd h
 
--- and so with the words
-abbrev outcome_of : Files → Option (List ℕ × List ℕ) → Status
-outcome_of files None = Usage
-outcome_of files (Some names) = outcome files names.0 names.1
-
-refuses : (words : List (List ℕ)) (files : Files) (old new : ℕ) (s : Status) → (RoseOrFull old new → ⊥) → (IsWant s → ⊥) → Refuses words (Some files) old new s → outcome_of files (names_of words) ≡ s
-refuses words files old new s quiet some h = ap (outcome_of files) h.names ∙ no_files files h.boot h.schedule old new s quiet some h.why
-
-pub no_run : (words : List (List ℕ)) (files : Files) (old new : ℕ) (s : Status) → (RoseOrFull old new → ⊥) → (IsWant s → ⊥) → NoRun words (Some files) old new s → outcome_of files (names_of words) ≡ s
-no_run words files old new Usage quiet some h = ap (outcome_of files) h
-no_run words files old new (NoMemory lack) quiet some h = absurd (some (lack, refl))
-no_run words files old new Done quiet some h = refuses words files old new Done quiet some h
-no_run words files old new (ReadFault i) quiet some h = refuses words files old new (ReadFault i) quiet some h
-no_run words files old new WriteFault quiet some h = refuses words files old new WriteFault quiet some h
-no_run words files old new (BootRefused number place) quiet some h = refuses words files old new (BootRefused number place) quiet some h
-no_run words files old new (ScheduleRefused line why) quiet some h = refuses words files old new (ScheduleRefused line why) quiet some h
-no_run words files old new (TooLong i) quiet some h = refuses words files old new (TooLong i) quiet some h
-no_run words files old new (Worn from to) quiet some h = refuses words files old new (Worn from to) quiet some h
-
 -- a status is want of memory, or isn't
 want_or_not : (s : Status) → IsWant s ⊎ (IsWant s → ⊥)
 want_or_not (NoMemory lack) = inl (lack, refl)
@@ -151,35 +131,43 @@ want_or_not (TooLong i) = inr (λ w. let e : TooLong i ≡ NoMemory w.0 = w.1 in
 want_or_not (Worn from to) = inr (λ w. let e : Worn from to ≡ NoMemory w.0 = w.1 in cc)
 
 -- two reasons why there is no run are one, unless one of them is want of memory
-pub one_reason : (words : List (List ℕ)) (told : Option Files) (files : Files) (old new : ℕ) (s t : Status) → told ≡ Some files → NoRun words told old new t → NoRun words (Some files) old new s → (IsWant s → ⊥) → (RoseOrFull old new → ⊥) → (t ≡ s) ⊎ IsWant t
-one_reason words told files old new s t is h g some quiet = elim (want_or_not t) [
+pub one_reason : (boot schedule : List ℕ) (told : Option Files) (files : Files) (old new : ℕ) (s t : Status) → told ≡ Some files → NoFiles told boot schedule old new t → NoFiles (Some files) boot schedule old new s → (IsWant s → ⊥) → (RoseOrFull old new → ⊥) → (t ≡ s) ⊎ IsWant t
+one_reason boot schedule told files old new s t is h g some quiet = elim (want_or_not t) [
   | inl want ↦ inr want
-  | inr other ↦ inl (sym (no_run words files old new t quiet other (subst (λ f. NoRun words f old new t) is h)) ∙ no_run words files old new s quiet some g)
+  | inr other ↦ inl (sym (no_files files boot schedule old new t quiet other (subst (λ f. NoFiles f boot schedule old new t) is h)) ∙ no_files files boot schedule old new s quiet some g)
 ]
 
--- files that are accepted have the outcome of a run
-accepted : (words : List (List ℕ)) (files : Files) (b : Boot) (ds : List Directive) → Accepts words (Some files) b ds → outcome_of files (names_of words) ≡ Done
-accepted words files b ds h = ap (outcome_of files) h.names ∙ said_files files h.boot h.schedule b ds h.says.says
+not_run : (boot schedule : List ℕ) (files : Files) (old new : ℕ) (s : Status) → s ≡ Done → NoFiles (Some files) boot schedule old new s → ⊥
+not_run boot schedule files old new Done e h = h
+not_run boot schedule files old new Usage e h = h
+not_run boot schedule files old new (ReadFault i) e h = cc
+not_run boot schedule files old new (NoMemory lack) e h = cc
+not_run boot schedule files old new WriteFault e h = h
+not_run boot schedule files old new (BootRefused number place) e h = cc
+not_run boot schedule files old new (ScheduleRefused line why) e h = cc
+not_run boot schedule files old new (TooLong i) e h = cc
+not_run boot schedule files old new (Worn from to) e h = h
 
-not_run : (words : List (List ℕ)) (files : Files) (old new : ℕ) (s : Status) → s ≡ Done → NoRun words (Some files) old new s → ⊥
-not_run words files old new Done e h = h.why
-not_run words files old new Usage e h = cc
-not_run words files old new (ReadFault i) e h = cc
-not_run words files old new (NoMemory lack) e h = cc
-not_run words files old new WriteFault e h = cc
-not_run words files old new (BootRefused number place) e h = cc
-not_run words files old new (ScheduleRefused line why) e h = cc
-not_run words files old new (TooLong i) e h = cc
-not_run words files old new (Worn from to) e h = cc
-
--- where words name files that are accepted, only want of memory comes before the run
-pub only_want : (words : List (List ℕ)) (told : Option Files) (files : Files) (old new : ℕ) (b : Boot) (ds : List Directive) (t : Status) → told ≡ Some files → NoRun words told old new t → Accepts words (Some files) b ds → (RoseOrFull old new → ⊥) → IsWant t
-only_want words told files old new b ds t is h a quiet = elim (want_or_not t) [
+-- where files are accepted, only want of memory comes before the run
+pub only_want : (boot schedule : List ℕ) (told : Option Files) (files : Files) (old new : ℕ) (b : Boot) (ds : List Directive) (t : Status) → told ≡ Some files → NoFiles told boot schedule old new t → AcceptsFiles (Some files) boot schedule b ds → (RoseOrFull old new → ⊥) → IsWant t
+only_want boot schedule told files old new b ds t is h a quiet = elim (want_or_not t) [
   | inl want ↦ want
   | inr other ↦
-      let k : NoRun words (Some files) old new t = subst (λ f. NoRun words f old new t) is h in
-      absurd (not_run words files old new t (sym (no_run words files old new t quiet other k) ∙ accepted words files b ds a) k)
+      let k : NoFiles (Some files) boot schedule old new t = subst (λ f. NoFiles f boot schedule old new t) is h in
+      absurd (not_run boot schedule files old new t (sym (no_files files boot schedule old new t quiet other k) ∙ said_files files boot schedule b ds a.says) k)
 ]
+
+-- no reason blames the sink
+pub never_sink : (boot schedule : List ℕ) (told : Option Files) (old new k : ℕ) (s : Status) → NoFiles told boot schedule old new s → BlamesSink k k s
+never_sink boot schedule told old new k Done h = refl
+never_sink boot schedule told old new k Usage h = refl
+never_sink boot schedule told old new k (ReadFault i) h = refl
+never_sink boot schedule told old new k (NoMemory lack) h = refl
+never_sink boot schedule told old new k WriteFault h = absurd h
+never_sink boot schedule told old new k (BootRefused number place) h = refl
+never_sink boot schedule told old new k (ScheduleRefused line why) h = refl
+never_sink boot schedule told old new k (TooLong i) h = refl
+never_sink boot schedule told old new k (Worn from to) h = refl
 
 -- and files that are accepted say one system and one list of directives
 pub record SaysSame (b c : Boot) (ds es : List Directive) : Type 0 where
@@ -209,12 +197,11 @@ same_directives files x y m n ds es e f h k =
     let bytes : h.bytes ≡ k.bytes = some_one (files x) h.bytes k.bytes h.file.is (ap files e ∙ k.file.is) in
     accepted_one (directives_of h.bytes m) ds es h.says (ap₂ directives_of bytes f ∙ k.says)
 
-pub same_inputs : (words : List (List ℕ)) (told : Option Files) (files : Files) (b c : Boot) (ds es : List Directive) → told ≡ Some files → Accepts words told b ds → Accepts words (Some files) c es → SaysSame b c ds es
-same_inputs words told files b c ds es is h k =
-    let g : Accepts words (Some files) b ds = subst (λ f. Accepts words f b ds) is h in
-    let names : (g.boot, g.schedule) ≡ (k.boot, k.schedule) = some_one (names_of words) (g.boot, g.schedule) (k.boot, k.schedule) g.names k.names in
-    let boots : b ≡ c = same_boot files g.boot k.boot b c (ap (λ p. p.0) names) g.says.says.says_boot k.says.says.says_boot in
+pub same_inputs : (boot schedule : List ℕ) (told : Option Files) (files : Files) (b c : Boot) (ds es : List Directive) → told ≡ Some files → AcceptsFiles told boot schedule b ds → AcceptsFiles (Some files) boot schedule c es → SaysSame b c ds es
+same_inputs boot schedule told files b c ds es is h k =
+    let g : AcceptsFiles (Some files) boot schedule b ds = subst (λ f. AcceptsFiles f boot schedule b ds) is h in
+    let boots : b ≡ c = same_boot files boot boot b c refl g.says.says_boot k.says.says_boot in
     record {
       boots = boots;
-      directives = same_directives files g.schedule k.schedule (length b.machines) (length c.machines) ds es (ap (λ p. p.1) names) (ap (λ (x : Boot). length x.machines) boots) g.says.says.says_directives k.says.says.says_directives;
+      directives = same_directives files schedule schedule (length b.machines) (length c.machines) ds es refl (ap (λ (x : Boot). length x.machines) boots) g.says.says_directives k.says.says_directives;
     }

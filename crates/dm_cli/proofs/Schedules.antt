@@ -21,8 +21,7 @@ use Rattle.dm_schedule.specs.Lines.{lines, words, onto_first, ends_line, is_retu
 use Rattle.dm_schedule.specs.Numbers.{number_of, process_of}
 use Rattle.dm_schedule.specs.Operands.{Value, Values, value_of, values_of, within, ◌>>=◌}
 use Rattle.dm_schedule.specs.Schedule.{Schedule, Accepted, Refused, made, directive_of, begins_comment, line_directive, also, with_line, lines_from, directives_of}
-use Rattle.dm_mirror.specs.Todo.{IsDirective}
-use Rattle.dm_cli.specs.Progress.{IsFor}
+use Rattle.dm_run.specs.Coming.{IsFor}
 
 -- each of these is
 abbrev pub AreFor : ℕ → List Directive → Type 0
@@ -183,13 +182,3 @@ read_so text machines s ds h e =
 pub are_read : (text : List ℕ) (machines : ℕ) (ds : List Directive) → directives_of text machines ≡ Accepted ds → AreRead text machines ds
 unfolding directives_of
 are_read text machines ds e = read_so text machines (lines_from machines 1 (lines text)) ds (lines_have machines 1 (lines text)) e
-
--- each can be done
-directive_for : (machines : ℕ) (d : Directive) → IsFor machines d → IsDirective machines d
-directive_for machines (directive.One s) h = h
-directive_for machines directive.Round h = tt
-directive_for machines (directive.Spin k) h = tt
-
-pub are_directives : (machines : ℕ) (ds : List Directive) → All (IsFor machines) ds → All (IsDirective machines) ds
-are_directives machines [] h = All-nil (IsDirective machines)
-are_directives machines (d ∷ ds) h = All-cons (IsDirective machines) d ds (directive_for machines d (All-head (IsFor machines) d ds h)) (are_directives machines ds (All-tail (IsFor machines) d ds h))

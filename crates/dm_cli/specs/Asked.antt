@@ -18,11 +18,6 @@ pub record AsksBoth {S : Type 0} (asked : S → List ℕ → S → Type 0) (file
 abbrev pub AsksFiles : {S : Type 0} → (S → List ℕ → S → Type 0) → Option (List ℕ → Option (List ℕ)) → List ℕ → List ℕ → S → S → Type 0
 AsksFiles asked files boot schedule old new = asked old boot new ⊎ AsksBoth asked files boot schedule old new
 
--- no file was asked for but those of these names, and none where there are no names
-abbrev pub AsksNamed : {S : Type 0} → (S → List ℕ → S → Type 0) → Option (List ℕ → Option (List ℕ)) → Option (List ℕ × List ℕ) → S → S → Type 0
-AsksNamed asked files None old new = new ≡ old
-AsksNamed asked files (Some names) old new = AsksFiles asked files names.0 names.1 old new
-
 -- a read of the boot file failed, and no other file was asked for
 abbrev pub FailsAlone : {S : Type 0} → (S → List ℕ → S → Type 0) → (S → ℕ) → List ℕ → S → S → Type 0
 FailsAlone asked faults boot old new = asked old boot new × RoseOrFull (faults old) (faults new)
@@ -31,13 +26,3 @@ FailsAlone asked faults boot old new = asked old boot new × RoseOrFull (faults 
 abbrev pub FailsSecond : {S : Type 0} → (S → List ℕ → S → Type 0) → (S → ℕ) → Option (List ℕ → Option (List ℕ)) → List ℕ → List ℕ → S → S → Type 0
 FailsSecond asked faults files boot schedule old new =
     (a : AsksBoth asked files boot schedule old new) × RoseOrFull (faults a.between) (faults new)
-
--- the names are there, and a read of the boot file failed
-abbrev pub FailsBoot : {S : Type 0} → (S → List ℕ → S → Type 0) → (S → ℕ) → Option (List ℕ × List ℕ) → S → S → Type 0
-FailsBoot asked faults None old new = ⊥
-FailsBoot asked faults (Some names) old new = FailsAlone asked faults names.0 old new
-
--- the names are there, the boot file says a system, and a read of the schedule failed
-abbrev pub FailsSchedule : {S : Type 0} → (S → List ℕ → S → Type 0) → (S → ℕ) → Option (List ℕ → Option (List ℕ)) → Option (List ℕ × List ℕ) → S → S → Type 0
-FailsSchedule asked faults files None old new = ⊥
-FailsSchedule asked faults files (Some names) old new = FailsSecond asked faults files names.0 names.1 old new

@@ -2,6 +2,9 @@
 use Rattle.std.specs.Prelude.{◌≡◌, ℕ, ◌<◌, ⊤, List, [], ◌++◌, length, drop}
 use Rattle.std.specs.declared.option.Option.{Option}
 use Rattle.std.specs.declared.option.Option.TheVariants.{None, Some}
+use Rattle.dm_outside.specs.Outside.{RoseOrFull}
+use Rattle.dm_cli.specs.declared.read.ReadNo.{ReadNo}
+use Rattle.dm_cli.specs.declared.read.ReadNo.TheVariants as no
 
 -- the file of this name has these bytes, where the shelf tells
 abbrev pub IsFile : Option (List ℕ → Option (List ℕ)) → List ℕ → List ℕ → Type 0
@@ -22,3 +25,9 @@ StartsSo (Some content) bytes = content ≡ bytes ++ drop (length bytes) content
 abbrev pub SoFar : Option (List ℕ → Option (List ℕ)) → List ℕ → List ℕ → Type 0
 SoFar None name bytes = ⊤
 SoFar (Some files) name bytes = StartsSo (files name) bytes
+
+-- the count of faults is as it was, unless a read is blamed: then it rose
+abbrev pub BlamesRead : ℕ → ℕ → ReadNo → Type 0
+BlamesRead old new no.Fault = RoseOrFull old new
+BlamesRead old new (no.NoMemory lack) = new ≡ old
+BlamesRead old new no.TooLong = new ≡ old

@@ -1,4 +1,4 @@
--- What the words, the boot file and the schedule say.
+-- What the boot file and the schedule say.
 use Rattle.std.specs.Prelude.{◌≡◌, ℕ, ◌≤◌, ⊤, List, length}
 use Rattle.std.specs.declared.result.Result.TheVariants.{Ok, Err}
 use Rattle.std.specs.declared.option.Option.{Option}
@@ -14,7 +14,6 @@ use Rattle.dm_outside.specs.Outside.{RoseOrFull}
 use Rattle.dm_cli.specs.declared.status.Input.TheVariants as input
 use Rattle.dm_cli.specs.declared.status.Status.{Status}
 use Rattle.dm_cli.specs.declared.status.Status.TheVariants as status
-use Rattle.dm_cli.specs.Words.{names_of}
 use Rattle.dm_cli.specs.Files.{IsFile, IsLonger}
 
 -- the most bytes of a boot file, and of a schedule
@@ -98,24 +97,3 @@ NoFiles files boot schedule old new _ = ⊥
 -- files of these names say this system and these directives
 pub record AcceptsFiles (files : Option (List ℕ → Option (List ℕ))) (boot schedule : List ℕ) (b : Boot) (ds : List Directive) : Type 0 where
   pub says : SaysFiles files boot schedule b ds
-
--- the words name such files
-pub record Accepts (words : List (List ℕ)) (files : Option (List ℕ → Option (List ℕ))) (b : Boot) (ds : List Directive) : Type 0 where
-  pub boot : List ℕ
-  pub schedule : List ℕ
-  pub names : names_of words ≡ Some (boot, schedule)
-  pub says : AcceptsFiles files boot schedule b ds
-
--- the words name files that give no run
-pub record Refuses (words : List (List ℕ)) (files : Option (List ℕ → Option (List ℕ))) (old new : ℕ) (s : Status) : Type 0 where
-  pub boot : List ℕ
-  pub schedule : List ℕ
-  pub names : names_of words ≡ Some (boot, schedule)
-  pub why : NoFiles files boot schedule old new s
-
--- why there is no run: the words, the boot file or the schedule, the first of these that is at fault; memory may lack
--- before the words are read
-abbrev pub NoRun : List (List ℕ) → Option (List ℕ → Option (List ℕ)) → ℕ → ℕ → Status → Type 0
-NoRun words files old new status.Usage = names_of words ≡ None
-NoRun words files old new (status.NoMemory lack) = ⊤
-NoRun words files old new s = Refuses words files old new s

@@ -1,8 +1,10 @@
 pub mod Status
+pub mod Request
+pub mod RunWords
 pub mod Words
 pub mod Files
 pub mod Inputs
 pub mod Asked
-pub mod Output
-pub mod Progress
+pub mod Outside
+pub mod Runs
 pub mod Program

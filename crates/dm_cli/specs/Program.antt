@@ -1,55 +1,55 @@
--- What the status of the program says: why it comes, and what was written by then.
-use Rattle.std.specs.Prelude.{◌≡◌, ℕ, ◌⊎◌, List, length}
-use Rattle.std.specs.List.{All}
+-- What the program promises, by what its words ask for.
+use Rattle.std.specs.Prelude.{◌≡◌, ℕ, ◌⊎◌, List, Vec, String, map, string_bytes}
+use Rattle.std.specs.declared.alloc.Global.{Global}
 use Rattle.std.specs.declared.option.Option.{Option}
-use Rattle.std.specs.declared.option.Option.TheVariants.{None}
-use Rattle.dm_onekernel.specs.declared.boot.Boot.{Boot}
-use Rattle.dm_onekernel.specs.Boot.{IsValid}
-use Rattle.dm_schedule.specs.declared.Directive.{Directive}
+use Rattle.std.specs.declared.option.Option.TheVariants.{None, Some}
+use Rattle.std.specs.declared.process.ExitCode.{ExitCode}
+use Rattle.std.specs.declared.result.Result.{Result}
+use Rattle.std.specs.declared.result.Result.TheVariants.{Ok, Err}
+use Rattle.std.specs.Process.{exit_status}
 use Rattle.dm_world.specs.declared.world.World.{World}
-use Rattle.dm_mirror.specs.Todo.{IsDirective}
-use Rattle.dm_outside.specs.Outside.{RoseOrFull}
+use Rattle.dm_run.specs.Appended.{Written}
 use Rattle.dm_cli.specs.declared.status.Status.{Status}
-use Rattle.dm_cli.specs.declared.status.Status.TheVariants.{Done, NoMemory, WriteFault, Worn}
-use Rattle.dm_cli.specs.Inputs.{Accepts, NoRun}
-use Rattle.dm_cli.specs.Output.{IsWhole, IsOfFirst, IsBegun, IsWorn, Lasts}
+use Rattle.dm_cli.specs.declared.status.Status.TheVariants.{Usage}
+use Rattle.dm_cli.specs.declared.words.WordsNo.{WordsNo}
+use Rattle.dm_cli.specs.Outside.{Outside, around}
+use Rattle.dm_cli.specs.Request.{Request, Run}
+use Rattle.dm_cli.specs.Runs.{RunMeets}
+use Rattle.dm_cli.specs.Status.{IsWant, code_of, line_of, status_of_no}
+use Rattle.dm_cli.specs.Words.{request_of}
 
--- what is outside a call of the program: its words, what the shelf tells, and how many reads failed before and after it;
--- what the sink tells before and after it, and how many writes failed; and the world that it leaves
-pub record Outside : Type 0 where
-  pub words : List (List ℕ)
-  pub files : Option (List ℕ → Option (List ℕ))
-  pub reads_before : ℕ
-  pub reads_after : ℕ
-  pub before : Option (List ℕ)
-  pub after : Option (List ℕ)
-  pub writes_before : ℕ
-  pub writes_after : ℕ
-  pub world : Option World
-
--- what was written of the run of this system by these directives, all of them where none is worn
-abbrev pub RunSays : Boot → List Directive → Option (List ℕ) → Option (List ℕ) → Option World → ℕ → ℕ → Status → Type 0
-RunSays b ds before after world writes_before writes_after Done = Lasts b ds × IsWhole b ds before after world
-RunSays b ds before after world writes_before writes_after (NoMemory lack) = IsOfFirst b ds before after
-RunSays b ds before after world writes_before writes_after WriteFault = IsBegun b ds before after world × RoseOrFull writes_before writes_after
-RunSays b ds before after world writes_before writes_after (Worn from to) = IsWorn b ds before after from to
-RunSays b ds before after world writes_before writes_after _ = ⊥
-
--- a run of the system and the directives that the files say: the system may start, and the directives are for its machines
-pub record Runs (o : Outside) (s : Status) : Type 0 where
-  pub boot : Boot
-  pub directives : List Directive
-  pub accepts : Accepts o.words o.files boot directives
-  pub valid : IsValid boot
-  pub within : All (IsDirective (length boot.machines)) directives
-  pub says : RunSays boot directives o.before o.after o.world o.writes_before o.writes_after s
-
--- no run, for a reason; nothing was written, and there is no world
-pub record NeverRuns (o : Outside) (s : Status) : Type 0 where
-  pub why : NoRun o.words o.files o.reads_before o.reads_after s
+-- the words ask for nothing: they are refused, unless memory lacks; no file was asked for, nothing was written, and there is
+-- no world
+pub record RefusesWords {F : Type 0} (o : Outside) (old new : F) (s : Status) : Type 0 where
+  pub why : (s ≡ Usage) ⊎ IsWant s
+  pub unread : new ≡ old
   pub nothing : o.after ≡ o.before
+  pub unfailed : o.writes_after ≡ o.writes_before
   pub no_world : o.world ≡ None
 
--- what a status says
-abbrev pub Says : Outside → Status → Type 0
-Says o s = Runs o s ⊎ NeverRuns o s
+-- a row a command
+abbrev pub ProgramMeets : {F : Type 0} → (F → List ℕ → F → Type 0) → (F → ℕ) → Option Request → Outside → F → F → Status → Type 0
+ProgramMeets asked faults None o old new s = RefusesWords o old new s
+ProgramMeets asked faults (Some (Run boot schedule)) o old new s = RunMeets asked faults boot schedule o old new s
+
+-- there are no words: nothing is read or written, and there is no world
+pub record HasNoWords {F K : Type 0} (no : WordsNo) (shelf shelf' : F) (sink sink' : K) (world : Option World) (s : Status) : Type 0 where
+  pub why : s ≡ status_of_no no
+  pub unread : shelf' ≡ shelf
+  pub unwritten : sink' ≡ sink
+  pub no_world : world ≡ None
+
+-- with the words that were given, each of them and no other, in order, or with none
+abbrev pub GivenMeets : {F K : Type 0} → (F → List ℕ → F → Type 0) → (F → Option (List ℕ → Option (List ℕ))) → (F → ℕ) → (K → Option (List ℕ)) → (K → ℕ) → Result (Vec (String Global) Global) WordsNo → F → F → K → K → Option World → Status → Type 0
+GivenMeets asked files reads told writes (Ok words) shelf shelf' sink sink' world s =
+    ProgramMeets asked reads (request_of (map string_bytes words.items)) (around files reads told writes shelf shelf' sink sink' world) shelf shelf' s
+GivenMeets asked files reads told writes (Err no) shelf shelf' sink sink' world s = HasNoWords no shelf shelf' sink sink' world s
+
+-- the program has ended with a status: its line was offered to standard error, and its number is the program's
+pub record Finishes {F K E : Type 0} (asked : F → List ℕ → F → Type 0) (files : F → Option (List ℕ → Option (List ℕ))) (reads : F → ℕ) (told : K → Option (List ℕ)) (writes : K → ℕ) (said : E → Option (List ℕ)) (failed : E → ℕ)
+    (given : Result (Vec (String Global) Global) WordsNo) (shelf shelf' : F) (sink sink' : K) (errors errors' : E) (code : ExitCode) : Type 0 where
+  pub status : Status
+  pub world : Option World
+  pub meets : GivenMeets asked files reads told writes given shelf shelf' sink sink' world status
+  pub says : Written (said errors) (line_of status) (said errors') (failed errors) (failed errors')
+  pub number : exit_status code ≡ code_of status

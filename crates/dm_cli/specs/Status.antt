@@ -1,6 +1,11 @@
 -- The number and the line of each status.
 use Rattle.std.specs.Prelude.{◌≡◌, ℕ, List, [], ◌∷◌, ◌++◌, codes}
 use Rattle.std.specs.Fmt.{decimal}
+use Rattle.std.specs.declared.result.Result.{Result}
+use Rattle.std.specs.declared.result.Result.TheVariants.{Ok, Err}
+use Rattle.dm_outside.specs.Outside.{RoseOrFull}
+use Rattle.dm_run.specs.declared.stop.Stop.{Stop}
+use Rattle.dm_run.specs.declared.stop.Stop.TheVariants as stop
 use Rattle.dm_memory.specs.declared.NoMemory.{NoMemory as TheNoMemory}
 use Rattle.dm_cli.specs.declared.status.Input.{Input}
 use Rattle.dm_cli.specs.declared.status.Input.TheVariants.{Boot, Schedule}
@@ -55,3 +60,34 @@ status_of_no (why.NoMemory lack) = NoMemory lack
 -- a status says that no memory was left
 abbrev pub IsWant : Status → Type 0
 IsWant s = (lack : TheNoMemory) × (s ≡ NoMemory lack)
+
+-- the status of a run that came to its end, or stopped
+abbrev pub ended_with : {A : Type 0} → Result A Stop → Status
+ended_with (Ok _) = Done
+ended_with (Err (stop.NoMemory lack)) = NoMemory lack
+ended_with (Err stop.WriteFault) = WriteFault
+ended_with (Err (stop.Worn from to)) = Worn from to
+
+-- the shelf's count of faults is as it was, unless it is blamed: then it rose
+abbrev pub BlamesShelf : ℕ → ℕ → Status → Type 0
+BlamesShelf old new (ReadFault input) = RoseOrFull old new
+BlamesShelf old new Done = new ≡ old
+BlamesShelf old new Usage = new ≡ old
+BlamesShelf old new (NoMemory lack) = new ≡ old
+BlamesShelf old new WriteFault = new ≡ old
+BlamesShelf old new (BootRefused number place) = new ≡ old
+BlamesShelf old new (ScheduleRefused line why) = new ≡ old
+BlamesShelf old new (TooLong input) = new ≡ old
+BlamesShelf old new (Worn from to) = new ≡ old
+
+-- and so the sink's
+abbrev pub BlamesSink : ℕ → ℕ → Status → Type 0
+BlamesSink old new WriteFault = RoseOrFull old new
+BlamesSink old new Done = new ≡ old
+BlamesSink old new Usage = new ≡ old
+BlamesSink old new (ReadFault input) = new ≡ old
+BlamesSink old new (NoMemory lack) = new ≡ old
+BlamesSink old new (BootRefused number place) = new ≡ old
+BlamesSink old new (ScheduleRefused line why) = new ≡ old
+BlamesSink old new (TooLong input) = new ≡ old
+BlamesSink old new (Worn from to) = new ≡ old

@@ -1,41 +1,50 @@
--- The words of a run, as `clap` takes them.
-use Rattle.std.specs.Prelude.{◌≡◌, ℕ, true, List, [], ◌∷◌, codes, option_and_then, option_map, if◌then◌else◌}
+-- The words of the command line, as `clap` takes them, and what they ask for.
+use Rattle.std.specs.Prelude.{◌≡◌, ℕ, true, List, [], ◌∷◌, codes, option_and_then, if◌then◌else◌}
+use Rattle.std.specs.Str.{bytes_eq}
 use Rattle.std.specs.declared.option.Option.{Option}
 use Rattle.std.specs.declared.option.Option.TheVariants.{None, Some}
-use Rattle.clap.specs.Walk.{Row, Rule, first_of, is_empty}
-use Rattle.clap.specs.Simple.{App, Shape, new_rule, new_shape, subcommand_of, with_subcommand}
+use Rattle.clap.specs.Walk.{Row, is_empty}
+use Rattle.clap.specs.Simple.{App, Shape, new_shape, subcommand_of, with_subcommand}
 use Rattle.clap.specs.Faults.{fault_of}
+use Rattle.dm_cli.specs.declared.words.Request.{Request as TheRequest}
+use Rattle.dm_cli.specs.declared.words.Request.TheVariants as the
+use Rattle.dm_cli.specs.Request.{Request, Run}
+use Rattle.dm_cli.specs.RunWords.{run_command, run_request}
 
--- the option `--name FILE`, which has to be there
-abbrev pub file_option : List ℕ → Rule
-file_option name = record (new_rule name) { long = Some name; required = true }
+-- a command: its name and its options, and what its matches ask for
+pub record Command : Type 0 where
+  pub shape : Shape
+  pub request : List Row → Option Request
 
--- `run --boot FILE --schedule FILE`
-abbrev pub run_command : Shape
-run_command = record (new_shape (codes "run")) { rules = file_option (codes "boot") ∷ file_option (codes "schedule") ∷ [] }
+-- the commands of the program, a row each
+abbrev pub commands : List Command
+commands = record { shape = run_command; request = run_request } ∷ []
 
--- `demosmp run --boot FILE --schedule FILE`, with no other word in place of `run`
+abbrev pub with_commands : App → List Command → App
+with_commands a [] = a
+with_commands a (c ∷ cs) = with_commands (with_subcommand a c.shape) cs
+
+-- `demosmp COMMAND ..`, with no other word in place of a command
 abbrev pub demosmp : App
-demosmp = with_subcommand (record { top = record (new_shape (codes "demosmp")) { disable_help_subcommand = true; subcommand_required = true }; subs = [] }) run_command
+demosmp = with_commands (record { top = record (new_shape (codes "demosmp")) { disable_help_subcommand = true; subcommand_required = true }; subs = [] }) commands
 
--- two names, where both are there
-abbrev pub both : Option (List ℕ) → Option (List ℕ) → Option (List ℕ × List ℕ)
-both (Some boot) (Some schedule) = Some (boot, schedule)
-both (Some boot) None = None
-both None schedule = None
+-- what the matches of the command of this name ask for
+abbrev pub request_in : List Command → List ℕ → List Row → Option Request
+request_in [] name rows = None
+request_in (c ∷ cs) name rows = if bytes_eq name c.shape.name then c.request rows else request_in cs name rows
 
--- the names of the boot file and of the schedule among these matches
-abbrev pub files_in : List Row → Option (List ℕ × List ℕ)
-files_in rows = both (first_of (codes "boot") rows) (first_of (codes "schedule") rows)
-
--- the matches of the subcommand that the words name
-abbrev pub matches_in : List (List ℕ) → Option (List Row)
-matches_in words = option_map (λ found. found.1) (subcommand_of demosmp words)
+-- the same of a name and its matches
+abbrev pub request_at : List ℕ × List Row → Option Request
+request_at found = request_in commands found.0 found.1
 
 -- the command takes the words: no step of their parse fails
 abbrev pub IsTaken : List (List ℕ) → Type 0
 IsTaken words = fault_of demosmp words ≡ []
 
--- the names of the boot file and of the schedule, where the command takes the words
-abbrev pub names_of : List (List ℕ) → Option (List ℕ × List ℕ)
-names_of words = if is_empty (fault_of demosmp words) then option_and_then files_in (matches_in words) else None
+-- what the words ask for, where the command takes them
+abbrev pub request_of : List (List ℕ) → Option Request
+request_of words = if is_empty (fault_of demosmp words) then option_and_then request_at (subcommand_of demosmp words) else None
+
+-- a request of the code, by its names alone
+abbrev pub request_said : TheRequest → Request
+request_said (the.Run boot schedule) = Run boot.now schedule.now

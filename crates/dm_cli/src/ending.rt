@@ -1,12 +1,12 @@
 //! The end of the program: its line on standard error, and its number.
 ghost use Rattle.std.specs.Prelude.{◌≡◌};
 ghost use Rattle.std.specs.Process.{exit_status};
-ghost use Rattle.dm_cli.specs.Output.{Written};
+ghost use Rattle.dm_run.specs.Appended.{Written};
 ghost use Rattle.dm_cli.specs.Status.{code_of, line_of};
 
 use crate::status::{Status, status_line};
-use crate::write::write_all;
 use dm_outside::Sink;
+use dm_run::write_all;
 use std::process::ExitCode;
 
 /// Writes the line of a status, and gives its number. A line that the sink cuts changes no number.

@@ -1,15 +1,14 @@
-//! What the program reads before a run: its words, the boot file and the schedule.
-ghost use Rattle.std.specs.Prelude.{◌≡◌, ◌≤◌, map, IfOk, IfErr, None, length};
+//! What the program reads before a run: the boot file and the schedule.
+ghost use Rattle.std.specs.Prelude.{◌≡◌, ◌≤◌, IfErr, IfOk, length};
 ghost use Rattle.std.specs.List.{All};
 ghost use Rattle.dm_onekernel.specs.Boot.{IsValid};
-ghost use Rattle.dm_cli.specs.Words.{IsTaken, names_of};
-ghost use Rattle.dm_cli.specs.Asked.{AsksFiles, AsksNamed, FailsAlone, FailsBoot, FailsSchedule, FailsSecond};
-ghost use Rattle.dm_cli.specs.Inputs.{Accepts, AcceptsFiles, NoBoot, NoDirectives, NoFiles, NoRun, SaysBoot, SaysDirectives};
-ghost use Rattle.dm_cli.specs.Progress.{IsFor};
+ghost use Rattle.dm_cli.specs.Asked.{AsksFiles, FailsAlone, FailsSecond};
+ghost use Rattle.dm_cli.specs.Inputs.{AcceptsFiles, NoBoot, NoDirectives, NoFiles, SaysBoot, SaysDirectives};
+ghost use Rattle.dm_cli.specs.Status.{BlamesShelf};
+ghost use Rattle.dm_run.specs.Coming.{IsFor};
 
 use crate::read::{ReadNo, read_file};
 use crate::status::{Input, Status};
-use crate::words::names;
 use dm_boot::{BootNo, read_boot};
 use dm_onekernel::Boot;
 use dm_outside::Shelf;
@@ -29,29 +28,8 @@ pub struct Inputs {
     pub directives: Vec<Directive>,
 }
 
-/// What the words name, or why there is no run: of the words, the boot file and the schedule the first that is at
-/// fault.
-pub fn read_inputs<F: Shelf>(alloc: Global, words: &[&str], shelf: &mut F) -> Result<Inputs, Status>
-    ensures accepts { IfOk result (λ i. Accepts (map (λ w. w.now) words.now) (F.told shelf.old) i.boot i.directives.items) }
-    ensures valid { IfOk result (λ i. IsValid i.boot) }
-    ensures each { IfOk result (λ i. All (IsFor (length i.boot.machines)) i.directives.items) }
-    ensures few { IfOk result (λ i. length i.directives.items ≤ 16777216) }
-    ensures refused { IfErr result (λ s. s ≡ Status.Usage → IsTaken (map (λ w. w.now) words.now) → ⊥) }
-    ensures none { IfErr result (λ s. NoRun (map (λ w. w.now) words.now) (F.told shelf.old) (F.faults shelf.old) (F.faults shelf.new) s) }
-    ensures same { F.told shelf.new ≡ F.told shelf.old }
-    ensures reads { F.faults shelf.old ≤ F.faults shelf.new }
-    ensures asks { AsksNamed F.asked (F.told shelf.old) (names_of (map (λ w. w.now) words.now)) shelf.old shelf.new }
-    ensures boot_fault { IfErr result (λ s. s ≡ Status.ReadFault Input.Boot → FailsBoot F.asked F.faults (names_of (map (λ w. w.now) words.now)) shelf.old shelf.new) }
-    ensures schedule_fault { IfErr result (λ s. s ≡ Status.ReadFault Input.Schedule → FailsSchedule F.asked F.faults (F.told shelf.old) (names_of (map (λ w. w.now) words.now)) shelf.old shelf.new) }
-{
-    match names(alloc, words) {
-        Ok((boot, schedule)) => read_files(alloc, boot, schedule, shelf),
-        Err(no) => Err(no.status()),
-    }
-}
-
 /// What files of these names say, or why there is no run.
-fn read_files<F: Shelf>(
+pub fn read_files<F: Shelf>(
     alloc: Global,
     boot: &str,
     schedule: &str,
@@ -63,10 +41,13 @@ fn read_files<F: Shelf>(
     ensures few { IfOk result (λ i. length i.directives.items ≤ 16777216) }
     ensures none { IfErr result (λ s. NoFiles (F.told shelf.old) boot.now schedule.now (F.faults shelf.old) (F.faults shelf.new) s) }
     ensures same { F.told shelf.new ≡ F.told shelf.old }
+    ensures steady { IfOk result (λ _. F.faults shelf.new ≡ F.faults shelf.old) }
+    ensures blames { IfErr result (λ s. BlamesShelf (F.faults shelf.old) (F.faults shelf.new) s) }
     ensures reads { F.faults shelf.old ≤ F.faults shelf.new }
     ensures asks { AsksFiles F.asked (F.told shelf.old) boot.now schedule.now shelf.old shelf.new }
     ensures boot_fault { IfErr result (λ s. s ≡ Status.ReadFault Input.Boot → FailsAlone F.asked F.faults boot.now shelf.old shelf.new) }
-    ensures schedule_fault { IfErr result (λ s. s ≡ Status.ReadFault Input.Schedule → FailsSecond F.asked F.faults (F.told shelf.old) boot.now schedule.now shelf.old shelf.new) }
+    ensures schedule_fault { IfErr result (λ s. s ≡ Status.ReadFault Input.Schedule →
+        FailsSecond F.asked F.faults (F.told shelf.old) boot.now schedule.now shelf.old shelf.new) }
 {
     let boot = read_system(alloc, boot, shelf)?;
     let machines = boot.machines.len() as u8;
@@ -80,6 +61,8 @@ fn read_system<F: Shelf>(alloc: Global, name: &str, shelf: &mut F) -> Result<Boo
     ensures valid { IfOk result (λ b. IsValid b) }
     ensures none { IfErr result (λ s. NoBoot (F.told shelf.old) name.now (F.faults shelf.old) (F.faults shelf.new) s) }
     ensures same { F.told shelf.new ≡ F.told shelf.old }
+    ensures steady { IfOk result (λ _. F.faults shelf.new ≡ F.faults shelf.old) }
+    ensures blames { IfErr result (λ s. BlamesShelf (F.faults shelf.old) (F.faults shelf.new) s) }
     ensures reads { F.faults shelf.old ≤ F.faults shelf.new }
     ensures asks { F.asked shelf.old name.now shelf.new }
 {
@@ -110,6 +93,8 @@ fn read_directives<F: Shelf>(
     ensures few { IfOk result (λ ds. length ds.items ≤ 16777216) }
     ensures none { IfErr result (λ s. NoDirectives (F.told shelf.old) name.now machines (F.faults shelf.old) (F.faults shelf.new) s) }
     ensures same { F.told shelf.new ≡ F.told shelf.old }
+    ensures steady { IfOk result (λ _. F.faults shelf.new ≡ F.faults shelf.old) }
+    ensures blames { IfErr result (λ s. BlamesShelf (F.faults shelf.old) (F.faults shelf.new) s) }
     ensures reads { F.faults shelf.old ≤ F.faults shelf.new }
     ensures asks { F.asked shelf.old name.now shelf.new }
 {

@@ -1,32 +1,30 @@
 //! The program `demosmp`: it runs a schedule on the system of a boot file, and prints what happens.
 #![tactic(auto)]
 
+mod commands;
 mod ending;
 mod entry;
 mod inputs;
+mod program;
 mod read;
-mod run;
 mod status;
 mod words;
-mod write;
 
 use dm_outside::{RealShelf, RealSink};
-use ending::end;
-use entry::{given_words, run_given};
-use std::io;
+use entry::{finish, words_of};
 use std::process::ExitCode;
+use std::{env, io};
 
 fn main(rt: HostRuntime) -> ExitCode {
-    let mut shelf = RealShelf::new(&rt);
-    let mut out = RealSink::new(io::writer(&rt));
-    let status = run_given(
+    let given = words_of(rt.alloc(), env::args(&rt));
+    let (mut shelf, mut out) = (RealShelf::new(&rt), RealSink::new(io::writer(&rt)));
+    finish(
         rt.alloc(),
-        given_words(&rt),
+        given,
         &mut shelf,
         &mut out,
-        &mut None,
-    );
-    end(&status, &mut RealSink::new(rt.stderr()))
+        &mut RealSink::new(rt.stderr()),
+    )
 }
 
 #[cfg(test)]

@@ -1,7 +1,6 @@
 //! Reading a whole file.
 ghost use Rattle.std.specs.Prelude.{◌≡◌, ◌≤◌, ◌<◌, ◌+◌, length, IfOk, IfErr, vec_len};
-ghost use Rattle.dm_outside.specs.Outside.{RoseOrFull};
-ghost use Rattle.dm_cli.specs.Files.{IsFile, IsLonger, SoFar};
+ghost use Rattle.dm_cli.specs.Files.{BlamesRead, IsFile, IsLonger, SoFar};
 
 use dm_memory::NoMemory;
 use dm_outside::Shelf;
@@ -18,7 +17,7 @@ pub enum ReadNo {
     TooLong,
 }
 
-/// Reads a whole file of at most so many bytes.
+/// Reads a whole file of at most so many bytes, unless a read fails: one that failed isn't tried again.
 pub fn read_file<F: Shelf>(
     alloc: Global,
     shelf: &mut F,
@@ -29,7 +28,8 @@ pub fn read_file<F: Shelf>(
     ensures whole { IfOk result (λ bytes. IsFile (F.told shelf.old) name.now bytes.items) }
     ensures within { IfOk result (λ bytes. length bytes.items ≤ most) }
     ensures long { IfErr result (λ e. e ≡ ReadNo.TooLong → IsLonger (F.told shelf.old) name.now most) }
-    ensures fault { IfErr result (λ e. e ≡ ReadNo.Fault → RoseOrFull (F.faults shelf.old) (F.faults shelf.new)) }
+    ensures steady { IfOk result (λ _. F.faults shelf.new ≡ F.faults shelf.old) }
+    ensures blames { IfErr result (λ e. BlamesRead (F.faults shelf.old) (F.faults shelf.new) e) }
     ensures counts { F.faults shelf.old ≤ F.faults shelf.new }
     ensures asks { F.asked shelf.old name.now shelf.new }
 {
@@ -50,7 +50,8 @@ fn read_piece<F: Shelf>(shelf: &mut F, name: &str, bytes: &mut Vec<u8>) -> Resul
     ensures so_far { IfOk result (λ n. SoFar (F.told shelf.old) name.now bytes.old.items → SoFar (F.told shelf.old) name.now bytes.new.items) }
     ensures ended { IfOk result (λ n. n ≡ 0 → SoFar (F.told shelf.old) name.now bytes.old.items → IsFile (F.told shelf.old) name.now bytes.new.items) }
     ensures never_long { IfErr result (λ e. e ≡ ReadNo.TooLong → ⊥) }
-    ensures fault { IfErr result (λ e. e ≡ ReadNo.Fault → RoseOrFull (F.faults shelf.old) (F.faults shelf.new)) }
+    ensures steady { IfOk result (λ _. F.faults shelf.new ≡ F.faults shelf.old) }
+    ensures blames { IfErr result (λ e. BlamesRead (F.faults shelf.old) (F.faults shelf.new) e) }
     ensures counts { F.faults shelf.old ≤ F.faults shelf.new }
     ensures asks { F.asked shelf.old name.now shelf.new }
 {

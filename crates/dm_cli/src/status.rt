@@ -18,7 +18,7 @@ pub enum Input {
 pub enum Status {
     /// The schedule was read to its end, and all lines are written.
     Done,
-    /// The words of the command line aren't those of a run.
+    /// The words of the command line aren't those of a command.
     Usage,
     /// The shelf failed at this file.
     ReadFault(Input),

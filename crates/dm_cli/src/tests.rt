@@ -1,5 +1,5 @@
 use crate::ending::end;
-use crate::run::run_program;
+use crate::program::run_program;
 use crate::status::Status;
 use dm_outside::{MemShelf, MemSink};
 use std::alloc::Global;

@@ -34,7 +34,9 @@ use Rattle.dm_mirror.proofs.DeliverReadable.{reads_as}
 use Rattle.dm_mirror.proofs.EndMay.{FewAlways, end_may_by}
 use Rattle.dm_mirror.proofs.Ending.{end_is_said_by}
 use Rattle.dm_mirror.proofs.FollowAsks.{asks_turn}
+use Rattle.dm_mirror.specs.Ran.{RanGoesOn}
 use Rattle.dm_mirror.proofs.Going.{run_goes_on_by}
+use Rattle.dm_mirror.proofs.Single.{ran_goes_on_by}
 use Rattle.dm_mirror.proofs.Machines.{machines_are}
 use Rattle.dm_mirror.proofs.Made.{made_always}
 use Rattle.dm_mirror.proofs.May.{all_lawful, may_step_migrate, may_step_turn, may_step_tick}
@@ -144,6 +146,9 @@ steps_stand = steps_stand_by few_always tables_all
 
 pub run_goes_on : RunGoesOn
 run_goes_on = run_goes_on_by steps_stand
+
+pub ran_goes_on : RanGoesOn
+ran_goes_on = ran_goes_on_by steps_stand
 
 pub end_may : EndMay
 end_may = end_may_by few_always

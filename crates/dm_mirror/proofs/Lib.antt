@@ -146,6 +146,8 @@ pub mod May
 pub mod Ending
 pub mod EndMay
 pub mod Going
+pub mod Behind
+pub mod Single
 pub mod Leading
 pub mod Places
 pub mod Given

@@ -4,6 +4,7 @@ pub mod Stands
 pub mod Able
 pub mod Todo
 pub mod Run
+pub mod Ran
 pub mod Made
 pub mod Local
 pub mod Laws

@@ -1,5 +1,6 @@
 //! What holds of every run of the machines and their wires, whoever runs them.
 ghost use Rattle.dm_mirror.specs.Local.{ActsLocally, ReadsLocally, NothingComes};
+ghost use Rattle.dm_mirror.specs.Ran.{RanBegins, RanGoesOn, RunIsRan};
 ghost use Rattle.dm_mirror.specs.Laws.{StartStands, StepsStand, NextIsSaid, EndIsSaid, EndMay, RunBegins, RunGoesOn, GoodLeads, PlacesFollow};
 
 /// The machines as the boot file has them, with empty wires, stand for the point where printed lines begin.
@@ -40,6 +41,22 @@ pub fn run_begins()
 /// Or the machines stop, since two of them have counted all messages that they may.
 pub fn run_goes_on()
     ensures { RunGoesOn }
+{}
+
+/// So it is with elementary directives, done one by one: before the first nothing was printed.
+pub fn ran_begins()
+    ensures { RanBegins }
+{}
+
+/// And it goes on with any directive for the machines that there are, whatever was done before: the machines may do it, and
+/// either what was printed is good with one more group, or they stop as worn where the rule says so.
+pub fn ran_goes_on()
+    ensures { RanGoesOn }
+{}
+
+/// A run of any directives is one of elementary directives.
+pub fn run_is_ran()
+    ensures { RunIsRan }
 {}
 
 /// Groups of lines that are good are a run by the rule, directive by directive: each law of such runs speaks of printed lines.

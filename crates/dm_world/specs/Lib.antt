@@ -7,3 +7,4 @@ pub mod Local
 pub mod Cursor
 pub mod Readable
 pub mod Whole
+pub mod Stepped

@@ -34,7 +34,8 @@ impl Cursor {
     /// Nothing of the directive is done yet.
     pub fn new(directive: &Directive) -> Cursor
         requires { directive.now ≢ Directive.Spin 0 }
-        ensures { (n : ℕ) (first : ℕ → ℕ → Option ℕ) (ds : List TheDirective) → following n first (todo_of n result ds) ≡ following n first (all_of (directive.now ∷ ds)) }
+        ensures { (n : ℕ) (first : ℕ → ℕ → Option ℕ) (ds : List TheDirective) →
+            following n first (todo_of n result ds) ≡ following n first (all_of (directive.now ∷ ds)) }
     {
         match *directive {
             Directive::One(step) => Cursor {
@@ -79,8 +80,10 @@ impl World {
     /// What comes next where so many rounds are left.
     fn next_round(&self, rounds: u32) -> Option<(Step, Cursor)>
         requires { IsWorld self.now }
-        ensures next { (ds : List TheDirective) → NextIs (length self.now.boot.machines) (state_of self.now) (record { stage = Stage.Between; rounds = rounds }) ds result }
-        ensures falls { IfSome result (λ r. Falls (length self.now.boot.machines) (state_of self.now) (record { stage = Stage.Between; rounds = rounds }) r.0 r.1) }
+        ensures next { (ds : List TheDirective) →
+            NextIs (length self.now.boot.machines) (state_of self.now) (record { stage = Stage.Between; rounds = rounds }) ds result }
+        ensures falls { IfSome result
+            (λ r. Falls (length self.now.boot.machines) (state_of self.now) (record { stage = Stage.Between; rounds = rounds }) r.0 r.1) }
     {
         if rounds == 0 {
             None
@@ -92,8 +95,10 @@ impl World {
     /// What comes next where the machines from `m` on take their turns, and so many rounds are left.
     fn next_turn(&self, m: u8, rounds: u32) -> Option<(Step, Cursor)>
         requires { IsWorld self.now }
-        ensures next { (ds : List TheDirective) → NextIs (length self.now.boot.machines) (state_of self.now) (record { stage = Stage.Turns m; rounds = rounds }) ds result }
-        ensures falls { IfSome result (λ r. Falls (length self.now.boot.machines) (state_of self.now) (record { stage = Stage.Turns m; rounds = rounds }) r.0 r.1) }
+        ensures next { (ds : List TheDirective) →
+            NextIs (length self.now.boot.machines) (state_of self.now) (record { stage = Stage.Turns m; rounds = rounds }) ds result }
+        ensures falls { IfSome result
+            (λ r. Falls (length self.now.boot.machines) (state_of self.now) (record { stage = Stage.Turns m; rounds = rounds }) r.0 r.1) }
     {
         if m < self.machines() {
             Some((
@@ -111,8 +116,10 @@ impl World {
     /// What comes next of a round from this pair on, and how far it is then, with so many rounds behind it.
     fn next_of_round(&self, from: u8, to: u8, rounds: u32) -> (Step, Cursor)
         requires { IsWorld self.now }
-        ensures next { (ds : List TheDirective) → NextIs (length self.now.boot.machines) (state_of self.now) (record { stage = Stage.Packets from to; rounds = rounds }) ds (Some result) }
-        ensures falls { Falls (length self.now.boot.machines) (state_of self.now) (record { stage = Stage.Packets from to; rounds = rounds }) result.0 result.1 }
+        ensures next { (ds : List TheDirective) →
+            NextIs (length self.now.boot.machines) (state_of self.now) (record { stage = Stage.Packets from to; rounds = rounds }) ds (Some result) }
+        ensures falls { Falls (length self.now.boot.machines) (state_of self.now)
+            (record { stage = Stage.Packets from to; rounds = rounds }) result.0 result.1 }
     {
         match self.first_packet(from, to) {
             Some((a, b, k)) => (

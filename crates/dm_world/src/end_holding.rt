@@ -9,12 +9,12 @@ ghost use Rattle.dm_world.specs.Meets.{IsWorld, state_of};
 use crate::end_lines::FIRST_NUMBER;
 use crate::end_messages::ids_of_held;
 use crate::world::World;
-use dm_records::Record;
+use dm_line::end_line::EndLine;
 use dm_link::Pid;
 use dm_memory::NoMemory;
 use dm_message::Message;
 use dm_node::Node;
-use dm_line::end_line::EndLine;
+use dm_records::Record;
 use std::alloc::Global;
 
 impl World {
@@ -22,7 +22,8 @@ impl World {
     pub(crate) fn say_holding(&self, lines: &mut Vec<EndLine>) -> Result<(), NoMemory>
         requires world { IsWorld self.now }
         requires may { MayEnd (length self.now.boot.machines) (state_of self.now) }
-        ensures { OnOk result (lines.new.items ≡ lines.old.items ++ each_machine (λ m. homes_with (state_of self.now) (held_line (state_of self.now) m) (length self.now.boot.machines)) (length self.now.boot.machines)) }
+        ensures { OnOk result (lines.new.items ≡ lines.old.items ++
+            each_machine (λ m. homes_with (state_of self.now) (held_line (state_of self.now) m) (length self.now.boot.machines)) (length self.now.boot.machines)) }
     {
         for m in 0..self.machines() {
             self.say_holding_on(m, lines)?;
@@ -35,7 +36,8 @@ impl World {
         requires world { IsWorld self.now }
         requires may { MayEnd (length self.now.boot.machines) (state_of self.now) }
         requires within { m < length self.now.boot.machines }
-        ensures { OnOk result (lines.new.items ≡ lines.old.items ++ homes_with (state_of self.now) (held_line (state_of self.now) m) (length self.now.boot.machines)) }
+        ensures { OnOk result (lines.new.items ≡ lines.old.items ++
+            homes_with (state_of self.now) (held_line (state_of self.now) m) (length self.now.boot.machines)) }
     {
         for home in 0..self.machines() {
             self.say_holding_of(m, home, lines)?;
@@ -49,7 +51,8 @@ impl World {
         requires may { MayEnd (length self.now.boot.machines) (state_of self.now) }
         requires within { m < length self.now.boot.machines }
         requires home { home < length self.now.boot.machines }
-        ensures { OnOk result (lines.new.items ≡ lines.old.items ++ home_with (held_line (state_of self.now) m) home ((state_of self.now).nodes home).kernel.made) }
+        ensures { OnOk result (lines.new.items ≡ lines.old.items ++
+            home_with (held_line (state_of self.now) m) home ((state_of self.now).nodes home).kernel.made) }
     {
         for place in 0..self.made(home) {
             let pid = Pid {
@@ -72,7 +75,12 @@ impl World {
 }
 
 /// What a machine holds for a process.
-fn say_held_here(node: &Node, machine: u8, pid: Pid, lines: &mut Vec<EndLine>) -> Result<(), NoMemory>
+fn say_held_here(
+    node: &Node,
+    machine: u8,
+    pid: Pid,
+    lines: &mut Vec<EndLine>,
+) -> Result<(), NoMemory>
     ensures { OnOk result (lines.new.items ≡ lines.old.items ++ list_line (end.Holding machine pid) (names_of (held_for (at node.now.kernel.records pid)))) }
 {
     match node.kernel().records().get(pid) {

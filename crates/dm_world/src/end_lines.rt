@@ -12,13 +12,13 @@ use crate::end_messages::{ids_of, untaken_ids};
 use crate::end_process::{say_alive, say_arriving};
 use crate::end_servers::say_servers;
 use crate::world::World;
-use dm_records::Record;
+use dm_line::end_line::{EndLine, Standing};
 use dm_link::Pid;
 use dm_lists::Queue;
 use dm_memory::NoMemory;
 use dm_message::Message;
 use dm_node::Node;
-use dm_line::end_line::{EndLine, Standing};
+use dm_records::Record;
 use std::alloc::Global;
 
 /// The number of the first process that a machine makes.
@@ -68,7 +68,8 @@ impl World {
     fn say_processes(&self, lines: &mut Vec<EndLine>) -> Result<(), NoMemory>
         requires world { IsWorld self.now }
         requires may { MayEnd (length self.now.boot.machines) (state_of self.now) }
-        ensures { OnOk result (lines.new.items ≡ lines.old.items ++ homes_with (state_of self.now) (process_lines (length self.now.boot.machines) (state_of self.now)) (length self.now.boot.machines)) }
+        ensures { OnOk result (lines.new.items ≡ lines.old.items ++
+            homes_with (state_of self.now) (process_lines (length self.now.boot.machines) (state_of self.now)) (length self.now.boot.machines)) }
     {
         for home in 0..self.machines() {
             self.say_home(home, lines)?;
@@ -81,7 +82,8 @@ impl World {
         requires world { IsWorld self.now }
         requires may { MayEnd (length self.now.boot.machines) (state_of self.now) }
         requires within { home < length self.now.boot.machines }
-        ensures { OnOk result (lines.new.items ≡ lines.old.items ++ home_with (process_lines (length self.now.boot.machines) (state_of self.now)) home ((state_of self.now).nodes home).kernel.made) }
+        ensures { OnOk result (lines.new.items ≡ lines.old.items ++
+            home_with (process_lines (length self.now.boot.machines) (state_of self.now)) home ((state_of self.now).nodes home).kernel.made) }
     {
         for place in 0..self.made(home) {
             let pid = Pid {
@@ -135,7 +137,8 @@ impl World {
     fn say_queues(&self, lines: &mut Vec<EndLine>) -> Result<(), NoMemory>
         requires world { IsWorld self.now }
         requires may { MayEnd (length self.now.boot.machines) (state_of self.now) }
-        ensures { OnOk result (lines.new.items ≡ lines.old.items ++ homes_with (state_of self.now) (queue_of (length self.now.boot.machines) (state_of self.now)) (length self.now.boot.machines)) }
+        ensures { OnOk result (lines.new.items ≡ lines.old.items ++
+            homes_with (state_of self.now) (queue_of (length self.now.boot.machines) (state_of self.now)) (length self.now.boot.machines)) }
     {
         for home in 0..self.machines() {
             self.say_home_queues(home, lines)?;
@@ -148,7 +151,8 @@ impl World {
         requires world { IsWorld self.now }
         requires may { MayEnd (length self.now.boot.machines) (state_of self.now) }
         requires within { home < length self.now.boot.machines }
-        ensures { OnOk result (lines.new.items ≡ lines.old.items ++ home_with (queue_of (length self.now.boot.machines) (state_of self.now)) home ((state_of self.now).nodes home).kernel.made) }
+        ensures { OnOk result (lines.new.items ≡ lines.old.items ++
+            home_with (queue_of (length self.now.boot.machines) (state_of self.now)) home ((state_of self.now).nodes home).kernel.made) }
     {
         for place in 0..self.made(home) {
             let pid = Pid {
@@ -176,7 +180,8 @@ impl World {
     /// The inbox of each machine.
     fn say_inboxes(&self, lines: &mut Vec<EndLine>) -> Result<(), NoMemory>
         requires { IsWorld self.now }
-        ensures { OnOk result (lines.new.items ≡ lines.old.items ++ each_machine (λ m. list_line (end.Inbox m) (names_of ((state_of self.now).nodes m).kernel.inbox)) (length self.now.boot.machines)) }
+        ensures { OnOk result (lines.new.items ≡ lines.old.items ++
+            each_machine (λ m. list_line (end.Inbox m) (names_of ((state_of self.now).nodes m).kernel.inbox)) (length self.now.boot.machines)) }
     {
         for m in 0..self.machines() {
             say_inbox(self.machine(m), m, lines)?;
@@ -187,7 +192,8 @@ impl World {
     /// What was given to each stream and not taken yet.
     fn say_streams(&self, lines: &mut Vec<EndLine>) -> Result<(), NoMemory>
         requires { IsWorld self.now }
-        ensures { OnOk result (lines.new.items ≡ lines.old.items ++ each_machine (λ a. each_machine (λ c. stream_line (state_of self.now) a c) (length self.now.boot.machines)) (length self.now.boot.machines)) }
+        ensures { OnOk result (lines.new.items ≡ lines.old.items ++
+            each_machine (λ a. each_machine (λ c. stream_line (state_of self.now) a c) (length self.now.boot.machines)) (length self.now.boot.machines)) }
     {
         for from in 0..self.machines() {
             self.say_streams_from(from, lines)?;
@@ -199,7 +205,8 @@ impl World {
     fn say_streams_from(&self, from: u8, lines: &mut Vec<EndLine>) -> Result<(), NoMemory>
         requires world { IsWorld self.now }
         requires within { from < length self.now.boot.machines }
-        ensures { OnOk result (lines.new.items ≡ lines.old.items ++ each_machine (λ c. stream_line (state_of self.now) from c) (length self.now.boot.machines)) }
+        ensures { OnOk result (lines.new.items ≡ lines.old.items ++
+            each_machine (λ c. stream_line (state_of self.now) from c) (length self.now.boot.machines)) }
     {
         for to in 0..self.machines() {
             self.say_stream(from, to, lines)?;

@@ -6,14 +6,14 @@ ghost use Rattle.dm_migrate.specs.Arrival.{revived};
 ghost use Rattle.dm_world.specs.Ends.{SaysSome, alive_lines, come_lines, come_whole, doing_of, link_lines, parts_lines};
 
 use arrayvec::ArrayVec;
-use dm_statebytes::Shell;
+use dm_line::end_line::{Doing, EndLine, Standing};
 use dm_link::Pid;
 use dm_linktable::Table;
 use dm_memory::NoMemory;
 use dm_migrate::{Arriving, Wanted};
 use dm_process::{Process, Status};
 use dm_processor::{Memory, Regs};
-use dm_line::end_line::{Doing, EndLine, Standing};
+use dm_statebytes::Shell;
 
 /// The lines of a process that machine `m` has: how it stands there, its registers, its memory and its links.
 pub fn say_alive(
@@ -131,7 +131,12 @@ fn say_memory(pid: Pid, memory: &Memory, lines: &mut Vec<EndLine>) -> Result<(),
 }
 
 /// The bytes of a block up to the last that isn't 0, if there is one.
-fn say_block(pid: Pid, block: u8, bytes: &[u8; 256], lines: &mut Vec<EndLine>) -> Result<(), NoMemory>
+fn say_block(
+    pid: Pid,
+    block: u8,
+    bytes: &[u8; 256],
+    lines: &mut Vec<EndLine>,
+) -> Result<(), NoMemory>
     ensures { OnOk result (lines.new.items ≡ lines.old.items ++ block_line pid block (trimmed bytes.now)) }
 {
     let shown = shown(bytes);

@@ -2,17 +2,16 @@
 ghost use Rattle.std.specs.Prelude.{◌≡◌, ◌<◌, ◌≤◌, ◌^◌, [], ◌∷◌, ◌++◌, OnOk, length};
 ghost use Rattle.std.specs.Option.{IfSome};
 ghost use Rattle.dm_switchboard.specs.Lawful.{IsLawfulBoard};
-
 ghost use Rattle.dm_line.specs.declared.end_line.EndLine.TheVariants as end;
 ghost use Rattle.dm_world.specs.Ends.{HasPlainEnd, child_lines, name_lines, pending_lines, server_lines};
 
 use arrayvec::ArrayVec;
 use dm_kernel::Kernel;
+use dm_line::end_line::EndLine;
 use dm_link::{Addr, Link, Pid};
 use dm_memory::NoMemory;
 use dm_message::MsgId;
 use dm_procman::Pending;
-use dm_line::end_line::EndLine;
 use dm_switchboard::Switchboard;
 
 /// The switchboard and the process manager.

@@ -8,10 +8,10 @@ ghost use Rattle.dm_node.specs.Wired.{packet_line, spoken, with_packet};
 ghost use Rattle.dm_world.specs.Meets.{IsSendable, Spoke};
 ghost use Rattle.dm_world.specs.Readable.{AreReadBack};
 
+use dm_line::line::{Line, Load};
 use dm_memory::NoMemory;
 use dm_node::Out;
 use dm_packet::{Packet, encode};
-use dm_line::line::{Line, Load};
 use dm_wire::Wire;
 use std::alloc::Global;
 

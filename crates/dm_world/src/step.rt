@@ -16,19 +16,18 @@ ghost use Rattle.dm_node.specs.Wired.{spoken};
 ghost use Rattle.dm_line.specs.declared.line.Line.TheVariants as line;
 ghost use Rattle.dm_world.specs.Local.{ActsAlone, acts_on};
 ghost use Rattle.dm_world.specs.May.{MayDeliver, MayStep};
-ghost use Rattle.dm_world.specs.Meets.{ActedAt, Answers, AreNodes, IsSendable, IsWorld, TurnAnswers, node_in, state_of};
-ghost use Rattle.dm_world.specs.Readable.{AreReadBack, gave};
-ghost use Rattle.dm_world.specs.Whole.{AreWhole};
-ghost use Rattle.dm_world.specs.World.{world_step};
+ghost use Rattle.dm_world.specs.Meets.{ActedAt, AreNodes, IsSendable, IsWorld, TurnAnswers, node_in, state_of};
+ghost use Rattle.dm_world.specs.Readable.{AreReadBack};
+ghost use Rattle.dm_world.specs.Stepped.{StepMeets};
 
 use crate::speak::speak;
 use crate::world::World;
+use dm_line::line::Line;
 use dm_link::Pid;
 use dm_memory::NoMemory;
 use dm_node::{Node, Out, Stop};
 use dm_onekernel::Boot;
 use dm_packet::{Packet, decode};
-use dm_line::line::Line;
 use dm_schedule::Step;
 use dm_wire::Wire;
 use std::alloc::Global;
@@ -42,13 +41,8 @@ impl World {
         requires running { self.old.stopped ≡ false }
         requires may { MayStep self.old.boot (state_of self.old) step.now }
         requires groups { self.old.groups < 2 ^ 127 }
-        ensures answers { Answers result (state_of self.new) (world_step self.old.boot (state_of self.old) step.now) }
-        ensures world { OnOk result (IsWorld self.new) }
+        ensures meets { StepMeets self.old self.new step.now result }
         ensures alone { OnOk result (ActsAlone (acts_on step.now) (state_of self.old) (state_of self.new)) }
-        ensures again { OnOk result (AreReadBack (gave self.old.boot (state_of self.old) step.now)) }
-        // Where the machine's kernel froze a process, that one can be carried whole.
-        ensures whole { OrNoMemory result (AreWhole (state_of self.old) step.now) }
-        ensures boot { self.new.boot ≡ self.old.boot }
         ensures running { OnOk result (self.new.stopped ≡ false) }
         ensures stopped { OnErr result (self.new.stopped ≡ true) }
     {
@@ -66,11 +60,7 @@ impl World {
         requires world { IsWorld self.old }
         requires may { MayStep self.old.boot (state_of self.old) step.now }
         requires groups { self.old.groups < 2 ^ 127 }
-        ensures answers { Answers result (state_of self.new) (world_step self.old.boot (state_of self.old) step.now) }
-        ensures world { OnOk result (IsWorld self.new) }
-        ensures again { OnOk result (AreReadBack (gave self.old.boot (state_of self.old) step.now)) }
-        ensures whole { OrNoMemory result (AreWhole (state_of self.old) step.now) }
-        ensures boot { self.new.boot ≡ self.old.boot }
+        ensures meets { StepMeets self.old self.new step.now result }
         ensures stopped { self.new.stopped ≡ self.old.stopped }
     {
         match *step {
@@ -86,11 +76,7 @@ impl World {
         requires world { IsWorld self.old }
         requires may { MayStep self.old.boot (state_of self.old) (directive.Turn m) }
         requires groups { self.old.groups < 2 ^ 127 }
-        ensures answers { Answers result (state_of self.new) (world_step self.old.boot (state_of self.old) (directive.Turn m)) }
-        ensures world { OnOk result (IsWorld self.new) }
-        ensures again { OnOk result (AreReadBack (gave self.old.boot (state_of self.old) (directive.Turn m))) }
-        ensures whole { OrNoMemory result (AreWhole (state_of self.old) (directive.Turn m)) }
-        ensures boot { self.new.boot ≡ self.old.boot }
+        ensures meets { StepMeets self.old self.new (directive.Turn m) result }
         ensures stopped { self.new.stopped ≡ self.old.stopped }
     {
         let outs = take_turn(self.alloc, &mut self.nodes, &self.boot, m)?;
@@ -103,10 +89,7 @@ impl World {
         requires world { IsWorld self.old }
         requires may { MayStep self.old.boot (state_of self.old) (directive.Migrate pid to) }
         requires groups { self.old.groups < 2 ^ 127 }
-        ensures answers { Answers result (state_of self.new) (world_step self.old.boot (state_of self.old) (directive.Migrate pid to)) }
-        ensures world { OnOk result (IsWorld self.new) }
-        ensures again { OnOk result (AreReadBack (gave self.old.boot (state_of self.old) (directive.Migrate pid to))) }
-        ensures boot { self.new.boot ≡ self.old.boot }
+        ensures meets { StepMeets self.old self.new (directive.Migrate pid to) result }
         ensures stopped { self.new.stopped ≡ self.old.stopped }
     {
         let outs = ask_manager(self.alloc, &mut self.nodes, &self.boot, pid, to)?;
@@ -119,10 +102,7 @@ impl World {
         requires world { IsWorld self.old }
         requires may { MayStep self.old.boot (state_of self.old) (directive.Tick m) }
         requires groups { self.old.groups < 2 ^ 127 }
-        ensures answers { Answers result (state_of self.new) (world_step self.old.boot (state_of self.old) (directive.Tick m)) }
-        ensures world { OnOk result (IsWorld self.new) }
-        ensures again { OnOk result (AreReadBack (gave self.old.boot (state_of self.old) (directive.Tick m))) }
-        ensures boot { self.new.boot ≡ self.old.boot }
+        ensures meets { StepMeets self.old self.new (directive.Tick m) result }
         ensures stopped { self.new.stopped ≡ self.old.stopped }
     {
         let outs = send_again(self.alloc, &self.boot, &self.nodes, m)?;
@@ -135,10 +115,7 @@ impl World {
         requires world { IsWorld self.old }
         requires may { MayStep self.old.boot (state_of self.old) (directive.Deliver a b k) }
         requires groups { self.old.groups < 2 ^ 127 }
-        ensures answers { Answers result (state_of self.new) (world_step self.old.boot (state_of self.old) (directive.Deliver a b k)) }
-        ensures world { OnOk result (IsWorld self.new) }
-        ensures again { OnOk result (AreReadBack (gave self.old.boot (state_of self.old) (directive.Deliver a b k))) }
-        ensures boot { self.new.boot ≡ self.old.boot }
+        ensures meets { StepMeets self.old self.new (directive.Deliver a b k) result }
         ensures stopped { self.new.stopped ≡ self.old.stopped }
     {
         match read(&self.wires, a, b, k) {
@@ -153,10 +130,7 @@ impl World {
         requires may { MayStep self.old.boot (state_of self.old) (directive.Deliver a b k) }
         requires groups { self.old.groups < 2 ^ 127 }
         requires packet { option_map packet_of (bytes_at (packets_on self.old.wires a b) k) ≡ Some (Ok packet) }
-        ensures answers { Answers result (state_of self.new) (world_step self.old.boot (state_of self.old) (directive.Deliver a b k)) }
-        ensures world { OnOk result (IsWorld self.new) }
-        ensures again { OnOk result (AreReadBack (gave self.old.boot (state_of self.old) (directive.Deliver a b k))) }
-        ensures boot { self.new.boot ≡ self.old.boot }
+        ensures meets { StepMeets self.old self.new (directive.Deliver a b k) result }
         ensures stopped { self.new.stopped ≡ self.old.stopped }
     {
         self.wires.mark(a, b, k);
@@ -170,10 +144,7 @@ impl World {
         requires world { IsWorld self.old }
         requires groups { self.old.groups < 2 ^ 127 }
         requires none { bytes_at (packets_on self.old.wires a b) k ≡ None }
-        ensures answers { Answers result (state_of self.new) (world_step self.old.boot (state_of self.old) (directive.Deliver a b k)) }
-        ensures world { OnOk result (IsWorld self.new) }
-        ensures again { OnOk result (AreReadBack (gave self.old.boot (state_of self.old) (directive.Deliver a b k))) }
-        ensures boot { self.new.boot ≡ self.old.boot }
+        ensures meets { StepMeets self.old self.new (directive.Deliver a b k) result }
         ensures stopped { self.new.stopped ≡ self.old.stopped }
     {
         let outs = nothing(self.alloc)?;

@@ -1,4 +1,4 @@
-use Rattle.std.proofs.Common.{ap, ◌∙◌}
+use Rattle.std.proofs.Common.{rules, ap, ◌∙◌}
 use Rattle.dm_node.specs.Acts.{asks_move}
 use Rattle.dm_schedule.specs.declared.Step.TheVariants as step
 use Rattle.dm_world.specs.Meets.{node_in}
@@ -6,35 +6,20 @@ use Rattle.dm_world.proofs.Rereading.{turn_back}
 use Rattle.dm_world.proofs.Stepping.{acted_size, turn_stepped, turn_world, written}
 use Rattle.dm_world.proofs.world.World.ask_move.Goals as goal
 
-pub returns-clause-answers : goal.returns-clause-answers
-returns-clause-answers c =
+pub returns-clause-meets : goal.returns-clause-meets
+returns-clause-meets c =
     let old = c.args.self.now in
     let now = c.group.new.self in
     let ys = c.ask_manager.new.nodes in
     let outs = c.in_ok-outs.outs.items in
     let o = asks_move (node_in old.boot old.nodes.items 0) c.args.pid c.args.to in
     let acts = rw c.deref_mut.ensures.value at c.in_ok-outs.ensures.answers in
-    turn_stepped old now ys (step.Migrate c.args.pid c.args.to) 0 outs c.in_ok-lines.lines.items o acts
-    (ap (λ v. v.items) c.group.ensures.nodes ∙ written old.nodes ys (acted_size old.boot old.nodes.items ys 0 outs o acts))
-    (record { lines = c.in_ok-lines.ensures.lines; wires = c.in_ok-lines.ensures.wires; groups = c.in_ok-lines.ensures.groups; boot = c.group.ensures.boot })
-
-pub returns-clause-world : goal.returns-clause-world
-returns-clause-world c =
-    let old = c.args.self.now in
-    let now = c.group.new.self in
-    let ys = c.ask_manager.new.nodes in
-    let outs = c.in_ok-outs.outs.items in
-    let o = asks_move (node_in old.boot old.nodes.items 0) c.args.pid c.args.to in
-    let acts = rw c.deref_mut.ensures.value at c.in_ok-outs.ensures.answers in
-    turn_world old now ys 0 outs o c.requires.world acts
-    (ap (λ v. v.items) c.group.ensures.nodes ∙ written old.nodes ys (acted_size old.boot old.nodes.items ys 0 outs o acts))
-    c.group.ensures.boot
-
-pub returns-clause-again : goal.returns-clause-again
-returns-clause-again c =
-    let old = c.args.self.now in
-    let ys = c.ask_manager.new.nodes in
-    let outs = c.in_ok-outs.outs.items in
-    let o = asks_move (node_in old.boot old.nodes.items 0) c.args.pid c.args.to in
-    let acts = rw c.deref_mut.ensures.value at c.in_ok-outs.ensures.answers in
-    turn_back old.boot old.nodes.items ys 0 outs o acts c.in_ok-lines.ensures.again
+    let are = ap (λ v. v.items) c.group.ensures.nodes ∙ written old.nodes ys (acted_size old.boot old.nodes.items ys 0 outs o acts) in
+    record {
+      answers = turn_stepped old now ys (step.Migrate c.args.pid c.args.to) 0 outs c.in_ok-lines.lines.items o acts are
+          (record { lines = c.in_ok-lines.ensures.lines; wires = c.in_ok-lines.ensures.wires; groups = c.in_ok-lines.ensures.groups; boot = c.group.ensures.boot });
+      world = turn_world old now ys 0 outs o c.requires.world acts are c.group.ensures.boot;
+      again = turn_back old.boot old.nodes.items ys 0 outs o acts c.in_ok-lines.ensures.again;
+      whole = tt;
+      boot = search rules;
+    }

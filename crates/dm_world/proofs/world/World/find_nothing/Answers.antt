@@ -1,4 +1,4 @@
-use Rattle.std.proofs.Common.{sym, subst}
+use Rattle.std.proofs.Common.{rules, sym, subst}
 use Rattle.dm_schedule.specs.declared.Step.TheVariants as step
 use Rattle.dm_world.specs.Meets.{MeetsSome, state_of}
 use Rattle.dm_world.specs.Readable.{AreReadBack, gave_bytes}
@@ -6,15 +6,18 @@ use Rattle.dm_world.specs.World.{delivers}
 use Rattle.dm_world.proofs.Stepping.{found_nothing}
 use Rattle.dm_world.proofs.world.World.find_nothing.Goals as goal
 
-pub returns-clause-answers : goal.returns-clause-answers
-returns-clause-answers c =
+pub returns-clause-meets : goal.returns-clause-meets
+returns-clause-meets c =
     let old = c.args.self.now in
     let now = c.group.new.self in
     let e = step.Deliver c.args.a c.args.b c.args.k in
     let said = c.in_ok-lines.lines.items in
-    subst (λ o. MeetsSome (state_of now) said (delivers (state_of old) e c.args.a c.args.b c.args.k o)) (sym c.requires.none)
-    (found_nothing old now e c.args.a c.args.b c.args.k c.in_ok-outs.outs.items said c.in_ok-outs.ensures c.group.ensures.nodes
-    (record { lines = c.in_ok-lines.ensures.lines; wires = c.in_ok-lines.ensures.wires; groups = c.in_ok-lines.ensures.groups; boot = c.group.ensures.boot }))
-
-pub returns-clause-again : goal.returns-clause-again
-returns-clause-again c = subst (λ o. AreReadBack (gave_bytes (state_of c.args.self.now) c.args.a c.args.b o)) (sym c.requires.none) tt
+    record {
+      answers = subst (λ o. MeetsSome (state_of now) said (delivers (state_of old) e c.args.a c.args.b c.args.k o)) (sym c.requires.none)
+          (found_nothing old now e c.args.a c.args.b c.args.k c.in_ok-outs.outs.items said c.in_ok-outs.ensures c.group.ensures.nodes
+          (record { lines = c.in_ok-lines.ensures.lines; wires = c.in_ok-lines.ensures.wires; groups = c.in_ok-lines.ensures.groups; boot = c.group.ensures.boot }));
+      world = search rules;
+      again = subst (λ o. AreReadBack (gave_bytes (state_of old) c.args.a c.args.b o)) (sym c.requires.none) tt;
+      whole = tt;
+      boot = search rules;
+    }

@@ -1,0 +1,2 @@
+//! The commands of the program, a file each.
+pub mod run;

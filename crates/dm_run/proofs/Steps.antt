@@ -1,0 +1,115 @@
+-- A world is stepped, directive by directive.
+use Rattle.std.proofs.Common.{◌≡◌, ℕ, inl, inr, false, List, [], ◌∷◌, ◌++◌, length, refl, ap, ◌∙◌, sym, subst}
+use Rattle.std.specs.declared.option.Option.TheVariants.{Some}
+use Rattle.std.specs.List.{All}
+use Rattle.std.specs.declared.option.Option.{Option}
+use Rattle.dm_onekernel.specs.declared.boot.Boot.{Boot}
+use Rattle.dm_onekernel.specs.Boot.{IsValid}
+use Rattle.dm_schedule.specs.declared.Step.{Step}
+use Rattle.dm_schedule.specs.declared.Directive.{Directive}
+use Rattle.dm_line.specs.declared.end_line.EndLine.{EndLine}
+use Rattle.dm_line.specs.declared.line.Line.{Line}
+use Rattle.dm_line.specs.Todo.{Todo, all_of}
+use Rattle.dm_rule.specs.Ends as rule_ends
+use Rattle.dm_rule.specs.Laws.{IsStep}
+use Rattle.dm_rule.specs.Point.{Point, first_point}
+use Rattle.dm_rule.specs.Worn.{IsWorn}
+use Rattle.dm_text.specs.Fits.{HidesNothing}
+use Rattle.dm_world.specs.declared.world.World.{World}
+use Rattle.dm_world.specs.Ends as world_ends
+use Rattle.dm_world.specs.Ends.{MayEnd}
+use Rattle.dm_world.specs.May.{MayStep}
+use Rattle.dm_world.specs.Meets.{IsWorld, state_of}
+use Rattle.dm_world.specs.Readable.{AreReadBack, gave}
+use Rattle.dm_world.specs.Whole.{AreWhole}
+use Rattle.dm_world.specs.World.{WorldState, Said, Says, WornOut, first_world, world_step}
+use Rattle.dm_mirror.specs.Run.{GoesOn, RunStands}
+use Rattle.dm_mirror.specs.Ran.{Ran, RanGoes}
+use Rattle.dm_mirror.specs.Todo.{IsDirective}
+use Rattle.dm_run.specs.Coming.{HasCome, IsFor}
+use Rattle.dm_run.specs.Running.{IsRunning, RanOn, RunsOn}
+use Rattle.dm_run.proofs.Comes.{stands_hide}
+use Rattle.dm_run.proofs.Laws.{end_is_said, end_may, ran_begins, ran_goes_on, run_is_ran}
+use Rattle.dm_run.proofs.Stepping.{are_directives}
+
+-- a world as the boot file has it
+pub running_first : (w : World) (b : Boot) → IsValid b → IsWorld w → w.stopped ≡ false → w.boot ≡ b → state_of w ≡ first_world b → IsRunning w
+running_first w b valid world going same first = record {
+  world = world;
+  going = going;
+  steps = [];
+  groups = [];
+  point = first_point b;
+  ran = subst (λ (x : Boot). Ran x [] [] (first_point b) (state_of w)) (sym same) (subst (Ran b [] [] (first_point b)) (sym first) (ran_begins b valid));
+}
+
+-- the directive may be done
+pub may_step : (w : World) (e : Step) → (r : IsRunning w) → IsStep (length w.boot.machines) e → MayStep w.boot (state_of w) e
+may_step w e r fits = (ran_goes_on w.boot r.steps r.groups r.point (state_of w) e r.world.valid r.ran fits).may
+
+ran_by : (b : Boot) (es : List Step) (gs : List (List Line)) (pt : Point) (w : WorldState) (e : Step) (said : Said) → (k : RanGoes b es gs pt w e) → AreReadBack (gave b w e) → (g : GoesOn b w pt e) → g.said ≡ said → RanOn b es gs pt e said.lines said.state
+ran_by b es gs pt w e said k again g is =
+    subst (λ (x : Said). RanOn b es gs pt e x.lines x.state) is (record {
+      spelled = g.group;
+      due = g.due;
+      said = g.lines;
+      ran = k.on g again;
+    })
+
+-- it was done
+pub runs_on : (b : Boot) (w : WorldState) (e : Step) (said : Said) → IsValid b → IsStep (length b.machines) e → world_step b w e ≡ Some (Says said) → AreReadBack (gave b w e) → AreWhole w e → RunsOn w b e said.lines said.state
+runs_on b w e said valid fits happens again whole es gs pt r =
+    let k = ran_goes_on b es gs pt w e valid r fits in
+    elim (k.steps whole) [
+      | inl g ↦ ran_by b es gs pt w e said k again g (let f = g.happens in cc)
+      | inr s ↦ absurd (let f = s.happens in let bad : Says said ≡ WornOut s.from s.to = cc in cc)
+    ]
+
+-- and the world runs on
+pub running_on : (old new : World) (e : Step) (lines : List Line) → IsRunning old → IsWorld new → new.stopped ≡ false → new.boot ≡ old.boot → RunsOn (state_of old) old.boot e lines (state_of new) → IsRunning new
+running_on old new e lines r world going same on =
+    let k = on r.steps r.groups r.point r.ran in
+    record {
+      world = world;
+      going = going;
+      steps = r.steps ++ e ∷ [];
+      groups = r.groups ++ lines ∷ [];
+      point = k.spelled.point;
+      ran = subst (λ (x : Boot). Ran x (r.steps ++ e ∷ []) (r.groups ++ lines ∷ []) k.spelled.point (state_of new)) (sym same) k.ran;
+    }
+
+-- or it stopped as worn
+pub stops_worn : (b : Boot) (w : WorldState) (e : Step) (from to : ℕ) (es : List Step) (gs : List (List Line)) (pt : Point) → IsValid b → IsStep (length b.machines) e → world_step b w e ≡ Some (WornOut from to) → AreWhole w e → Ran b es gs pt w → IsWorn b pt e from to
+stops_worn b w e from to es gs pt valid fits happens whole r =
+    let k = ran_goes_on b es gs pt w e valid r fits in
+    elim (k.steps whole) [
+      | inl g ↦ absurd (let f = g.happens in let bad : Says g.said ≡ WornOut from to = cc in cc)
+      | inr s ↦
+          let f : WornOut s.from s.to ≡ WornOut from to = let h = s.happens in cc in
+          let one : s.from ≡ from = cc in
+          let two : s.to ≡ to = cc in
+          subst (λ (m : ℕ). IsWorn b pt e from m) two (subst (λ (m : ℕ). IsWorn b pt e m s.to) one s.worn)
+    ]
+
+-- the lines at the end can be said
+pub may_end_there : (w : World) → (r : IsRunning w) → MayEnd (length w.boot.machines) (state_of w)
+may_end_there w r = end_may w.boot r.steps (state_of w) r.point r.world.valid r.ran.leads r.ran.stands
+
+pub ends_so : (b : Boot) (w : WorldState) (ends : List EndLine) (es : List Step) (gs : List (List Line)) (pt : Point) → IsValid b → ends ≡ world_ends.end_lines (length b.machines) w → Ran b es gs pt w → ends ≡ rule_ends.end_lines pt
+ends_so b w ends es gs pt valid e r = e ∙ end_is_said b es w pt valid r.leads r.stands
+
+pub ends_hide_there : (w : World) → (r : IsRunning w) → All HidesNothing (world_ends.end_lines (length w.boot.machines) (state_of w))
+ends_hide_there w r = stands_hide w.boot r.steps r.point (state_of w) r.world.valid r.ran.leads r.ran.stands
+
+-- a world that has done directives runs on
+pub running_come : (b : Boot) (ds : List Directive) (t : Todo) (before after : Option (List ℕ)) (w : World) → IsValid b → All (IsFor (length b.machines)) ds → IsWorld w → w.stopped ≡ false → w.boot ≡ b → HasCome b ds t before after (state_of w) → IsRunning w
+running_come b ds t before after w valid each world going same h =
+    let k = run_is_ran b ds h.groups h.end h.left (state_of w) valid (are_directives (length b.machines) ds each) h.stands in
+    record {
+      world = world;
+      going = going;
+      steps = k.0;
+      groups = h.groups;
+      point = h.end;
+      ran = subst (λ (x : Boot). Ran x k.0 h.groups h.end (state_of w)) (sym same) k.1;
+    }

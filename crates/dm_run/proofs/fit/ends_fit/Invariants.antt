@@ -1,0 +1,7 @@
+use Rattle.std.proofs.Common.{take}
+use Rattle.std.specs.List.{All}
+use Rattle.dm_text.specs.Fits.{EndFits, HidesNothing}
+use Rattle.dm_run.proofs.fit.ends_fit.Given as goal
+
+abbrev pub invariant-loop-end : goal.invariant-loop-end
+invariant-loop-end l = All HidesNothing l.ends → All EndFits (take l.end-index l.ends)

@@ -1,0 +1,17 @@
+use Rattle.std.proofs.Common.{◌≡◌, ◌<◌, ap, arith, length, take, subst, ◌∙◌}
+use Rattle.std.proofs.Math.Seq.{take-length}
+use Rattle.std.specs.List.{All}
+use Rattle.std.proofs.lemmas.List.Elements.{All-more}
+use Rattle.dm_text.specs.Fits.{LineFits}
+use Rattle.dm_run.proofs.fit.lines_fit.Goals as goal
+
+pub loop-line-preserved : goal.loop-line-preserved
+loop-line-preserved c =
+    let h : c.loop-line.line-index < length c.args.lines.now = omega arith in
+    All-more LineFits c.args.lines.now c.loop-line.line-index c.line-item.result h c.loop-line.invariant (subst LineFits c.line-item.is c.line_fits.ensures)
+
+pub returns : goal.returns
+returns c =
+    let n : c.loop-line.line-index ≡ length c.args.lines.now = omega arith in
+    let e : take c.loop-line.line-index c.args.lines.now ≡ c.args.lines.now = ap (λ k. take k c.args.lines.now) n ∙ take-length c.args.lines.now in
+    subst (All LineFits) e c.loop-line.invariant

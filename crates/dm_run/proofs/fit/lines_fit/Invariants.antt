@@ -1,0 +1,7 @@
+use Rattle.std.proofs.Common.{take}
+use Rattle.std.specs.List.{All}
+use Rattle.dm_text.specs.Fits.{LineFits}
+use Rattle.dm_run.proofs.fit.lines_fit.Given as goal
+
+abbrev pub invariant-loop-line : goal.invariant-loop-line
+invariant-loop-line l = All LineFits (take l.line-index l.lines)

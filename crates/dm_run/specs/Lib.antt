@@ -1,0 +1,4 @@
+pub mod Appended
+pub mod Printed
+pub mod Coming
+pub mod Running

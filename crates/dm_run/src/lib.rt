@@ -1,0 +1,15 @@
+//! Runs of a system: a world that is stepped directive by directive, and the writing of what it prints.
+#![tactic(auto)]
+
+pub mod directives;
+mod fit;
+pub mod offer;
+pub mod running;
+pub mod stop;
+pub mod write;
+
+pub use directives::{run_directives, run_to_end};
+pub use offer::{offer, offer_ends};
+pub use running::{begin, end_lines, step_on};
+pub use stop::Stop;
+pub use write::write_all;

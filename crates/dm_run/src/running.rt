@@ -1,0 +1,60 @@
+//! A world that is stepped: it begins, goes on with any directive for its machines, and says where all stands.
+ghost use Rattle.std.specs.Prelude.{◌≡◌, ◌<◌, ◌+◌, ◌^◌, IfErr, IfOk, OnErr, OnOk, length, true};
+ghost use Rattle.std.specs.List.{All};
+ghost use Rattle.dm_onekernel.specs.Boot.{IsValid};
+ghost use Rattle.dm_rule.specs.Laws.{IsStep};
+ghost use Rattle.dm_text.specs.Fits.{EndFits, LineFits};
+ghost use Rattle.dm_world.specs.Local.{ActsAlone, acts_on};
+ghost use Rattle.dm_world.specs.Meets.{state_of};
+ghost use Rattle.dm_run.specs.Coming.{IsAtStart};
+ghost use Rattle.dm_run.specs.Running.{EndsSo, IsRunning, RunsOn, StopsWorn};
+
+use crate::fit::{ends_fit, lines_fit};
+use dm_line::end_line::EndLine;
+use dm_line::line::Line;
+use dm_memory::NoMemory;
+use dm_onekernel::Boot;
+use dm_schedule::Step;
+use dm_world::{Stop, World};
+use std::alloc::Global;
+
+/// The system of a boot file, before its first directive.
+pub fn begin(alloc: Global, boot: Boot) -> Result<World, NoMemory>
+    requires { IsValid boot }
+    ensures fresh { IfOk result IsAtStart }
+    ensures running { IfOk result IsRunning }
+    ensures boot { IfOk result (λ w. w.boot ≡ boot) }
+    ensures groups { IfOk result (λ w. w.groups ≡ 0) }
+{
+    World::boot(alloc, boot)
+}
+
+/// Does an elementary directive: the lines of its group, its head first. A world that stops takes no further directive.
+pub fn step_on(world: &mut World, step: &Step) -> Result<Vec<Line>, Stop>
+    requires running { IsRunning world.old }
+    requires step { IsStep (length world.old.boot.machines) step.now }
+    requires groups { world.old.groups < 2 ^ 127 }
+    ensures runs_on { IfOk result (λ lines. RunsOn (state_of world.old) world.old.boot step.now lines.items (state_of world.new)) }
+    ensures running { OnOk result (IsRunning world.new) }
+    ensures groups { OnOk result (world.new.groups ≡ world.old.groups + 1) }
+    ensures fits { IfOk result (λ lines. All LineFits lines.items) }
+    ensures alone { OnOk result (ActsAlone (acts_on step.now) (state_of world.old) (state_of world.new)) }
+    ensures boot { world.new.boot ≡ world.old.boot }
+    ensures worn { IfErr result (λ stop. StopsWorn world.old.boot (state_of world.old) step.now stop) }
+    ensures stopped { OnErr result (world.new.stopped ≡ true) }
+{
+    let lines = world.step(step)?;
+    lines_fit(lines.as_slice());
+    Ok(lines)
+}
+
+/// The lines at the end of a run: where everything stands then.
+pub fn end_lines(world: &World) -> Result<Vec<EndLine>, NoMemory>
+    requires { IsRunning world.now }
+    ensures ends { IfOk result (λ ends. EndsSo world.now.boot (state_of world.now) ends.items) }
+    ensures fits { IfOk result (λ ends. All EndFits ends.items) }
+{
+    let ends = world.end_lines()?;
+    ends_fit(ends.as_slice());
+    Ok(ends)
+}
