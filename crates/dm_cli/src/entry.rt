@@ -1,6 +1,6 @@
 //! The words that the program is given, and the program on them, to its end.
 ghost use Rattle.std.specs.Prelude.{◌≡◌, map, IfErr, IfOk, string_bytes};
-ghost use Rattle.std.specs.Io.{kind_of};
+ghost use Rattle.std.specs.IoError.{error_kind};
 ghost use Rattle.std.specs.Vec.Iter.{into_iter_steps};
 ghost use Rattle.std.specs.Iterator.Runs.{WholeRun};
 ghost use Rattle.dm_memory.specs.declared.NoMemory.{NoMemory as TheNoMemory};
@@ -26,7 +26,7 @@ pub fn words_of(alloc: Global, args: io::Result<Args>) -> Result<Vec<String>, Wo
     ensures words { IfOk args (λ a. IfOk result (λ words. WholeRun into_iter_steps a (λ run. words.items ≡ run.items))) }
     ensures lacks { IfOk args (λ _. IfErr result (λ no. no ≡ WordsNo.Usage → ⊥)) }
     ensures none { IfErr args (λ _. IfOk result (λ _. ⊥)) }
-    ensures want { IfErr args (λ e. IfErr result (λ no. no ≡ WordsNo.Usage → kind_of e ≡ ErrorKind.OutOfMemory → ⊥)) }
+    ensures want { IfErr args (λ e. IfErr result (λ no. no ≡ WordsNo.Usage → error_kind e ≡ ErrorKind.OutOfMemory → ⊥)) }
 {
     match args {
         Ok(args) => match collected(alloc, args) {

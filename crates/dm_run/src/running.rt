@@ -26,7 +26,8 @@ pub fn begin(alloc: Global, boot: Boot) -> Result<World, NoMemory>
     ensures boot { IfOk result (λ w. w.boot ≡ boot) }
     ensures groups { IfOk result (λ w. w.groups ≡ 0) }
 {
-    World::boot(alloc, boot)
+    let world = World::boot(alloc, boot)?;
+    Ok(world)
 }
 
 /// Does an elementary directive: the lines of its group, its head first. A world that stops takes no further directive.

@@ -6,7 +6,7 @@ abbrev pub invariant-pieces : goal.invariant-pieces
 invariant-pieces g l = record {
   same : g.F.Shelf.told l.shelf ≡ g.F.Shelf.told l.initial.shelf;
   so_far : SoFar (g.F.Shelf.told l.initial.shelf) l.name l.bytes.items;
-  counts : g.F.Shelf.faults l.initial.shelf ≤ g.F.Shelf.faults l.shelf;
+  steady : g.F.Shelf.faults l.shelf ≡ g.F.Shelf.faults l.initial.shelf;
   asks : g.F.Shelf.asked l.initial.shelf l.name l.shelf;
 }
 

@@ -20,7 +20,7 @@ loop-place-preserved c =
     elim c.match-name.branch [
       | in-Some+in_ok-say_name w ↦
           let k : Named = record { name = w.in-Some.bytes.now; link = w.in-Some.link.now } in
-          ap (λ (v : Vec Line Global). v.items ++ name_lines (drop (i + 1) ks)) w.lines-is
+          ap (λ (v : Vec EndLine Global). v.items ++ name_lines (drop (i + 1) ks)) w.lines-is
           ∙ ap (λ ls. ls ++ name_lines (drop (i + 1) ks)) w.in_ok-say_name.ensures
           ∙ name_more ks i k c.loop-place.lines.items (c.args.lines.now.items ++ name_lines ks) (sym w.in-Some.ensures) c.loop-place.invariant
       | in_default w ↦ absurd (within_some ks i within (sym w.in_default.ensures))

@@ -1,6 +1,6 @@
 use Rattle.std.proofs.Common.{ℕ, ◌<◌, List, length, arith, ap}
 use Rattle.std.specs.declared.option.Option.{Option}
-use Rattle.dm_line.specs.declared.line.Line.{Line}
+use Rattle.dm_line.specs.declared.end_line.EndLine.{EndLine}
 use Rattle.dm_node.specs.State.{NodeState}
 use Rattle.dm_world.specs.Ends.{record_queue}
 use Rattle.dm_world.specs.Meets.{state_of}
@@ -11,7 +11,7 @@ pub returns-then-branch : goal.returns-then-branch
 returns-then-branch c =
     let m = c.loop-m.m in
     let n = length c.args.self.now.boot.machines in
-    let f : ℕ → Option (List Line) = λ m. record_queue c.args.pid (((state_of c.args.self.now).nodes m).kernel.records c.args.pid) in
+    let f : ℕ → Option (List EndLine) = λ m. record_queue c.args.pid (((state_of c.args.self.now).nodes m).kernel.records c.args.pid) in
     let within : m < n = grind (arith, c.loop-m-test.true, c.machines-m-end.ensures.all) in
     found f m n c.in_ok-say_known_queue.field-0 _ c.args.lines.now.items c.loop-m.lines.items c.say_known_queue.new.lines.items c.loop-m.invariant.none within
     (ap (λ (s : NodeState). record_queue c.args.pid (s.kernel.records c.args.pid)) c.machine.ensures.state) c.if-branch.true c.loop-m.invariant.same c.in_ok-say_known_queue.ensures

@@ -1,0 +1,18 @@
+use Rattle.std.proofs.Common.{ap, sym, ◌∙◌}
+use Rattle.dm_onekernel.specs.declared.boot.Boot.{Boot}
+use Rattle.dm_world.specs.World.{WorldState, first_world}
+use Rattle.dm_run.proofs.Steps.{running_first}
+use Rattle.dm_run.proofs.running.begin.Goals as goal
+
+pub returns-clause-fresh : goal.returns-clause-fresh
+returns-clause-fresh c = record {
+  world = c.in_ok-world.ensures.world;
+  going = c.in_ok-world.ensures.running;
+  first = c.in_ok-world.ensures.state ∙ ap (λ (b : Boot). first_world b) (sym c.in_ok-world.ensures.boot);
+}
+
+pub returns-clause-running : goal.returns-clause-running
+returns-clause-running c = running_first c.in_ok-world.world c.args.boot c.requires c.in_ok-world.ensures.world c.in_ok-world.ensures.running c.in_ok-world.ensures.boot c.in_ok-world.ensures.state
+
+pub returns-clause-groups : goal.returns-clause-groups
+returns-clause-groups c = ap (λ (w : WorldState). w.groups) c.in_ok-world.ensures.state
