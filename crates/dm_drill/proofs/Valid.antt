@@ -1,5 +1,6 @@
 -- The system of a drill is one that may start, for each number of machines.
-use Rattle.std.proofs.Common.{◌≡◌, ℕ, zero, suc, ◌+◌, ◌-◌, ◌<◌, ◌≤◌, ◌&&◌, nat_le, Bool, true, false, length, refl, ap, sym, ◌∙◌, subst, arith}
+use Rattle.std.proofs.Common.{◌≡◌, ℕ, zero, suc, ◌+◌, ◌-◌, ◌<◌, ◌≤◌, ◌&&◌, ◌==◌, nat_le, Bool, true, false, [], length, refl, ap, sym, ◌∙◌, subst, arith}
+use Rattle.std.proofs.lemmas.Bool.Decides.{nat_tests}
 use Rattle.dm_onekernel.specs.declared.boot.Boot.{Boot}
 use Rattle.dm_onekernel.specs.Boot.{IsValid, machines_are_valid, images_are_valid, processes_are_valid}
 use Rattle.dm_drill.specs.Boot.{boot_of}
@@ -47,9 +48,19 @@ abbrev each_below : (ℕ → Bool) → ℕ → Bool
 each_below f zero = true
 each_below f (suc n) = each_below f n && f n
 
+same_by : (k n : ℕ) → (k == n) ≡ true → k ≡ n
+same_by k n same = grind (arith, nat_tests)
+
+below_by : (k n : ℕ) → (k == n) ≡ false → k < suc n → k < n
+below_by k n other l = grind (arith, nat_tests)
+
+at_or_below : (f : ℕ → Bool) (n k : ℕ) (b : Bool) → (k == n) ≡ b → k < suc n → f n ≡ true → (k < n → f k ≡ true) → f k ≡ true
+at_or_below f n k true same l here below = subst (λ (m : ℕ). f m ≡ true) (sym (same_by k n same)) here
+at_or_below f n k false other l here below = below (below_by k n other l)
+
 each_at : (f : ℕ → Bool) (n k : ℕ) → each_below f n ≡ true → k < n → f k ≡ true
 each_at f zero k e l = absurd (omega (arith, l))
-each_at f (suc n) k e l = first_of (each_at f n k (both_first _ _ e) (omega (arith, l)), ?)
+each_at f (suc n) k e l = at_or_below f n k (k == n) refl l (both_second _ _ e) (λ m. each_at f n k (both_first _ _ e) m)
 
 tested : each_below (λ k. is_valid (boot_of (k + 2))) 15 ≡ true
 unfolding boot_of

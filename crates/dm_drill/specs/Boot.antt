@@ -1,6 +1,6 @@
 -- The system of a drill: every machine is the home of two processes, each with a link to the next process and one to an area of
 -- the process half way round.
-use Rattle.std.specs.Prelude.{ℕ, zero, suc, ◌+◌, ◌*◌, ◌/◌, ◌%◌, true, false, List, [], ◌∷◌, ◌++◌}
+use Rattle.std.specs.Prelude.{ℕ, zero, suc, ◌+◌, ◌*◌, ◌/◌, ◌%◌, Bool, true, false, List, [], ◌∷◌, ◌++◌}
 use Rattle.dm_link.specs.declared.Pid.{Pid}
 use Rattle.dm_link.specs.declared.Link.{Link}
 use Rattle.dm_link.specs.declared.Kind.TheVariants.{General}
@@ -44,6 +44,9 @@ program =
     20 ∷ 0 ∷ 0 ∷ 8 ∷
     16 ∷ 0 ∷ 0 ∷ 0 ∷ []
 
+abbrev pub image : BootImage
+image = record { bytes = program; blocks = 1 }
+
 -- a general link to process i, to an area of it
 abbrev pub link_to : ℕ → ℕ → ℕ → ℕ → ℕ → Link
 link_to machines i code base len =
@@ -73,6 +76,6 @@ boot_of machines = record {
   quantum = 16;
   format = One;
   machines = machines_of machines;
-  images = record { bytes = program; blocks = 1 } ∷ [];
+  images = image ∷ [];
   processes = processes_of machines (2 * machines);
 }

@@ -1,5 +1,5 @@
 -- The directives of a drill.
-use Rattle.std.specs.Prelude.{ℕ, zero, suc, ◌+◌, ◌-◌, ◌%◌, ◌==◌, nat_lt, if◌then◌else◌, List, [], ◌∷◌}
+use Rattle.std.specs.Prelude.{ℕ, zero, suc, ◌+◌, ◌-◌, ◌%◌, ◌==◌, nat_lt, if◌then◌else◌, List, [], ◌∷◌, ◌++◌}
 use Rattle.dm_link.specs.Names.{pid_of}
 use Rattle.dm_schedule.specs.declared.Step.TheVariants as step
 use Rattle.dm_schedule.specs.declared.Directive.{Directive}
@@ -48,7 +48,12 @@ of_eight machines d x =
 unfoldable pub directive_drawn : ℕ → ℕ → Drawn
 directive_drawn machines x = of_eight machines (drawn 8 x) (stepped x)
 
+-- the state of the generator behind so many directives
+unfoldable pub state_behind : ℕ → ℕ → ℕ → ℕ
+state_behind machines x zero = x
+state_behind machines x (suc n) = (directive_drawn machines (state_behind machines x n)).state
+
 -- so many directives
 unfoldable pub directives_drawn : ℕ → ℕ → ℕ → List Directive
 directives_drawn machines x zero = []
-directives_drawn machines x (suc n) = (directive_drawn machines x).directive ∷ directives_drawn machines (directive_drawn machines x).state n
+directives_drawn machines x (suc n) = directives_drawn machines x n ++ (directive_drawn machines (state_behind machines x n)).directive ∷ []

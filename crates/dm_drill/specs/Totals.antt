@@ -6,7 +6,7 @@ pub record Totals : Type 0 where
   pub puts : ℕ
   pub packets : ℕ
   pub taken : ℕ
-  pub old : ℕ
+  pub repeated : ℕ
   pub early : ℕ
   pub received : ℕ
   pub moved : ℕ

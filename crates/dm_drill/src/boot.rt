@@ -1,7 +1,7 @@
 //! The system of a drill.
-ghost use Rattle.std.specs.Prelude.{◌≡◌, ◌≤◌, ◌<◌, ◌*◌, IfOk};
+ghost use Rattle.std.specs.Prelude.{◌≡◌, ◌≤◌, ◌<◌, ◌*◌, ◌∷◌, [], IfOk};
 ghost use Rattle.dm_onekernel.specs.Boot.{IsValid};
-ghost use Rattle.dm_drill.specs.Boot.{boot_of, link_to, machines_of, pid_at, process_at, processes_of, program};
+ghost use Rattle.dm_drill.specs.Boot.{boot_of, image, link_to, machines_of, pid_at, process_at, processes_of};
 
 use dm_link::{Addr, Area, Kind, Link, Pid};
 use dm_lists::Items;
@@ -51,11 +51,10 @@ fn machines_of(alloc: Global, machines: u8) -> Result<Items<BootMachine>, NoMemo
 }
 
 /// The one program, in a memory of one block.
-fn images_of(alloc: Global) -> Result<Items<BootImage>, NoMemory> {
-    let mut bytes = Items::new(alloc);
-    for byte in PROGRAM {
-        bytes.push(byte)?;
-    }
+fn images_of(alloc: Global) -> Result<Items<BootImage>, NoMemory>
+    ensures { IfOk result (λ images. images ≡ image ∷ []) }
+{
+    let bytes = Items::from_vec(Vec::from_slice(alloc, &PROGRAM)?);
     let mut images = Items::new(alloc);
     images.push(BootImage { bytes, blocks: 1 })?;
     Ok(images)

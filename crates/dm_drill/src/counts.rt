@@ -1,7 +1,6 @@
 //! What a drill counts of the lines that are printed.
 ghost use Rattle.std.specs.Prelude.{◌≡◌, OnOk};
-ghost use Rattle.dm_drill.specs.Counts.{Shows, counted, label_counted, nothing, one_more, step_counted, with_group, with_lines};
-ghost use Rattle.dm_drill.specs.Totals.{Totals};
+ghost use Rattle.dm_drill.specs.Counts.{shown, sort_of, sort_of_label, nothing, one_more, sort_of_step, with_group, with_lines};
 
 use crate::tally::Tally;
 use dm_line::line::{Line, Stage};
@@ -32,7 +31,7 @@ pub struct Counts {
     pub puts: Tally,
     pub packets: Tally,
     pub taken: Tally,
-    pub old: Tally,
+    pub repeated: Tally,
     pub early: Tally,
     pub received: Tally,
     pub moved: Tally,
@@ -44,14 +43,14 @@ pub struct Counts {
 impl Counts {
     /// Nothing is counted yet.
     pub fn new(alloc: Global) -> Counts
-        ensures { Shows result nothing }
+        ensures { shown result ≡ nothing }
     {
         Counts {
             groups: Tally::new(alloc),
             puts: Tally::new(alloc),
             packets: Tally::new(alloc),
             taken: Tally::new(alloc),
-            old: Tally::new(alloc),
+            repeated: Tally::new(alloc),
             early: Tally::new(alloc),
             received: Tally::new(alloc),
             moved: Tally::new(alloc),
@@ -63,7 +62,7 @@ impl Counts {
 
     /// Counts a group and its lines.
     pub fn add_group(&mut self, lines: &[Line]) -> Result<(), NoMemory>
-        ensures { OnOk result ((t : Totals) → Shows self.old t → Shows self.new (with_group t lines.now)) }
+        ensures { OnOk result (shown self.new ≡ with_group (shown self.old) lines.now) }
     {
         self.groups.add_one()?;
         self.add_lines(lines)
@@ -71,24 +70,24 @@ impl Counts {
 
     /// Counts the lines of a group.
     fn add_lines(&mut self, lines: &[Line]) -> Result<(), NoMemory>
-        ensures { OnOk result ((t : Totals) → Shows self.old t → Shows self.new (with_lines t lines.now)) }
+        ensures { OnOk result (shown self.new ≡ with_lines (shown self.old) lines.now) }
     {
         for line in lines {
-            self.add(counted(line))?;
+            self.add(sort_of(line))?;
         }
         Ok(())
     }
 
     /// Counts one more of these.
     fn add(&mut self, counted: Option<Counted>) -> Result<(), NoMemory>
-        ensures { OnOk result ((t : Totals) → Shows self.old t → Shows self.new (one_more counted t)) }
+        ensures { OnOk result (shown self.new ≡ one_more counted (shown self.old)) }
     {
         match counted {
             None => Ok(()),
             Some(Counted::Put) => self.puts.add_one(),
             Some(Counted::Packet) => self.packets.add_one(),
             Some(Counted::Taken) => self.taken.add_one(),
-            Some(Counted::Old) => self.old.add_one(),
+            Some(Counted::Old) => self.repeated.add_one(),
             Some(Counted::Early) => self.early.add_one(),
             Some(Counted::Received) => self.received.add_one(),
             Some(Counted::Moved) => self.moved.add_one(),
@@ -100,11 +99,11 @@ impl Counts {
 }
 
 /// As what a line is counted, if it is.
-pub fn counted(line: &Line) -> Option<Counted>
-    ensures { result ≡ counted line.now }
+pub fn sort_of(line: &Line) -> Option<Counted>
+    ensures { result ≡ sort_of line.now }
 {
     match *line {
-        Line::Label(label) => label_counted(label),
+        Line::Label(label) => sort_of_label(label),
         Line::Put { .. } => Some(Counted::Put),
         Line::Packet { .. } => Some(Counted::Packet),
         Line::Taken { .. } => Some(Counted::Taken),
@@ -112,15 +111,15 @@ pub fn counted(line: &Line) -> Option<Counted>
         Line::Early { .. } => Some(Counted::Early),
         Line::Held(_) => Some(Counted::Held),
         Line::Forwarded { .. } => Some(Counted::Forwarded),
-        Line::Migration { step, .. } => step_counted(step),
+        Line::Migration { step, .. } => sort_of_step(step),
         Line::Stays(_) => Some(Counted::Stayed),
         _ => None,
     }
 }
 
 /// A reception.
-fn label_counted(label: Label) -> Option<Counted>
-    ensures { result ≡ label_counted label }
+fn sort_of_label(label: Label) -> Option<Counted>
+    ensures { result ≡ sort_of_label label }
 {
     match label {
         Label::Receive { .. } => Some(Counted::Received),
@@ -129,8 +128,8 @@ fn label_counted(label: Label) -> Option<Counted>
 }
 
 /// The last step of a move.
-fn step_counted(step: Stage) -> Option<Counted>
-    ensures { result ≡ step_counted step }
+fn sort_of_step(step: Stage) -> Option<Counted>
+    ensures { result ≡ sort_of_step step }
 {
     match step {
         Stage::Restarted => Some(Counted::Moved),

@@ -31,18 +31,24 @@ pub fn drill_directives(
     Ok(directives)
 }
 
-/// A directive for so many machines.
+/// A directive for so many machines: of eight, three are turns, one a tick, a move and a delivery each, and two rounds.
+#[tactic(auto, unfolding(crate::specs::Directives::directive_drawn))]
 fn draw_directive(machines: u8, generator: &mut Generator) -> Directive
     requires { (2 ≤ machines) × (machines ≤ 16) }
     ensures directive { result ≡ (directive_drawn machines generator.old.state).directive }
     ensures state { generator.new.state ≡ (directive_drawn machines generator.old.state).state }
 {
-    match generator.draw(8) {
-        0..=2 => draw_turn(machines, generator),
-        3 => draw_tick(machines, generator),
-        4 => draw_migrate(machines, generator),
-        5 => draw_deliver(machines, generator),
-        _ => Directive::Round,
+    let kind = generator.draw(8);
+    if kind < 3 {
+        draw_turn(machines, generator)
+    } else if kind == 3 {
+        draw_tick(machines, generator)
+    } else if kind == 4 {
+        draw_migrate(machines, generator)
+    } else if kind == 5 {
+        draw_deliver(machines, generator)
+    } else {
+        Directive::Round
     }
 }
 

@@ -19,16 +19,17 @@ impl Generator {
     }
 
     /// A number below `n`.
+    #[tactic(auto, unfolding(crate::specs::Draw::drawn, crate::specs::Draw::stepped))]
     pub fn draw(&mut self, n: u8) -> u8
         requires { 0 < n }
         ensures drawn { result ≡ drawn n self.old.state }
         ensures below { result < n }
         ensures stepped { self.new.state ≡ stepped self.old.state }
     {
-        self.state = self
-            .state
-            .wrapping_mul(6_364_136_223_846_793_005)
-            .wrapping_add(1_442_695_040_888_963_407);
-        ((self.state >> 33) % u64::from(n)) as u8
+        let next = (6_364_136_223_846_793_005 * u128::from(self.state)
+            + 1_442_695_040_888_963_407)
+            % (1 << 64);
+        self.state = next as u64;
+        (self.state / (1 << 33) % u64::from(n)) as u8
     }
 }

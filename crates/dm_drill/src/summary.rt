@@ -1,9 +1,8 @@
 //! The summary of a drill.
 ghost use Rattle.std.specs.Prelude.{◌≡◌, ◌++◌, OnOk, vec_len};
 ghost use Rattle.std.specs.Fmt.{decimal};
-ghost use Rattle.dm_drill.specs.Counts.{Shows};
-ghost use Rattle.dm_drill.specs.Summary.{counted_line, first_line, quiet_line, summary};
-ghost use Rattle.dm_drill.specs.Totals.{Totals};
+ghost use Rattle.dm_drill.specs.Counts.{shown};
+ghost use Rattle.dm_drill.specs.Summary.{arrivals, counted_line, first_line, moves, quiet_line, summary, traffic};
 
 use crate::counts::Counts;
 use crate::tally::Tally;
@@ -20,21 +19,42 @@ pub fn write_summary(
     quiet: bool,
     into: &mut Vec<u8>,
 ) -> Result<(), NoMemory>
-    ensures { OnOk result ((t : Totals) → Shows counts.now t → into.new.items ≡ into.old.items ++ summary seed machines lines t quiet) }
+    ensures { OnOk result (into.new.items ≡ into.old.items ++ summary seed machines lines (shown counts.now) quiet) }
 {
     write_first(seed, machines, lines, into)?;
+    write_traffic(counts, into)?;
+    write_arrivals(counts, into)?;
+    write_moves(counts, into)?;
+    write_quiet(quiet, into)
+}
+
+/// Writes what was done.
+fn write_traffic(counts: &Counts, into: &mut Vec<u8>) -> Result<(), NoMemory>
+    ensures { OnOk result (into.new.items ≡ into.old.items ++ traffic (shown counts.now)) }
+{
     write_count("groups", &counts.groups, into)?;
     write_count("puts", &counts.puts, into)?;
-    write_count("packets", &counts.packets, into)?;
+    write_count("packets", &counts.packets, into)
+}
+
+/// Writes what came.
+fn write_arrivals(counts: &Counts, into: &mut Vec<u8>) -> Result<(), NoMemory>
+    ensures { OnOk result (into.new.items ≡ into.old.items ++ arrivals (shown counts.now)) }
+{
     write_count("taken", &counts.taken, into)?;
-    write_count("old", &counts.old, into)?;
+    write_count("old", &counts.repeated, into)?;
     write_count("early", &counts.early, into)?;
-    write_count("received", &counts.received, into)?;
+    write_count("received", &counts.received, into)
+}
+
+/// Writes what became of moves.
+fn write_moves(counts: &Counts, into: &mut Vec<u8>) -> Result<(), NoMemory>
+    ensures { OnOk result (into.new.items ≡ into.old.items ++ moves (shown counts.now)) }
+{
     write_count("moved", &counts.moved, into)?;
     write_count("stayed", &counts.stayed, into)?;
     write_count("forwarded", &counts.forwarded, into)?;
-    write_count("held", &counts.held, into)?;
-    write_quiet(quiet, into)
+    write_count("held", &counts.held, into)
 }
 
 /// Writes what the drill was drawn from.
