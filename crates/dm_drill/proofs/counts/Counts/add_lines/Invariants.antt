@@ -1,0 +1,6 @@
+use Rattle.std.proofs.Common.{◌≡◌, take}
+use Rattle.dm_drill.specs.Counts.{shown, with_lines}
+use Rattle.dm_drill.proofs.counts.Counts.add_lines.Given as goal
+
+abbrev pub invariant-loop-line : goal.invariant-loop-line
+invariant-loop-line l = shown l.self ≡ with_lines (shown l.initial.self) (take l.line-index l.lines)

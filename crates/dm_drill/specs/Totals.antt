@@ -1,0 +1,15 @@
+-- How many groups and lines of each sort a drill has printed.
+use Rattle.std.specs.Prelude.{ℕ}
+
+pub record Totals : Type 0 where
+  pub groups : ℕ
+  pub puts : ℕ
+  pub packets : ℕ
+  pub taken : ℕ
+  pub repeated : ℕ
+  pub early : ℕ
+  pub received : ℕ
+  pub moved : ℕ
+  pub stayed : ℕ
+  pub forwarded : ℕ
+  pub held : ℕ
