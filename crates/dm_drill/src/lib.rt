@@ -1,9 +1,6 @@
-//! A system and a schedule drawn from a number, and what is counted of their run.
+//! What is counted of a run, and its summary.
 #![tactic(auto)]
 
-pub mod boot;
 pub mod counts;
-pub mod directives;
-pub mod draw;
 pub mod summary;
 pub mod tally;

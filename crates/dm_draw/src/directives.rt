@@ -2,7 +2,7 @@
 ghost use Rattle.std.specs.Prelude.{◌≡◌, ◌≤◌, ◌<◌, IfOk, length};
 ghost use Rattle.std.specs.List.{All};
 ghost use Rattle.dm_schedule.specs.declared.Directive.{Directive as TheDirective};
-ghost use Rattle.dm_drill.specs.Directives.{deliver_drawn, directive_drawn, directives_drawn, migrate_drawn, tick_drawn, turn_drawn};
+ghost use Rattle.dm_draw.specs.Directives.{deliver_drawn, directive_drawn, directives_drawn, migrate_drawn, tick_drawn, turn_drawn};
 
 use crate::draw::Generator;
 use dm_link::Pid;

@@ -1,6 +1,6 @@
 //! Numbers drawn one after another.
 ghost use Rattle.std.specs.Prelude.{◌≡◌, ◌<◌};
-ghost use Rattle.dm_drill.specs.Draw.{drawn, stepped};
+ghost use Rattle.dm_draw.specs.Draw.{drawn, stepped};
 
 /// A linear congruential generator: the seed is its first state.
 #[derive(Clone, Copy, Debug, PartialEq, Eq)]
@@ -26,8 +26,7 @@ impl Generator {
         ensures below { result < n }
         ensures stepped { self.new.state ≡ stepped self.old.state }
     {
-        let next = (6_364_136_223_846_793_005 * u128::from(self.state)
-            + 1_442_695_040_888_963_407)
+        let next = (6_364_136_223_846_793_005 * u128::from(self.state) + 1_442_695_040_888_963_407)
             % (1 << 64);
         self.state = next as u64;
         (self.state / (1 << 33) % u64::from(n)) as u8

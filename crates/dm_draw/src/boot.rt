@@ -1,7 +1,7 @@
 //! The system of a drill.
 ghost use Rattle.std.specs.Prelude.{◌≡◌, ◌≤◌, ◌<◌, ◌*◌, ◌∷◌, [], IfOk};
 ghost use Rattle.dm_onekernel.specs.Boot.{IsValid};
-ghost use Rattle.dm_drill.specs.Boot.{boot_of, image, link_to, machines_of, pid_at, process_at, processes_of};
+ghost use Rattle.dm_draw.specs.Boot.{boot_of, image, link_to, machines_of, pid_at, process_at, processes_of};
 
 use dm_link::{Addr, Area, Kind, Link, Pid};
 use dm_lists::Items;

@@ -5,7 +5,7 @@ use Rattle.dm_schedule.specs.declared.Step.TheVariants as step
 use Rattle.dm_schedule.specs.declared.Directive.{Directive}
 use Rattle.dm_schedule.specs.declared.Directive.TheVariants as directive
 use Rattle.dm_onekernel.specs.Boot.{first_number}
-use Rattle.dm_drill.specs.Draw.{drawn, stepped}
+use Rattle.dm_draw.specs.Draw.{drawn, stepped}
 
 -- a directive, and the state of the generator behind it
 pub record Drawn : Type 0 where

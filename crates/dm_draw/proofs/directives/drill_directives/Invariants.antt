@@ -1,6 +1,6 @@
 use Rattle.std.proofs.Common.{◌≡◌}
-use Rattle.dm_drill.specs.Directives.{directives_drawn, state_behind}
-use Rattle.dm_drill.proofs.directives.drill_directives.Given as goal
+use Rattle.dm_draw.specs.Directives.{directives_drawn, state_behind}
+use Rattle.dm_draw.proofs.directives.drill_directives.Given as goal
 
 abbrev pub invariant-loop : goal.invariant-loop
 invariant-loop l =

@@ -1,8 +1,8 @@
 use Rattle.std.proofs.Common.{◌≡◌, ◌++◌, ◌∷◌, [], sym, ap, ◌∙◌}
 use Rattle.dm_schedule.specs.declared.Directive.{Directive}
-use Rattle.dm_drill.specs.Directives.{directive_drawn, directives_drawn, state_behind}
-use Rattle.dm_drill.proofs.Drawing.{drawn_none, state_none, drawn_more, state_more}
-use Rattle.dm_drill.proofs.directives.drill_directives.Goals as goal
+use Rattle.dm_draw.specs.Directives.{directive_drawn, directives_drawn, state_behind}
+use Rattle.dm_draw.proofs.Drawing.{drawn_none, state_none, drawn_more, state_more}
+use Rattle.dm_draw.proofs.directives.drill_directives.Goals as goal
 
 pub loop-init : goal.loop-init
 loop-init c = record {

@@ -1,8 +1,8 @@
 use Rattle.std.proofs.Common.{rules, subst, sym}
 use Rattle.dm_onekernel.specs.Boot.{IsValid}
-use Rattle.dm_drill.specs.Boot.{boot_of}
-use Rattle.dm_drill.proofs.Valid.{boot_valid}
-use Rattle.dm_drill.proofs.boot.drill_boot.Goals as goal
+use Rattle.dm_draw.specs.Boot.{boot_of}
+use Rattle.dm_draw.proofs.Valid.{boot_valid}
+use Rattle.dm_draw.proofs.boot.drill_boot.Goals as goal
 
 pub returns-clause-boot : goal.returns-clause-boot
 unfolding boot_of
