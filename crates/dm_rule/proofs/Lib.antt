@@ -1,5 +1,6 @@
 pub mod Worked
 pub mod QuietWorked
+pub mod QuietTests
 pub mod Standing
 pub mod Once
 pub mod Lines
