@@ -1,5 +1,5 @@
 -- Each step of a directive leaves fewer steps.
-use Rattle.std.proofs.Common.{◌≡◌, ℕ, zero, suc, ◌+◌, ◌-◌, ◌*◌, ◌^◌, ◌<◌, ◌≤◌, Bool, true, false, ◌==◌, List, [], ◌∷◌, ◌++◌, length, refl, sym, ap, subst, ◌∙◌, inl, inr, arith}
+use Rattle.std.proofs.Common.{◌≡◌, ℕ, zero, suc, ◌+◌, ◌-◌, ◌*◌, ◌^◌, ◌<◌, ◌≤◌, Bool, true, false, ◌==◌, List, [], ◌∷◌, ◌++◌, length, refl, sym, ap, subst, ◌∙◌, inl, inr, arith, mul-suc}
 use Rattle.std.specs.Prelude.{Result, ⊤, ◌&&◌, if◌then◌else◌, option_map}
 use Rattle.std.specs.declared.option.Option.{Option}
 use Rattle.std.specs.declared.option.Option.TheVariants.{None, Some}
@@ -279,7 +279,7 @@ turn_falls n w (Round j) m k h =
     let from = h.from in
     let within = h.within in
     counted_fewer n w (Passing (Round j) (Turns m)) (Passing (Round j) (Turns (k + 1))) (step.Turn k) (omega (arith, from, within))
-turn_falls n w Settle m k h = (tt, (h.within, (h.takes, counted_no_more n w (Passing Settle (Turns m)) (Passing Settle (Turns (k + 1))) (step.Turn k) (omega arith))))
+turn_falls n w Settle m k h = (tt, (h.within, h.takes, counted_no_more n w (Passing Settle (Turns m)) (Passing Settle (Turns (k + 1))) (step.Turn k) (omega arith)))
 
 -- from a place where as many turns are left, or more
 fewer_from : (n : ℕ) (w : WorldState) (c d after : Cursor) (e : Step) → turns_of n c ≤ turns_of n d → LeavesFewer n w c e after → LeavesFewer n w d e after
@@ -289,7 +289,7 @@ no_more_from : (n : ℕ) (w : WorldState) (c d after : Cursor) (e : Step) → tu
 no_more_from n w c d after e h f b s is = let g = f b s is in omega (arith, g, h)
 
 settle_from : (n : ℕ) (w : WorldState) (x y : Place) (e : Step) (after : Cursor) → SettleGoes n w (Passing Settle x) e after → SettleGoes n w (Passing Settle y) e after
-settle_from n w x y (step.Turn m) after h = (h.0, (h.1, no_more_from n w (Passing Settle x) (Passing Settle y) after (step.Turn m) (omega arith) h.2))
+settle_from n w x y (step.Turn m) after h = (h.0, h.1, no_more_from n w (Passing Settle x) (Passing Settle y) after (step.Turn m) (omega arith) h.2)
 settle_from n w x y (step.Deliver a b k) after h = (h.0, fewer_from n w (Passing Settle x) (Passing Settle y) after (step.Deliver a b k) (omega arith) h.1)
 settle_from n w x y (step.Tick m) after h = absurd h
 settle_from n w x y (step.Migrate p m) after h = absurd h
@@ -300,7 +300,8 @@ falls_from n w Settle x y e after h f = (f.0, settle_from n w x y e after f.1)
 
 -- the first of one round more
 one_round : (n k : ℕ) → 0 < k → n + n * (k - 1) ≡ n * k
-one_round n k some = let is : k ≡ suc (k - 1) = omega (arith, some) in ap (λ (j : ℕ). n + n * (j - 1)) is ∙ (let e : n + n * (suc (k - 1) - 1) ≡ n * suc (k - 1) = omega arith in e) ∙ ap (λ (j : ℕ). n * j) (sym is)
+one_round n zero some = absurd (omega (arith, some))
+one_round n (suc j) some = ap (λ (i : ℕ). n + n * i) (let e : suc j - 1 ≡ j = omega arith in e) ∙ (let e : n + n * j ≡ n * suc j = omega (arith, mul-suc n j) in e)
 
 pub next_round_falls : (n : ℕ) (w : WorldState) (k from to : ℕ) (e : Step) (after : Cursor) → 0 < k → Falls n w (Passing (Round (k - 1)) (Packets from to)) e after → Falls n w (Passing (Round k) End) e after
 next_round_falls n w k from to e after some f =

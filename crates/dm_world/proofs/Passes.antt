@@ -134,10 +134,11 @@ pub round_goes : {X : Type 0} (p : Pass) (x : X) → RoundGoes p (Some x)
 round_goes (Round j) x = refl
 round_goes Settle x = tt
 
-pub round_ends : {X : Type 0} (p : Pass) (n m k : ℕ) → Stays p m k → n ≤ k → m < n → RoundGoes p (None {X = X})
-round_ends (Round j) n m k is over small = absurd (omega (arith, is, over, small))
-round_ends Settle n m k is over small = tt
+pub round_ends : {X : Type 0} (p : Pass) (n m k : ℕ) (o : Option X) → Stays p m k → n ≤ k → m < n → RoundGoes p o
+round_ends (Round j) n m k o is over small = absurd (omega (arith, is, over, small))
+round_ends Settle n m k o is over small = tt
 
-pub round_none : {X Y : Type 0} (p : Pass) → RoundGoes p (None {A = X}) → RoundGoes p (None {A = Y})
-round_none (Round j) h = absurd (false≢true h)
-round_none Settle h = tt
+pub round_none : {X Y : Type 0} (p : Pass) (o : Option X) (q : Option Y) → o ≡ None → RoundGoes p o → RoundGoes p q
+round_none (Round j) None q e h = absurd (false≢true h)
+round_none (Round j) (Some x) q e h = cc
+round_none Settle o q e h = tt

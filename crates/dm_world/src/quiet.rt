@@ -1,6 +1,5 @@
 //! Whether anything is on its way.
-ghost use Rattle.std.specs.Prelude.{◌≡◌, ◌<◌, length};
-ghost use Rattle.std.specs.Prelude.{not};
+ghost use Rattle.std.specs.Prelude.{◌≡◌, ◌<◌, ◌==◌, length};
 ghost use Rattle.dm_line.specs.Each.{all_below};
 ghost use Rattle.dm_world.specs.Meets.{IsWorld, state_of};
 ghost use Rattle.dm_world.specs.Next.{all_heard, has_mail, is_quiet};
