@@ -59,3 +59,11 @@ fails_by n f false here is at e before =
 pub some_fails : (n : ℕ) (f : ℕ → Bool) → all_below n f ≡ false → Fails n f
 some_fails zero f e = absurd (false≢true (sym e))
 some_fails (suc n) f e = fails_by n f (all_below n f) (f n) refl refl e (some_fails n f)
+
+-- where one of them fails, not all pass
+pub fails_at : (n : ℕ) (f : ℕ → Bool) (k : ℕ) → k < n → f k ≡ false → all_below n f ≡ false
+fails_at n f k h e = by (all_below n f) refl
+  where
+    by : (b : Bool) → all_below n f ≡ b → all_below n f ≡ false
+    by true is = absurd (false≢true (sym e ∙ each_of_all n f is k h))
+    by false is = is

@@ -1,9 +1,10 @@
 -- What comes next of a pass, and where it is over.
-use Rattle.std.proofs.Common.{◌≡◌, ℕ, zero, suc, ◌+◌, ◌-◌, ◌*◌, ◌<◌, ◌≤◌, Bool, true, false, List, [], ◌∷◌, drop, refl, sym, ap, subst, ◌∙◌, arith}
-use Rattle.std.specs.Prelude.{⊤, if◌then◌else◌, IsSome}
+use Rattle.std.proofs.Common.{◌≡◌, ◌≢◌, ℕ, zero, suc, ◌+◌, ◌-◌, ◌*◌, ◌<◌, ◌≤◌, ◌==◌, ◌&&◌, not, Bool, true, false, List, [], ◌∷◌, drop, length, refl, sym, ap, subst, ◌∙◌, arith}
+use Rattle.std.specs.Prelude.{⊤, ◌||◌, if◌then◌else◌, IsSome}
 use Rattle.std.specs.declared.option.Option.{Option}
 use Rattle.std.specs.declared.option.Option.TheVariants.{None, Some}
 use Rattle.std.proofs.lemmas.Bool.{false≢true}
+use Rattle.std.proofs.lemmas.Bool.Decides.{nat_tests}
 use Rattle.dm_schedule.specs.declared.Step.{Step}
 use Rattle.dm_schedule.specs.declared.Step.TheVariants as step
 use Rattle.dm_schedule.specs.declared.Directive.{Directive}
@@ -15,7 +16,7 @@ use Rattle.dm_world.specs.declared.cursor.Cursor.TheVariants.{Passing}
 use Rattle.dm_world.specs.declared.cursor.Place.{Place}
 use Rattle.dm_world.specs.declared.cursor.Place.TheVariants.{Packets, Turns, End}
 use Rattle.dm_world.specs.Cursor.{FirstIs, FirstTurnIs, InPassIs, NextIs, NextPassIs, RoundGoes, as_next, found_at, machines_left, pairs_at, pairs_left, todo_at, turn_at}
-use Rattle.dm_world.specs.Next.{has_mail, is_quiet, next_step, undelivered}
+use Rattle.dm_world.specs.Next.{all_heard, has_mail, is_quiet, next_step, undelivered}
 use Rattle.dm_world.specs.World.{WorldState}
 use Rattle.dm_world.proofs.Passing.{drop-below, past_below, rows_are_pairs}
 
@@ -142,3 +143,14 @@ pub round_none : {X Y : Type 0} (p : Pass) (o : Option X) (q : Option Y) → o �
 round_none (Round j) None q e h = absurd (false≢true h)
 round_none (Round j) (Some x) q e h = cc
 round_none Settle o q e h = tt
+
+-- why not all is quiet
+pub not_heard : (w : WorldState) (a c : ℕ) → a ≢ c → (length ((w.nodes a).senders c).unacked == 0) ≡ false → all_heard w a c ≡ false
+not_heard w a c apart e = ap (λ (b : Bool). b || (length ((w.nodes a).senders c).unacked == 0)) (let f : (a == c) ≡ false = grind (arith, nat_tests) in f) ∙ e
+
+pub has_some : (mail rest : Bool) → mail ≡ true → (not mail && rest) ≡ false
+has_some mail rest e = ap (λ (b : Bool). not b && rest) e
+
+pub lacks_heard : (mail rest : Bool) → rest ≡ false → (not mail && rest) ≡ false
+lacks_heard true rest e = refl
+lacks_heard false rest e = e

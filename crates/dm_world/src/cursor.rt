@@ -104,9 +104,23 @@ impl World {
         ensures falls { IfSome result (λ r. Falls (length self.now.boot.machines) (state_of self.now) (Cursor.Passing pass Place.End) r.0 r.1) }
     {
         match pass {
-            Pass::Round(0) => None,
-            Pass::Round(rounds) => self.next_packet(Pass::Round(rounds - 1), 0, 0),
+            Pass::Round(rounds) => self.next_round(rounds),
             Pass::Settle => self.next_packet(Pass::Settle, 0, 0),
+        }
+    }
+
+    /// What comes next where so many rounds are left.
+    fn next_round(&self, rounds: u32) -> Option<(Step, Cursor)>
+        requires { IsWorld self.now }
+        ensures next { (ds : List TheDirective) →
+            NextPassIs (length self.now.boot.machines) (state_of self.now) (Pass.Round rounds) ds result }
+        ensures falls { IfSome result
+            (λ r. Falls (length self.now.boot.machines) (state_of self.now) (Cursor.Passing (Pass.Round rounds) Place.End) r.0 r.1) }
+    {
+        if rounds == 0 {
+            None
+        } else {
+            self.next_packet(Pass::Round(rounds - 1), 0, 0)
         }
     }
 

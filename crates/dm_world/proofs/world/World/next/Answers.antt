@@ -1,0 +1,15 @@
+use Rattle.std.proofs.Common.{length, sym, subst}
+use Rattle.dm_world.specs.declared.cursor.Cursor.{Cursor}
+use Rattle.dm_world.specs.declared.cursor.Cursor.TheVariants.{One}
+use Rattle.dm_world.specs.Cursor.{Falls}
+use Rattle.dm_world.specs.Meets.{state_of}
+use Rattle.dm_world.proofs.Falling.{one_falls}
+use Rattle.dm_world.proofs.world.World.next.Goals as goal
+
+pub returns-in-One-clause-falls : goal.returns-in-One-clause-falls
+returns-in-One-clause-falls c =
+    let w = c.args.self.now in
+    let n = length w.boot.machines in
+    let P : Cursor → Type 0 = λ d. Falls n (state_of w) d c.in-One.step c.behind.result in
+    let Q : Cursor → Type 0 = λ d. Falls n (state_of w) (One c.in-One.step) c.in-One.step d in
+    subst P (sym c.in-One.is) (subst Q (sym c.behind.ensures) (one_falls n (state_of w) c.in-One.step))
