@@ -1,3 +1,4 @@
 pub mod Sets
 pub mod Todo
 pub mod Ends
+pub mod Each

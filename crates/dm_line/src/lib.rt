@@ -3,3 +3,4 @@
 
 pub mod end_line;
 pub mod line;
+pub mod pass;

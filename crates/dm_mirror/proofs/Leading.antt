@@ -5,10 +5,11 @@ use Rattle.std.proofs.lemmas.List.Elements.{All-nil}
 use Rattle.dm_onekernel.specs.declared.boot.Boot.{Boot}
 use Rattle.dm_schedule.specs.declared.Step.{Step}
 use Rattle.dm_line.specs.declared.line.Line.{Line}
-use Rattle.dm_line.specs.Todo.{Todo}
+use Rattle.dm_line.specs.Todo.{Todo, all_of}
 use Rattle.dm_rule.specs.Good.{next_step, undelivered, IsRun}
 use Rattle.dm_rule.specs.Laws.{IsStep}
 use Rattle.dm_rule.specs.Point.{Point, first_point}
+use Rattle.dm_rule.specs.Quiet.{has_mail, is_quiet}
 use Rattle.dm_rulelaws.specs.Order.{LeadsBy}
 use Rattle.dm_mirror.specs.Todo.{IsTwo, IsTodo}
 use Rattle.dm_mirror.specs.Run.{joined}
@@ -19,11 +20,11 @@ use Rattle.dm_mirror.proofs.Next.{next_fits}
 run_leads : (b : Boot) (gs : List (List Line)) (pt end : Point) (t left : Todo) → pt.kernel.machines ≡ length b.machines → IsTodo (length b.machines) t → IsRun b pt t gs end left → (es : List Step) × LeadsBy b pt es (joined gs) end
 run_leads b [] pt end t left machines todo run = ([], (refl, run.0))
 run_leads b (g ∷ gs) pt end t left machines todo (n, w, next, is, said, kept, rest) =
-    let fits = next_fits (length b.machines) (undelivered pt.view) t n todo (sym (ap (λ (k : ℕ). next_step k pt.view t) machines) ∙ next) in
+    let fits = next_fits (length b.machines) (undelivered pt.view) (has_mail pt.view) (is_quiet (length b.machines) pt.view) t n todo (sym (ap (λ (k : ℕ). next_step k pt.view t) machines) ∙ next) in
     let (es, more) = run_leads b gs w.point end n.left left (machines_group b pt n.step w is ∙ machines) fits.left rest in
     (n.step ∷ es, (w, joined gs, subst (λ (k : ℕ). IsStep k n.step) (sym machines) fits.step, is, ap (λ (ls : List Line). ls ++ joined gs) (sym said), more))
 
 pub good_leads : GoodLeads
 good_leads b ds gs end left valid fit h =
-    run_leads b gs (first_point b) end (record { pairs = []; machines = []; rounds = 0; directives = ds }) left refl
+    run_leads b gs (first_point b) end (all_of ds) left refl
     (record { pairs = All-nil (IsTwo (length b.machines)); machines_ = All-nil _; directives = fit }) h.run

@@ -105,6 +105,7 @@ pub mod Opening
 pub mod StartKnown
 pub mod StartRooms
 pub mod Starting
+pub mod QuietSaid
 pub mod Next
 pub mod Outs
 pub mod Local

@@ -13,11 +13,15 @@ use Rattle.dm_onekernel.specs.Boot.{IsValid}
 use Rattle.dm_schedule.specs.declared.Step.{Step}
 use Rattle.dm_schedule.specs.declared.Directive.{Directive}
 use Rattle.dm_schedule.specs.declared.Directive.TheVariants as directive
-use Rattle.dm_line.specs.Todo.{Two, Todo, Next, below, pairs_with, pairs_of, here_or_later, next_delivery, round_begun, next_turn, in_round, or, begin_round, begin_rounds, next_round, following}
+use Rattle.dm_schedule.specs.declared.Step.TheVariants as step
+use Rattle.dm_line.specs.declared.pass.Pass.{Pass}
+use Rattle.dm_line.specs.declared.pass.Pass.TheVariants as pass
+use Rattle.dm_line.specs.Todo.{Two, Todo, Next, next, below, pairs_with, pairs_of, pass_begun, here_or_later, next_delivery, takes_turn, next_turn, in_pass, or, begin_pass, settles, next_directive, next_pass, is_over, following}
 use Rattle.dm_rule.specs.Good.{first_undelivered}
 use Rattle.dm_rule.specs.Good as rule
 use Rattle.dm_rule.specs.Laws.{IsStep, Leads}
 use Rattle.dm_rule.specs.Point.{Point, first_point}
+use Rattle.dm_rule.specs.Quiet.{has_mail, is_quiet}
 use Rattle.dm_rulelaws.proofs.BasedAlways.{based_always}
 use Rattle.dm_places.specs.Placed.{Placed}
 use Rattle.dm_world.specs.World.{WorldState}
@@ -26,6 +30,7 @@ use Rattle.dm_world.specs.Next as world
 use Rattle.dm_mirror.specs.Stands.{History, PairStands, Stands, bytes_of, line_of}
 use Rattle.dm_mirror.specs.Todo.{IsTwo, IsDirective, IsTodo}
 use Rattle.dm_mirror.specs.Laws.{NextIsSaid}
+use Rattle.dm_mirror.proofs.QuietSaid.{mail_same, quiet_same}
 
 -- there are as many machines wherever the rule leads
 pub machines_stay : (b : Boot) (es : List Step) (pt : Point) → IsValid b → Leads b (first_point b) es pt → pt.kernel.machines ≡ length b.machines
@@ -80,26 +85,58 @@ all_below machines = below_fits machines machines (omega arith)
 all_pairs : (machines : ℕ) → All (IsTwo machines) (pairs_of (below machines) (below machines))
 all_pairs machines = pairs_fit machines (below machines) (below machines) (all_below machines) (all_below machines)
 
+-- two ways to see whether a machine has mail that agree on the machines that there are
+abbrev SameMail : ℕ → (ℕ → Bool) → (ℕ → Bool) → Type 0
+SameMail machines f g = (m : ℕ) → m < machines → f m ≡ g m
+
+takes_same : (machines : ℕ) (p : Pass) (f g : ℕ → Bool) → SameMail machines f g → SameMail machines (takes_turn p f) (takes_turn p g)
+takes_same machines (pass.Round k) f g same m h = refl
+takes_same machines pass.Settle f g same m h = same m h
+
+turn_same : (machines : ℕ) (f g : ℕ → Bool) (t : Todo) (ms : List ℕ) → SameMail machines f g → All (IsBelow machines) ms → next_turn f t ms ≡ next_turn g t ms
+turn_same machines f g t [] same fit = refl
+turn_same machines f g t (m ∷ ms) same fit =
+    ap (λ (b : Bool). if b then next (step.Turn m) (record t { pairs = []; machines = ms }) else next_turn f t ms) (same m (All-head (IsBelow machines) m ms fit))
+    ∙ ap (λ (o : Option Next). if g m then next (step.Turn m) (record t { pairs = []; machines = ms }) else o) (turn_same machines f g t ms same (All-tail (IsBelow machines) m ms fit))
+
+in_same : (machines : ℕ) (f g : ℕ → Bool) (t : Todo) (d : Option (Step × List Two)) → SameMail machines f g → All (IsBelow machines) t.machines → in_pass f t d ≡ in_pass g t d
+in_same machines f g t None same fit = turn_same machines (takes_turn t.pass f) (takes_turn t.pass g) t t.machines (takes_same machines t.pass f g same) fit
+in_same machines f g t (Some d) same fit = refl
+
 -- what follows is the same
-round_same : (machines : ℕ) (f g : ℕ → ℕ → Option ℕ) (rounds : ℕ) (ds : List Directive) → Agrees machines f g → begin_round machines f rounds ds ≡ begin_round machines g rounds ds
-round_same machines f g rounds ds same =
-    ap (in_round (round_begun machines rounds ds)) (delivery_same machines f g (pairs_of (below machines) (below machines)) same (all_pairs machines))
+begin_same : (machines : ℕ) (f g : ℕ → ℕ → Option ℕ) (mail mail' : ℕ → Bool) (p : Pass) (ds : List Directive) → Agrees machines f g → SameMail machines mail mail' → begin_pass machines f mail p ds ≡ begin_pass machines g mail' p ds
+begin_same machines f g mail mail' p ds first same =
+    let pairs = pairs_of (below machines) (below machines) in
+    ap (in_pass mail (pass_begun machines p ds)) (delivery_same machines f g pairs first (all_pairs machines))
+    ∙ in_same machines mail mail' (pass_begun machines p ds) (next_delivery g pairs) same (all_below machines)
 
-rounds_same : (machines : ℕ) (f g : ℕ → ℕ → Option ℕ) (rounds : ℕ) (ds : List Directive) → Agrees machines f g → begin_rounds machines f rounds ds ≡ begin_rounds machines g rounds ds
-rounds_same machines f g zero ds same = refl
-rounds_same machines f g (suc n) ds same = round_same machines f g n ds same
+directive_same : (machines : ℕ) (f g : ℕ → ℕ → Option ℕ) (mail mail' : ℕ → Bool) (quiet : Bool) (ds : List Directive) → Agrees machines f g → SameMail machines mail mail'
+    → next_directive machines f mail quiet ds ≡ next_directive machines g mail' quiet ds
+directive_same machines f g mail mail' quiet [] first same = refl
+directive_same machines f g mail mail' quiet (directive.One s ∷ ds) first same = refl
+directive_same machines f g mail mail' quiet (directive.Round ∷ ds) first same = begin_same machines f g mail mail' (pass.Round 0) ds first same
+directive_same machines f g mail mail' quiet (directive.Spin zero ∷ ds) first same = directive_same machines f g mail mail' quiet ds first same
+directive_same machines f g mail mail' quiet (directive.Spin (suc n) ∷ ds) first same = begin_same machines f g mail mail' (pass.Round n) ds first same
+directive_same machines f g mail mail' quiet (directive.Settle ∷ ds) first same =
+    ap (λ (o : Option Next). settles quiet o (next_directive machines f mail quiet ds)) (begin_same machines f g mail mail' pass.Settle ds first same)
+    ∙ ap (settles quiet (begin_pass machines g mail' pass.Settle ds)) (directive_same machines f g mail mail' quiet ds first same)
 
-later_same : (machines : ℕ) (f g : ℕ → ℕ → Option ℕ) (rounds : ℕ) (ds : List Directive) → Agrees machines f g → next_round machines f rounds ds ≡ next_round machines g rounds ds
-later_same machines f g zero [] same = refl
-later_same machines f g zero (directive.One s ∷ ds) same = refl
-later_same machines f g zero (directive.Round ∷ ds) same = round_same machines f g 0 ds same
-later_same machines f g zero (directive.Spin n ∷ ds) same = rounds_same machines f g n ds same
-later_same machines f g (suc k) ds same = round_same machines f g k ds same
+later_same : (machines : ℕ) (f g : ℕ → ℕ → Option ℕ) (mail mail' : ℕ → Bool) (quiet : Bool) (p : Pass) (ds : List Directive) → Agrees machines f g → SameMail machines mail mail'
+    → next_pass machines f mail quiet p ds ≡ next_pass machines g mail' quiet p ds
+later_same machines f g mail mail' quiet (pass.Round zero) ds first same = directive_same machines f g mail mail' quiet ds first same
+later_same machines f g mail mail' quiet (pass.Round (suc k)) ds first same = begin_same machines f g mail mail' (pass.Round k) ds first same
+later_same machines f g mail mail' quiet pass.Settle ds first same =
+    ap (λ (o : Option Next). settles quiet o (next_directive machines f mail quiet ds)) (begin_same machines f g mail mail' pass.Settle ds first same)
+    ∙ ap (settles quiet (begin_pass machines g mail' pass.Settle ds)) (directive_same machines f g mail mail' quiet ds first same)
 
-following_same : (machines : ℕ) (f g : ℕ → ℕ → Option ℕ) (t : Todo) → Agrees machines f g → All (IsTwo machines) t.pairs → following machines f t ≡ following machines g t
-following_same machines f g t same fit =
-    ap (λ (d : Option (Step × List Two)). or (in_round t d) (next_round machines f t.rounds t.directives)) (delivery_same machines f g t.pairs same fit)
-    ∙ ap (or (in_round t (next_delivery g t.pairs))) (later_same machines f g t.rounds t.directives same)
+following_same : (machines : ℕ) (f g : ℕ → ℕ → Option ℕ) (mail mail' : ℕ → Bool) (quiet : Bool) (t : Todo) → Agrees machines f g → SameMail machines mail mail' → All (IsTwo machines) t.pairs → All (IsBelow machines) t.machines
+    → following machines f mail quiet t ≡ following machines g mail' quiet t
+following_same machines f g mail mail' quiet t first same fit below =
+    let over = is_over t.pass quiet in
+    let later = next_pass machines f mail quiet t.pass t.directives in
+    ap (λ (d : Option (Step × List Two)). or (if over then None else in_pass mail t d) later) (delivery_same machines f g t.pairs first fit)
+    ∙ ap (λ (o : Option Next). or (if over then None else o) later) (in_same machines mail mail' t (next_delivery g t.pairs) same below)
+    ∙ ap (or (if over then None else in_pass mail' t (next_delivery g t.pairs))) (later_same machines f g mail mail' quiet t.pass t.directives first same)
 
 -- what follows is for the machines that there are
 pub record NextFits (machines : ℕ) (n : Next) : Type 0 where
@@ -122,49 +159,72 @@ delivery_fits : (machines : ℕ) (first : ℕ → ℕ → Option ℕ) (ps : List
 delivery_fits machines first [] fit = tt
 delivery_fits machines first (p ∷ ps) fit = here_fits machines p ps (first p.from p.to) (next_delivery first ps) fit (delivery_fits machines first ps (All-tail (IsTwo machines) p ps fit))
 
-turn_fits : (machines : ℕ) (t : Todo) (ms : List ℕ) → IsTodo machines t → All (IsBelow machines) ms → Fits machines (next_turn t ms)
-turn_fits machines t [] h fit = tt
-turn_fits machines t (m ∷ ms) h fit =
-    record { step = All-head (IsBelow machines) m ms fit; left = record { pairs = All-nil (IsTwo machines); machines_ = All-tail (IsBelow machines) m ms fit; directives = h.directives } }
-
-round_fits : (machines : ℕ) (t : Todo) (d : Option (Step × List Two)) → IsTodo machines t → DeliveryFits machines d → Fits machines (in_round t d)
-round_fits machines t None h k = turn_fits machines t t.machines h h.machines_
-round_fits machines t (Some d) h k = record { step = k.0; left = record { pairs = k.1; machines_ = h.machines_; directives = h.directives } }
-
-begun_fits : (machines : ℕ) (first : ℕ → ℕ → Option ℕ) (rounds : ℕ) (ds : List Directive) → All (IsDirective machines) ds → Fits machines (begin_round machines first rounds ds)
-begun_fits machines first rounds ds h =
-    round_fits machines (round_begun machines rounds ds) (next_delivery first (pairs_of (below machines) (below machines)))
-    (record { pairs = all_pairs machines; machines_ = all_below machines; directives = h })
-    (delivery_fits machines first (pairs_of (below machines) (below machines)) (all_pairs machines))
-
-rounds_fit : (machines : ℕ) (first : ℕ → ℕ → Option ℕ) (rounds : ℕ) (ds : List Directive) → All (IsDirective machines) ds → Fits machines (begin_rounds machines first rounds ds)
-rounds_fit machines first zero ds h = tt
-rounds_fit machines first (suc n) ds h = begun_fits machines first n ds h
-
-later_fits : (machines : ℕ) (first : ℕ → ℕ → Option ℕ) (rounds : ℕ) (ds : List Directive) → All (IsDirective machines) ds → Fits machines (next_round machines first rounds ds)
-later_fits machines first zero [] h = tt
-later_fits machines first zero (directive.One s ∷ ds) h =
-    record { step = All-head (IsDirective machines) (directive.One s) ds h; left = record { pairs = All-nil (IsTwo machines); machines_ = All-nil (IsBelow machines); directives = All-tail (IsDirective machines) (directive.One s) ds h } }
-later_fits machines first zero (directive.Round ∷ ds) h = begun_fits machines first 0 ds (All-tail (IsDirective machines) directive.Round ds h)
-later_fits machines first zero (directive.Spin n ∷ ds) h = rounds_fit machines first n ds (All-tail (IsDirective machines) (directive.Spin n) ds h)
-later_fits machines first (suc k) ds h = begun_fits machines first k ds h
-
 or_fits : (machines : ℕ) (x y : Option Next) → Fits machines x → Fits machines y → Fits machines (or x y)
 or_fits machines None y h k = k
 or_fits machines (Some n) y h k = h
 
-pub next_fits : (machines : ℕ) (first : ℕ → ℕ → Option ℕ) (t : Todo) (n : Next) → IsTodo machines t → following machines first t ≡ Some n → NextFits machines n
-next_fits machines first t n h is =
+turn_or_later : (machines : ℕ) (t : Todo) (m : ℕ) (ms : List ℕ) (b : Bool) (o : Option Next) → IsTodo machines t → All (IsBelow machines) (m ∷ ms) → Fits machines o
+    → Fits machines (if b then next (step.Turn m) (record t { pairs = []; machines = ms }) else o)
+turn_or_later machines t m ms true o h fit later =
+    record { step = All-head (IsBelow machines) m ms fit; left = record { pairs = All-nil (IsTwo machines); machines_ = All-tail (IsBelow machines) m ms fit; directives = h.directives } }
+turn_or_later machines t m ms false o h fit later = later
+
+turn_fits : (machines : ℕ) (takes : ℕ → Bool) (t : Todo) (ms : List ℕ) → IsTodo machines t → All (IsBelow machines) ms → Fits machines (next_turn takes t ms)
+turn_fits machines takes t [] h fit = tt
+turn_fits machines takes t (m ∷ ms) h fit = turn_or_later machines t m ms (takes m) (next_turn takes t ms) h fit (turn_fits machines takes t ms h (All-tail (IsBelow machines) m ms fit))
+
+pass_fits : (machines : ℕ) (mail : ℕ → Bool) (t : Todo) (d : Option (Step × List Two)) → IsTodo machines t → DeliveryFits machines d → Fits machines (in_pass mail t d)
+pass_fits machines mail t None h k = turn_fits machines (takes_turn t.pass mail) t t.machines h h.machines_
+pass_fits machines mail t (Some d) h k = record { step = k.0; left = record { pairs = k.1; machines_ = h.machines_; directives = h.directives } }
+
+begun_fits : (machines : ℕ) (first : ℕ → ℕ → Option ℕ) (mail : ℕ → Bool) (p : Pass) (ds : List Directive) → All (IsDirective machines) ds → Fits machines (begin_pass machines first mail p ds)
+begun_fits machines first mail p ds h =
+    pass_fits machines mail (pass_begun machines p ds) (next_delivery first (pairs_of (below machines) (below machines)))
+    (record { pairs = all_pairs machines; machines_ = all_below machines; directives = h })
+    (delivery_fits machines first (pairs_of (below machines) (below machines)) (all_pairs machines))
+
+settles_fit : (machines : ℕ) (quiet : Bool) (x y : Option Next) → Fits machines x → Fits machines y → Fits machines (settles quiet x y)
+settles_fit machines true x y h k = k
+settles_fit machines false x y h k = or_fits machines x y h k
+
+directive_fits : (machines : ℕ) (first : ℕ → ℕ → Option ℕ) (mail : ℕ → Bool) (quiet : Bool) (ds : List Directive) → All (IsDirective machines) ds → Fits machines (next_directive machines first mail quiet ds)
+directive_fits machines first mail quiet [] h = tt
+directive_fits machines first mail quiet (directive.One s ∷ ds) h =
+    record { step = All-head (IsDirective machines) (directive.One s) ds h; left = record { pairs = All-nil (IsTwo machines); machines_ = All-nil (IsBelow machines); directives = All-tail (IsDirective machines) (directive.One s) ds h } }
+directive_fits machines first mail quiet (directive.Round ∷ ds) h = begun_fits machines first mail (pass.Round 0) ds (All-tail (IsDirective machines) directive.Round ds h)
+directive_fits machines first mail quiet (directive.Spin zero ∷ ds) h = directive_fits machines first mail quiet ds (All-tail (IsDirective machines) (directive.Spin 0) ds h)
+directive_fits machines first mail quiet (directive.Spin (suc n) ∷ ds) h = begun_fits machines first mail (pass.Round n) ds (All-tail (IsDirective machines) (directive.Spin (suc n)) ds h)
+directive_fits machines first mail quiet (directive.Settle ∷ ds) h =
+    let rest = All-tail (IsDirective machines) directive.Settle ds h in
+    settles_fit machines quiet (begin_pass machines first mail pass.Settle ds) (next_directive machines first mail quiet ds) (begun_fits machines first mail pass.Settle ds rest) (directive_fits machines first mail quiet ds rest)
+
+later_fits : (machines : ℕ) (first : ℕ → ℕ → Option ℕ) (mail : ℕ → Bool) (quiet : Bool) (p : Pass) (ds : List Directive) → All (IsDirective machines) ds → Fits machines (next_pass machines first mail quiet p ds)
+later_fits machines first mail quiet (pass.Round zero) ds h = directive_fits machines first mail quiet ds h
+later_fits machines first mail quiet (pass.Round (suc k)) ds h = begun_fits machines first mail (pass.Round k) ds h
+later_fits machines first mail quiet pass.Settle ds h =
+    settles_fit machines quiet (begin_pass machines first mail pass.Settle ds) (next_directive machines first mail quiet ds) (begun_fits machines first mail pass.Settle ds h) (directive_fits machines first mail quiet ds h)
+
+unless_fits : (machines : ℕ) (over : Bool) (o : Option Next) → Fits machines o → Fits machines (if over then None else o)
+unless_fits machines true o h = tt
+unless_fits machines false o h = h
+
+pub next_fits : (machines : ℕ) (first : ℕ → ℕ → Option ℕ) (mail : ℕ → Bool) (quiet : Bool) (t : Todo) (n : Next) → IsTodo machines t → following machines first mail quiet t ≡ Some n → NextFits machines n
+next_fits machines first mail quiet t n h is =
+    let here = in_pass mail t (next_delivery first t.pairs) in
+    let later = next_pass machines first mail quiet t.pass t.directives in
     subst (Fits machines) is
-    (or_fits machines (in_round t (next_delivery first t.pairs)) (next_round machines first t.rounds t.directives)
-    (round_fits machines t (next_delivery first t.pairs) h (delivery_fits machines first t.pairs h.pairs)) (later_fits machines first t.rounds t.directives h.directives))
+    (or_fits machines (if is_over t.pass quiet then None else here) later
+    (unless_fits machines (is_over t.pass quiet) here (pass_fits machines mail t (next_delivery first t.pairs) h (delivery_fits machines first t.pairs h.pairs)))
+    (later_fits machines first mail quiet t.pass t.directives h.directives))
 
 -- where the world stands for a point
-pub next_is : (b : Boot) (w : WorldState) (pt : Point) (t : Todo) → pt.kernel.machines ≡ length b.machines → Stands b w pt → IsTodo (length b.machines) t → world.next_step (length b.machines) w t ≡ rule.next_step pt.kernel.machines pt.view t
-next_is b w pt t machines ((l, h, s), counts) fit =
-    following_same (length b.machines) (world.undelivered w) (rule.undelivered pt.view) t
-    (λ a c from to apart. undelivered_same b w pt l h a c (s.pairs a c (omega (arith, from, machines)) (omega (arith, to, machines)) apart)) fit.pairs
-    ∙ ap (λ (m : ℕ). following m (rule.undelivered pt.view) t) (sym machines)
-
 pub next_is_said : NextIsSaid
-next_is_said b es w pt t valid leads stands fit = next_is b w pt t (machines_stay b es pt valid leads) stands fit
+next_is_said b es w pt t valid leads stands fit =
+    let ((l, h, s), counts) = stands in
+    let n = length b.machines in
+    let machines = machines_stay b es pt valid leads in
+    following_same n (world.undelivered w) (rule.undelivered pt.view) (world.has_mail w) (has_mail pt.view) (world.is_quiet n w) t
+    (λ a c from to apart. undelivered_same b w pt l h a c (s.pairs a c (omega (arith, from, machines)) (omega (arith, to, machines)) apart))
+    (λ m small. mail_same b w pt l h m (omega (arith, small, machines)) s) fit.pairs fit.machines_
+    ∙ ap (λ (q : Bool). following n (rule.undelivered pt.view) (has_mail pt.view) q t) (quiet_same b es w pt valid leads stands)
+    ∙ ap (λ (m : ℕ). following m (rule.undelivered pt.view) (has_mail pt.view) (is_quiet m pt.view) t) (sym machines)

@@ -1,5 +1,5 @@
 -- Every run of the world is good, and the world stands for it.
-use Rattle.std.specs.Prelude.{◌≡◌, List, [], ◌∷◌, ◌++◌, length}
+use Rattle.std.specs.Prelude.{◌≡◌, ◌↔◌, ℕ, ◌<◌, true, List, [], ◌∷◌, ◌++◌, length}
 use Rattle.std.specs.declared.option.Option.TheVariants.{Some}
 use Rattle.dm_onekernel.specs.declared.boot.Boot.{Boot}
 use Rattle.dm_onekernel.specs.Boot.{IsValid}
@@ -12,6 +12,7 @@ use Rattle.dm_line.specs.Todo.{Todo, Next, all_of}
 use Rattle.dm_rule.specs.Good as rule
 use Rattle.dm_rule.specs.Laws.{IsStep, Leads}
 use Rattle.dm_rule.specs.Point.{Point, first_point}
+use Rattle.dm_rule.specs.Quiet.{IsQuiet, has_mail}
 use Rattle.dm_rulelaws.specs.Order.{LeadsBy}
 use Rattle.dm_places.specs.Following.{MirrorsPoint}
 use Rattle.dm_places.specs.Placed.{Placed}
@@ -43,6 +44,17 @@ abbrev pub NextIsSaid : Type 0
 NextIsSaid =
     (b : Boot) (es : List Step) (w : WorldState) (pt : Point) (t : Todo) → IsValid b → Leads b (first_point b) es pt → Stands b w pt → IsTodo (length b.machines) t
     → world.next_step (length b.machines) w t ≡ rule.next_step pt.kernel.machines pt.view t
+
+-- whether anything is on its way, and whether a machine has mail, is what the printed lines say
+abbrev pub QuietIsSaid : Type 0
+QuietIsSaid =
+    (b : Boot) (es : List Step) (w : WorldState) (pt : Point) → IsValid b → Leads b (first_point b) es pt → Stands b w pt
+    → (world.is_quiet (length b.machines) w ≡ true) ↔ IsQuiet pt.kernel.machines pt.view
+
+abbrev pub MailIsSaid : Type 0
+MailIsSaid =
+    (b : Boot) (es : List Step) (w : WorldState) (pt : Point) (m : ℕ) → IsValid b → Leads b (first_point b) es pt → Stands b w pt → m < length b.machines
+    → world.has_mail w m ≡ has_mail pt.view m
 
 -- where everything stands at the end is what the printed lines say
 abbrev pub EndIsSaid : Type 0

@@ -16,6 +16,7 @@ abbrev pub IsDirective : ℕ → Directive → Type 0
 IsDirective machines (directive.One s) = IsStep machines s
 IsDirective machines directive.Round = ⊤
 IsDirective machines (directive.Spin n) = ⊤
+IsDirective machines directive.Settle = ⊤
 
 pub record IsTodo (machines : ℕ) (t : Todo) : Type 0 where
   pub pairs : All (IsTwo machines) t.pairs

@@ -1,7 +1,7 @@
 //! What holds of every run of the machines and their wires, whoever runs them.
 ghost use Rattle.dm_mirror.specs.Local.{ActsLocally, ReadsLocally, NothingComes};
 ghost use Rattle.dm_mirror.specs.Ran.{RanBegins, RanGoesOn, RunIsRan};
-ghost use Rattle.dm_mirror.specs.Laws.{StartStands, StepsStand, NextIsSaid, EndIsSaid, EndMay, RunBegins, RunGoesOn, GoodLeads, PlacesFollow};
+ghost use Rattle.dm_mirror.specs.Laws.{StartStands, StepsStand, NextIsSaid, QuietIsSaid, MailIsSaid, EndIsSaid, EndMay, RunBegins, RunGoesOn, GoodLeads, PlacesFollow};
 
 /// The machines as the boot file has them, with empty wires, stand for the point where printed lines begin.
 pub fn start_stands()
@@ -15,9 +15,20 @@ pub fn steps_stand()
     ensures { StepsStand }
 {}
 
-/// The directive that comes next, by the marks on the wires, is the one that the printed lines say comes next.
+/// The directive that comes next, by the marks on the wires, the inboxes and the streams, is the one that the printed lines say comes next.
 pub fn next_is_said()
     ensures { NextIsSaid }
+{}
+
+/// By the machines' inboxes and streams nothing is on its way exactly where, by the printed lines, all that was routed was taken,
+/// and acknowledged where the machines differ, and every inbox is empty.
+pub fn quiet_is_said()
+    ensures { QuietIsSaid }
+{}
+
+/// A machine has a message in its inbox exactly where the printed lines say so.
+pub fn mail_is_said()
+    ensures { MailIsSaid }
 {}
 
 /// Where everything stands at the end, by what the machines have and what is on the way between them, is what the printed

@@ -1,5 +1,7 @@
 pub mod Worked
 pub mod QuietWorked
+pub mod QuietTests
+pub mod SettleWorked
 pub mod Standing
 pub mod Once
 pub mod Lines

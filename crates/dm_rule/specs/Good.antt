@@ -9,6 +9,7 @@ use Rattle.dm_line.specs.Todo.{Todo, Next, following}
 use Rattle.dm_rule.specs.View.{View, Sent}
 use Rattle.dm_rule.specs.Point.{Point}
 use Rattle.dm_rule.specs.Parts.{Spelled}
+use Rattle.dm_rule.specs.Quiet.{has_mail, is_quiet}
 use Rattle.dm_rule.specs.Rule.{group_of}
 use Rattle.dm_rule.specs.Spots.{StandsRight, standing}
 
@@ -22,7 +23,7 @@ abbrev pub undelivered : View → ℕ → ℕ → Option ℕ
 undelivered v a b = first_undelivered 0 (v.pair a b).wire
 
 abbrev pub next_step : ℕ → View → Todo → Option Next
-next_step machines v t = following machines (undelivered v) t
+next_step machines v t = following machines (undelivered v) (has_mail v) (is_quiet machines v) t
 
 -- each message that the kernel without machines holds stands exactly once among the printed queues, held lists, inboxes
 -- and streams, a kernel's own message at most once, and no other stands there; no pair of machines counts more messages than

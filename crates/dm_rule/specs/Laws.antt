@@ -1,5 +1,5 @@
 -- What holds wherever the rule leads.
-use Rattle.std.specs.Prelude.{false, ◌≡◌, ◌≢◌, ⊤, ℕ, ◌<◌, List, [], ◌∷◌}
+use Rattle.std.specs.Prelude.{true, false, ◌≡◌, ◌≢◌, ◌↔◌, ⊤, ℕ, ◌<◌, List, [], ◌∷◌}
 use Rattle.std.specs.declared.option.Option.{Option}
 use Rattle.std.specs.declared.option.Option.TheVariants.{Some}
 use Rattle.dm_link.specs.declared.Pid.{Pid}
@@ -11,6 +11,8 @@ use Rattle.dm_schedule.specs.declared.Step.{Step}
 use Rattle.dm_schedule.specs.declared.Step.TheVariants as step
 use Rattle.dm_rule.specs.Point.{Point, first_point}
 use Rattle.dm_rule.specs.Parts.{Spelled}
+use Rattle.dm_rule.specs.Quiet.{IsQuiet, is_quiet}
+use Rattle.dm_rule.specs.View.{View}
 use Rattle.dm_rule.specs.Rule.{group_of}
 use Rattle.dm_rule.specs.Spots.{StandsRight, standing}
 use Rattle.dm_rule.specs.Pairs.{PairStands, HomeStands}
@@ -71,3 +73,7 @@ abbrev pub MovingStaysAlways : Type 0
 MovingStaysAlways =
     (b : Boot) (es : List Step) (pt : Point) (d : Step) (w : Spelled) (p : Pid) (k : MessageKind) (source destination : ℕ) (id : Option MsgId) → IsValid b → Leads b (first_point b) es pt → group_of b pt d ≡ Some w
     → IsIn pt.view p (Moves k source destination id) → AllSpare pt.kernel p w.lines × (w.point.kernel.processes p ≡ pt.kernel.processes p)
+
+-- the test for quiet is passed exactly where nothing is on its way
+abbrev pub QuietIsTested : Type 0
+QuietIsTested = (n : ℕ) (v : View) → (is_quiet n v ≡ true) ↔ IsQuiet n v

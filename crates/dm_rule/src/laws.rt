@@ -1,5 +1,5 @@
 //! What holds wherever the rule leads, whoever ran by it.
-ghost use Rattle.dm_rule.specs.Laws.{StandsOnceAlways, PairsStandAlways, LeadHomeAlways, TellsRightAlways, PhasesAlways, MovingStaysAlways};
+ghost use Rattle.dm_rule.specs.Laws.{StandsOnceAlways, PairsStandAlways, LeadHomeAlways, TellsRightAlways, PhasesAlways, MovingStaysAlways, QuietIsTested};
 
 /// Wherever the rule leads from a boot file, each message that the kernel without machines holds stands exactly once
 /// among the queues, held lists, inboxes and streams of the printed lines, a kernel's own message at most once, and no other
@@ -37,4 +37,10 @@ pub fn phases_always()
 /// print, end or receive, no message for it is served, and its plain value stays as it is.
 pub fn moving_stays_always()
     ensures { MovingStaysAlways }
+{}
+
+/// The test of a settle for quiet is passed exactly where all that was routed was taken, and acknowledged where the machines
+/// differ, and every inbox is empty.
+pub fn quiet_is_tested()
+    ensures { QuietIsTested }
 {}

@@ -3,11 +3,11 @@ use Rattle.std.specs.Prelude.{ℕ, List, [], ◌∷◌, Option, codes}
 use Rattle.std.specs.List.{find}
 use Rattle.std.specs.Str.{bytes_eq}
 use Rattle.dm_schedule.specs.declared.keywords.Keyword.{Keyword}
-use Rattle.dm_schedule.specs.declared.keywords.Keyword.TheVariants.{Turn, Tick, Deliver, Migrate, Round, Spin}
+use Rattle.dm_schedule.specs.declared.keywords.Keyword.TheVariants.{Turn, Tick, Deliver, Migrate, Round, Spin, Settle}
 
 -- all keywords
 abbrev pub keywords : List Keyword
-keywords = Turn ∷ Tick ∷ Deliver ∷ Migrate ∷ Round ∷ Spin ∷ []
+keywords = Turn ∷ Tick ∷ Deliver ∷ Migrate ∷ Round ∷ Spin ∷ Settle ∷ []
 
 -- the word that a keyword is
 abbrev pub word_of : Keyword → List ℕ
@@ -17,6 +17,7 @@ word_of Deliver = codes "deliver"
 word_of Migrate = codes "migrate"
 word_of Round = codes "round"
 word_of Spin = codes "spin"
+word_of Settle = codes "settle"
 
 -- the keyword that a word is, if it is one
 unfoldable pub keyword_of : List ℕ → Option Keyword
@@ -37,3 +38,4 @@ operands Deliver = Machine ∷ Machine ∷ Packet ∷ []
 operands Migrate = Process ∷ Machine ∷ []
 operands Round = []
 operands Spin = Rounds ∷ []
+operands Settle = []

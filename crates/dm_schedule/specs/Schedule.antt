@@ -8,7 +8,7 @@ use Rattle.dm_schedule.specs.declared.LineFault.TheVariants.{UnknownWord, WrongC
 use Rattle.dm_schedule.specs.declared.SchedNo.{SchedNo}
 use Rattle.dm_schedule.specs.declared.SchedNo.TheVariants as no
 use Rattle.dm_schedule.specs.declared.keywords.Keyword.{Keyword}
-use Rattle.dm_schedule.specs.declared.keywords.Keyword.TheVariants.{Turn, Tick, Deliver, Migrate, Round, Spin}
+use Rattle.dm_schedule.specs.declared.keywords.Keyword.TheVariants.{Turn, Tick, Deliver, Migrate, Round, Spin, Settle}
 use Rattle.dm_schedule.specs.Keywords.{keyword_of, operands}
 use Rattle.dm_schedule.specs.Lines.{lines, words}
 use Rattle.dm_schedule.specs.Operands.{Values, values_of, ◌>>=◌}
@@ -34,6 +34,7 @@ made Deliver v = if v.0 == v.1.0 then Err SameMachine else Ok (directive.One (st
 made Migrate v = Ok (directive.One (step.Migrate v.0 v.1.0))
 made Round v = Ok directive.Round
 made Spin v = Ok (directive.Spin v.0)
+made Settle v = Ok directive.Settle
 
 -- the directive of a keyword, if there is one, and the words behind it
 unfoldable pub directive_of : ℕ → Option Keyword → List (List ℕ) → Result Directive LineFault

@@ -2,7 +2,7 @@
 ghost use Rattle.std.specs.Prelude.{◌≡◌, Some};
 ghost use Rattle.dm_schedule.specs.Lines.{words};
 ghost use Rattle.dm_schedule.specs.Schedule.{begins_comment, directive_of, line_directive};
-ghost use Rattle.dm_schedule.specs.declared.keywords.Keyword.TheVariants.{Deliver, Migrate, Round, Spin, Tick, Turn};
+ghost use Rattle.dm_schedule.specs.declared.keywords.Keyword.TheVariants.{Deliver, Migrate, Round, Settle, Spin, Tick, Turn};
 
 use crate::keywords::Keyword;
 use crate::lines::{next_word, no_words, one_word, three_words, two_words};
@@ -74,6 +74,15 @@ fn round(machines: u8, operands: &[u8]) -> Result<Directive, LineFault>
     Ok(Directive::Round)
 }
 
+/// The directive `settle`, which has no operand.
+#[tactic(auto, unfolding(crate::specs::Schedule::directive_of))]
+fn settle(machines: u8, operands: &[u8]) -> Result<Directive, LineFault>
+    ensures { result ≡ directive_of machines (Some Settle) (words operands.now) }
+{
+    no_words(operands)?;
+    Ok(Directive::Settle)
+}
+
 /// The directive of a keyword with its operands.
 fn keyword_directive(
     machines: u8,
@@ -89,6 +98,7 @@ fn keyword_directive(
         Keyword::Migrate => migrate(machines, operands),
         Keyword::Round => round(machines, operands),
         Keyword::Spin => spin(machines, operands),
+        Keyword::Settle => settle(machines, operands),
     }
 }
 

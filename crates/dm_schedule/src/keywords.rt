@@ -11,16 +11,18 @@ pub enum Keyword {
     Migrate,
     Round,
     Spin,
+    Settle,
 }
 
 /// All keywords.
-const KEYWORDS: [Keyword; 6] = [
+const KEYWORDS: [Keyword; 7] = [
     Keyword::Turn,
     Keyword::Tick,
     Keyword::Deliver,
     Keyword::Migrate,
     Keyword::Round,
     Keyword::Spin,
+    Keyword::Settle,
 ];
 
 impl Keyword {
@@ -35,6 +37,7 @@ impl Keyword {
             Keyword::Migrate => b"migrate",
             Keyword::Round => b"round",
             Keyword::Spin => b"spin",
+            Keyword::Settle => b"settle",
         }
     }
 

@@ -41,6 +41,8 @@ pub enum Directive {
     Round,
     /// So many rounds, 1 to 65,536.
     Spin(u32),
+    /// Passes, each as a round but with turns only of machines that have mail, until nothing is on its way any more.
+    Settle,
 }
 
 /// What is wrong with a line.

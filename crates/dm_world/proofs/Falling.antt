@@ -1,5 +1,5 @@
 -- Each step of a directive leaves fewer steps.
-use Rattle.std.proofs.Common.{◌≡◌, ℕ, zero, suc, ◌+◌, ◌-◌, ◌^◌, ◌<◌, ◌≤◌, Bool, true, false, ◌==◌, List, [], ◌∷◌, ◌++◌, length, refl, sym, ap, subst, ◌∙◌, inl, inr, arith}
+use Rattle.std.proofs.Common.{◌≡◌, ℕ, zero, suc, ◌+◌, ◌-◌, ◌*◌, ◌^◌, ◌<◌, ◌≤◌, Bool, true, false, ◌==◌, List, [], ◌∷◌, ◌++◌, length, refl, sym, ap, subst, ◌∙◌, inl, inr, arith, mul-suc}
 use Rattle.std.specs.Prelude.{Result, ⊤, ◌&&◌, if◌then◌else◌, option_map}
 use Rattle.std.specs.declared.option.Option.{Option}
 use Rattle.std.specs.declared.option.Option.TheVariants.{None, Some}
@@ -21,8 +21,14 @@ use Rattle.dm_node.specs.declared.out.Out.TheVariants as out
 use Rattle.dm_node.specs.Acts as node
 use Rattle.dm_node.specs.Out.{Acted, Acts, Goes, Worn}
 use Rattle.dm_node.specs.Wired.{spoken, with_packet}
+use Rattle.dm_line.specs.Each.{sum_below}
+use Rattle.dm_line.specs.declared.pass.Pass.{Pass}
+use Rattle.dm_line.specs.declared.pass.Pass.TheVariants.{Round, Settle}
 use Rattle.dm_world.specs.declared.cursor.Cursor.{Cursor}
-use Rattle.dm_world.specs.Cursor.{Falls, IsFresh, room, room_of, seen_count, sum_below, turns_at}
+use Rattle.dm_world.specs.declared.cursor.Cursor.TheVariants.{One, Passing}
+use Rattle.dm_world.specs.declared.cursor.Place.{Place}
+use Rattle.dm_world.specs.declared.cursor.Place.TheVariants.{Packets, Turns, End}
+use Rattle.dm_world.specs.Cursor.{Falls, IsFresh, LeavesFewer, LeavesNoMore, SettleGoes, TakesTurn, room, room_of, seen_count, turns_at, turns_of}
 use Rattle.dm_world.specs.Next.{first_unseen}
 use Rattle.dm_world.specs.World.{Happened, Said, Says, WorldState, WornOut, acted, delivers, reads, turned, world_step}
 
@@ -239,15 +245,19 @@ room_falls n w v a c la lc h one small =
     (sum_lt (room_of v a) (room_of w a) n c lc (each a) (fewer_left (2 ^ 64) (seen_count (w.wires a c)) (seen_count (v.wires a c)) one small))
 
 -- a step that is counted
-pub falls_counted : (n : ℕ) (w : WorldState) (cursor after : Cursor) (e : Step) → turns_at n after.stage after.rounds < turns_at n cursor.stage cursor.rounds → Falls n w cursor e after
-falls_counted n w cursor after e h b s is =
+pub counted_fewer : (n : ℕ) (w : WorldState) (c after : Cursor) (e : Step) → turns_of n after < turns_of n c → LeavesFewer n w c e after
+counted_fewer n w c after e h b s is =
+    let r : room n s.state ≤ room n w = room_stays n w s.state (more_said w (world_step b w e) s is (step_more b w e)) in
+    omega (arith, r, h)
+
+counted_no_more : (n : ℕ) (w : WorldState) (c after : Cursor) (e : Step) → turns_of n after ≤ turns_of n c → LeavesNoMore n w c e after
+counted_no_more n w c after e h b s is =
     let r : room n s.state ≤ room n w = room_stays n w s.state (more_said w (world_step b w e) s is (step_more b w e)) in
     omega (arith, r, h)
 
 -- a new packet
-pub falls_packet : (n : ℕ) (w : WorldState) (cursor after : Cursor) (a c k : ℕ) → IsFresh n w a c k → turns_at n after.stage after.rounds ≤ turns_at n cursor.stage cursor.rounds
-    → Falls n w cursor (step.Deliver a c k) after
-falls_packet n w cursor after a c k fresh h b s is =
+packet_fewer : (n : ℕ) (w : WorldState) (cursor after : Cursor) (a c k : ℕ) → IsFresh n w a c k → turns_of n after ≤ turns_of n cursor → LeavesFewer n w cursor (step.Deliver a c k) after
+packet_fewer n w cursor after a c k fresh h b s is =
     let e = step.Deliver a c k in
     let more = more_said w (world_step b w e) s is (step_more b w e) in
     let one = fresh_marked (w.wires a c) k fresh.first in
@@ -256,3 +266,44 @@ falls_packet n w cursor after a c k fresh h b s is =
     let new = one_said w a c (world_step b w e) s is (fresh_delivers w e a c k (bytes_at (w.wires a c) k) refl one) in
     let r : room n s.state < room n w = room_falls n w s.state a c fresh.from fresh.to more new (omega (arith, few, short)) in
     omega (arith, r, h)
+
+pub one_falls : (n : ℕ) (w : WorldState) (e : Step) → Falls n w (One e) e (Passing (Round 0) End)
+one_falls n w e = counted_fewer n w (One e) (Passing (Round 0) End) e (omega arith)
+
+pub packet_falls : (n : ℕ) (w : WorldState) (p : Pass) (from to a c k : ℕ) → IsFresh n w a c k → Falls n w (Passing p (Packets from to)) (step.Deliver a c k) (Passing p (Packets a c))
+packet_falls n w (Round j) from to a c k fresh = packet_fewer n w (Passing (Round j) (Packets from to)) (Passing (Round j) (Packets a c)) a c k fresh (omega arith)
+packet_falls n w Settle from to a c k fresh = (tt, (fresh, packet_fewer n w (Passing Settle (Packets from to)) (Passing Settle (Packets a c)) a c k fresh (omega arith)))
+
+pub turn_falls : (n : ℕ) (w : WorldState) (p : Pass) (m k : ℕ) → TakesTurn n w p m k → Falls n w (Passing p (Turns m)) (step.Turn k) (Passing p (Turns (k + 1)))
+turn_falls n w (Round j) m k h =
+    let from = h.from in
+    let within = h.within in
+    counted_fewer n w (Passing (Round j) (Turns m)) (Passing (Round j) (Turns (k + 1))) (step.Turn k) (omega (arith, from, within))
+turn_falls n w Settle m k h = (tt, (h.within, h.takes, counted_no_more n w (Passing Settle (Turns m)) (Passing Settle (Turns (k + 1))) (step.Turn k) (omega arith)))
+
+-- from a place where as many turns are left, or more
+fewer_from : (n : ℕ) (w : WorldState) (c d after : Cursor) (e : Step) → turns_of n c ≤ turns_of n d → LeavesFewer n w c e after → LeavesFewer n w d e after
+fewer_from n w c d after e h f b s is = let g = f b s is in omega (arith, g, h)
+
+no_more_from : (n : ℕ) (w : WorldState) (c d after : Cursor) (e : Step) → turns_of n c ≤ turns_of n d → LeavesNoMore n w c e after → LeavesNoMore n w d e after
+no_more_from n w c d after e h f b s is = let g = f b s is in omega (arith, g, h)
+
+settle_from : (n : ℕ) (w : WorldState) (x y : Place) (e : Step) (after : Cursor) → SettleGoes n w (Passing Settle x) e after → SettleGoes n w (Passing Settle y) e after
+settle_from n w x y (step.Turn m) after h = (h.0, h.1, no_more_from n w (Passing Settle x) (Passing Settle y) after (step.Turn m) (omega arith) h.2)
+settle_from n w x y (step.Deliver a b k) after h = (h.0, fewer_from n w (Passing Settle x) (Passing Settle y) after (step.Deliver a b k) (omega arith) h.1)
+settle_from n w x y (step.Tick m) after h = absurd h
+settle_from n w x y (step.Migrate p m) after h = absurd h
+
+pub falls_from : (n : ℕ) (w : WorldState) (p : Pass) (x y : Place) (e : Step) (after : Cursor) → turns_at n x ≤ turns_at n y → Falls n w (Passing p x) e after → Falls n w (Passing p y) e after
+falls_from n w (Round k) x y e after h f = fewer_from n w (Passing (Round k) x) (Passing (Round k) y) after e (omega (arith, h)) f
+falls_from n w Settle x y e after h f = (f.0, settle_from n w x y e after f.1)
+
+-- the first of one round more
+one_round : (n k : ℕ) → 0 < k → n + n * (k - 1) ≡ n * k
+one_round n zero some = absurd (omega (arith, some))
+one_round n (suc j) some = ap (λ (i : ℕ). n + n * i) (let e : suc j - 1 ≡ j = omega arith in e) ∙ (let e : n + n * j ≡ n * suc j = omega (arith, mul-suc n j) in e)
+
+pub next_round_falls : (n : ℕ) (w : WorldState) (k from to : ℕ) (e : Step) (after : Cursor) → 0 < k → Falls n w (Passing (Round (k - 1)) (Packets from to)) e after → Falls n w (Passing (Round k) End) e after
+next_round_falls n w k from to e after some f =
+    let all = one_round n k some in
+    fewer_from n w (Passing (Round (k - 1)) (Packets from to)) (Passing (Round k) End) after e (omega (arith, all)) f

@@ -7,4 +7,4 @@ pub mod Delivering
 pub mod Ending
 pub mod Passing
 pub mod Falling
-pub mod Rounds
+pub mod Passes

@@ -1,8 +1,9 @@
--- The elementary directive that comes next, by the marks on the wires.
-use Rattle.std.specs.Prelude.{ℕ, ◌+◌, if◌then◌else◌, List, [], ◌∷◌}
+-- The elementary directive that comes next, by the marks on the wires, the inboxes and the ends of the streams.
+use Rattle.std.specs.Prelude.{ℕ, ◌+◌, Bool, not, ◌==◌, ◌&&◌, ◌||◌, nat_lt, if◌then◌else◌, List, [], ◌∷◌, length}
 use Rattle.std.specs.declared.option.Option.{Option}
 use Rattle.std.specs.declared.option.Option.TheVariants.{None, Some}
 use Rattle.dm_wire.specs.Sent.{Sent}
+use Rattle.dm_line.specs.Each.{all_below}
 use Rattle.dm_line.specs.Todo.{Todo, Next, following}
 use Rattle.dm_world.specs.World.{WorldState}
 
@@ -14,6 +15,18 @@ first_unseen k (p ∷ ps) = if p.seen then first_unseen (k + 1) ps else Some k
 abbrev pub undelivered : WorldState → ℕ → ℕ → Option ℕ
 undelivered w a c = first_unseen 0 (w.wires a c)
 
+-- whether a machine's inbox has a message
+abbrev pub has_mail : WorldState → ℕ → Bool
+has_mail w m = nat_lt 0 (length (w.nodes m).kernel.inbox)
+
+-- whether all that machine a gave to its stream to machine c, if that is another, is acknowledged
+abbrev pub all_heard : WorldState → ℕ → ℕ → Bool
+all_heard w a c = (a == c) || (length ((w.nodes a).senders c).unacked == 0)
+
+-- whether nothing is on its way between so many machines: no inbox has a message, and no stream keeps one
+abbrev pub is_quiet : ℕ → WorldState → Bool
+is_quiet n w = all_below n (λ a. not (has_mail w a) && all_below n (all_heard w a))
+
 -- with so many machines
 abbrev pub next_step : ℕ → WorldState → Todo → Option Next
-next_step machines w t = following machines (undelivered w) t
+next_step machines w t = following machines (undelivered w) (has_mail w) (is_quiet machines w) t

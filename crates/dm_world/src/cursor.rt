@@ -1,79 +1,111 @@
 //! How far a directive has come, and which elementary one comes next.
-ghost use Rattle.std.specs.Prelude.{◌≡◌, ◌≢◌, ◌∷◌, ◌+◌, ◌<◌, ◌≤◌, ℕ, List, None, Option, Some, IfSome, [], length};
+ghost use Rattle.std.specs.Prelude.{◌≡◌, ◌∷◌, ◌+◌, ◌<◌, ◌≤◌, Bool, ℕ, List, None, Option, Some, IfSome, [], length};
 ghost use Rattle.dm_schedule.specs.declared.Directive.{Directive as TheDirective};
-ghost use Rattle.dm_line.specs.Todo.{Todo, Two, all_of, following};
-ghost use Rattle.dm_world.specs.Cursor.{Falls, FirstIs, IsFresh, IsFreshStep, NextIs, RowIs, pairs_at, todo_of};
+ghost use Rattle.dm_line.specs.Todo.{Two, all_of, following, is_over, takes_turn};
+ghost use Rattle.dm_world.specs.Cursor.{Falls, FirstIs, FirstTurnIs, InPassIs, IsFresh, NextIs, NextPassIs, RoundGoes, RowIs, TakesTurn, pairs_at, todo_of};
 ghost use Rattle.dm_world.specs.Meets.{IsWorld, state_of};
-ghost use Rattle.dm_world.specs.Next.{next_step};
+ghost use Rattle.dm_world.specs.Next.{has_mail, is_quiet};
 
 use crate::world::World;
+use dm_line::pass::Pass;
 use dm_schedule::{Directive, Step};
 
 /// How far a directive has come.
 #[derive(Clone, Copy, Debug, PartialEq, Eq)]
-pub struct Cursor {
-    pub stage: Stage,
-    /// How many rounds come behind that.
-    pub rounds: u32,
+pub enum Cursor {
+    /// This elementary directive is left of it.
+    One(Step),
+    /// A pass, and those behind it.
+    Passing { pass: Pass, place: Place },
 }
 
-/// What comes next.
+/// How far a pass has come.
 #[derive(Clone, Copy, Debug, PartialEq, Eq)]
-pub enum Stage {
-    /// This elementary directive.
-    One(Step),
-    /// Of a round, the packets of the pairs from this one on, and then all turns.
+pub enum Place {
+    /// The packets of the pairs from this one on are left, and then all turns.
     Packets { from: u8, to: u8 },
-    /// Of a round, the turns of the machines from this one on.
+    /// The turns of the machines from this one on.
     Turns(u8),
-    /// A further round.
-    Between,
+    /// Nothing.
+    End,
 }
 
 impl Cursor {
     /// Nothing of the directive is done yet.
     pub fn new(directive: &Directive) -> Cursor
-        requires { directive.now ≢ Directive.Spin 0 }
-        ensures { (n : ℕ) (first : ℕ → ℕ → Option ℕ) (ds : List TheDirective) →
-            following n first (todo_of n result ds) ≡ following n first (all_of (directive.now ∷ ds)) }
+        ensures { (n : ℕ) (first : ℕ → ℕ → Option ℕ) (mail : ℕ → Bool) (quiet : Bool) (ds : List TheDirective) →
+            following n first mail quiet (todo_of n result ds) ≡ following n first mail quiet (all_of (directive.now ∷ ds)) }
     {
         match *directive {
-            Directive::One(step) => Cursor {
-                stage: Stage::One(step),
-                rounds: 0,
-            },
-            Directive::Round => Cursor {
-                stage: Stage::Between,
-                rounds: 1,
-            },
-            Directive::Spin(rounds) => Cursor {
-                stage: Stage::Between,
-                rounds,
-            },
+            Directive::One(step) => Cursor::One(step),
+            Directive::Round => Cursor::behind(Pass::Round(1)),
+            Directive::Spin(rounds) => Cursor::behind(Pass::Round(rounds)),
+            Directive::Settle => Cursor::behind(Pass::Settle),
+        }
+    }
+
+    /// Only what comes behind a pass is left.
+    fn behind(pass: Pass) -> Cursor
+        ensures { result ≡ Cursor.Passing pass Place.End }
+    {
+        Cursor::Passing {
+            pass,
+            place: Place::End,
         }
     }
 }
 
 impl World {
-    /// The elementary directive that comes next, and how far the directive has come with it. In a round each ordered
-    /// pair of machines is passed once, ascending, and no packet is looked at that was delivered. It takes no memory.
+    /// The elementary directive that comes next, and how far the directive has come with it; none where it is over. In a
+    /// pass each ordered pair of machines is passed once, ascending, and no packet is looked at that was delivered. A
+    /// settle looks each time whether anything is on its way. It takes no memory.
     pub fn next(&self, cursor: Cursor) -> Option<(Step, Cursor)>
         requires { IsWorld self.now }
         ensures next { (ds : List TheDirective) → NextIs (length self.now.boot.machines) (state_of self.now) cursor ds result }
-        // At most so many steps are left as `left` says.
+        // At most so many steps are left as `left` says; a settle delivers new packets, and lets machines with mail act.
         ensures falls { IfSome result (λ r. Falls (length self.now.boot.machines) (state_of self.now) cursor r.0 r.1) }
     {
-        match cursor.stage {
-            Stage::One(step) => Some((
-                step,
-                Cursor {
-                    stage: Stage::Between,
-                    rounds: 0,
-                },
-            )),
-            Stage::Packets { from, to } => Some(self.next_of_round(from, to, cursor.rounds)),
-            Stage::Turns(m) => self.next_turn(m, cursor.rounds),
-            Stage::Between => self.next_round(cursor.rounds),
+        match cursor {
+            Cursor::One(step) => Some((step, Cursor::behind(Pass::Round(0)))),
+            Cursor::Passing { pass, place } => self.next_of(pass, place),
+        }
+    }
+
+    /// What comes next of a pass from this place on, and of those behind it.
+    fn next_of(&self, pass: Pass, place: Place) -> Option<(Step, Cursor)>
+        requires { IsWorld self.now }
+        ensures next { (ds : List TheDirective) → NextIs (length self.now.boot.machines) (state_of self.now) (Cursor.Passing pass place) ds result }
+        ensures falls { IfSome result (λ r. Falls (length self.now.boot.machines) (state_of self.now) (Cursor.Passing pass place) r.0 r.1) }
+    {
+        if self.is_over(pass) {
+            return None;
+        }
+        match self.next_at(pass, place) {
+            Some(found) => Some(found),
+            None => self.next_pass(pass),
+        }
+    }
+
+    /// Whether the directive of a pass is over in the midst of it: a settle is where nothing is on its way.
+    fn is_over(&self, pass: Pass) -> bool
+        requires { IsWorld self.now }
+        ensures { result ≡ is_over pass (is_quiet (length self.now.boot.machines) (state_of self.now)) }
+    {
+        match pass {
+            Pass::Round(_) => false,
+            Pass::Settle => self.is_quiet(),
+        }
+    }
+
+    /// What comes next where a pass is over, of those behind it.
+    fn next_pass(&self, pass: Pass) -> Option<(Step, Cursor)>
+        requires { IsWorld self.now }
+        ensures next { (ds : List TheDirective) → NextPassIs (length self.now.boot.machines) (state_of self.now) pass ds result }
+        ensures falls { IfSome result (λ r. Falls (length self.now.boot.machines) (state_of self.now) (Cursor.Passing pass Place.End) r.0 r.1) }
+    {
+        match pass {
+            Pass::Round(rounds) => self.next_round(rounds),
+            Pass::Settle => self.next_packet(Pass::Settle, 0, 0),
         }
     }
 
@@ -81,61 +113,94 @@ impl World {
     fn next_round(&self, rounds: u32) -> Option<(Step, Cursor)>
         requires { IsWorld self.now }
         ensures next { (ds : List TheDirective) →
-            NextIs (length self.now.boot.machines) (state_of self.now) (record { stage = Stage.Between; rounds = rounds }) ds result }
+            NextPassIs (length self.now.boot.machines) (state_of self.now) (Pass.Round rounds) ds result }
         ensures falls { IfSome result
-            (λ r. Falls (length self.now.boot.machines) (state_of self.now) (record { stage = Stage.Between; rounds = rounds }) r.0 r.1) }
+            (λ r. Falls (length self.now.boot.machines) (state_of self.now) (Cursor.Passing (Pass.Round rounds) Place.End) r.0 r.1) }
     {
         if rounds == 0 {
             None
         } else {
-            Some(self.next_of_round(0, 0, rounds - 1))
+            self.next_packet(Pass::Round(rounds - 1), 0, 0)
         }
     }
 
-    /// What comes next where the machines from `m` on take their turns, and so many rounds are left.
-    fn next_turn(&self, m: u8, rounds: u32) -> Option<(Step, Cursor)>
+    /// What comes next of a pass from this place on.
+    fn next_at(&self, pass: Pass, place: Place) -> Option<(Step, Cursor)>
         requires { IsWorld self.now }
-        ensures next { (ds : List TheDirective) →
-            NextIs (length self.now.boot.machines) (state_of self.now) (record { stage = Stage.Turns m; rounds = rounds }) ds result }
-        ensures falls { IfSome result
-            (λ r. Falls (length self.now.boot.machines) (state_of self.now) (record { stage = Stage.Turns m; rounds = rounds }) r.0 r.1) }
+        ensures next { (ds : List TheDirective) → InPassIs (length self.now.boot.machines) (state_of self.now) pass place ds result }
+        ensures falls { IfSome result (λ r. Falls (length self.now.boot.machines) (state_of self.now) (Cursor.Passing pass place) r.0 r.1) }
     {
-        if m < self.machines() {
-            Some((
-                Step::Turn(m),
-                Cursor {
-                    stage: Stage::Turns(m + 1),
-                    rounds,
-                },
-            ))
-        } else {
-            self.next_round(rounds)
+        match place {
+            Place::Packets { from, to } => self.next_packet(pass, from, to),
+            Place::Turns(m) => self.next_turn(pass, m),
+            Place::End => None,
         }
     }
 
-    /// What comes next of a round from this pair on, and how far it is then, with so many rounds behind it.
-    fn next_of_round(&self, from: u8, to: u8, rounds: u32) -> (Step, Cursor)
+    /// What comes next of a pass from this pair on.
+    fn next_packet(&self, pass: Pass, from: u8, to: u8) -> Option<(Step, Cursor)>
         requires { IsWorld self.now }
         ensures next { (ds : List TheDirective) →
-            NextIs (length self.now.boot.machines) (state_of self.now) (record { stage = Stage.Packets from to; rounds = rounds }) ds (Some result) }
-        ensures falls { Falls (length self.now.boot.machines) (state_of self.now)
-            (record { stage = Stage.Packets from to; rounds = rounds }) result.0 result.1 }
+            InPassIs (length self.now.boot.machines) (state_of self.now) pass (Place.Packets from to) ds result }
+        ensures goes { RoundGoes pass result }
+        ensures falls { IfSome result
+            (λ r. Falls (length self.now.boot.machines) (state_of self.now) (Cursor.Passing pass (Place.Packets from to)) r.0 r.1) }
     {
         match self.first_packet(from, to) {
-            Some((a, b, k)) => (
+            Some((a, b, k)) => Some((
                 Step::Deliver { a, b, k },
-                Cursor {
-                    stage: Stage::Packets { from: a, to: b },
-                    rounds,
+                Cursor::Passing {
+                    pass,
+                    place: Place::Packets { from: a, to: b },
                 },
-            ),
-            None => (
-                Step::Turn(0),
-                Cursor {
-                    stage: Stage::Turns(1),
-                    rounds,
+            )),
+            None => self.next_turn(pass, 0),
+        }
+    }
+
+    /// What comes next of a pass where the machines from `m` on are left.
+    fn next_turn(&self, pass: Pass, m: u8) -> Option<(Step, Cursor)>
+        requires { IsWorld self.now }
+        ensures next { (ds : List TheDirective) → InPassIs (length self.now.boot.machines) (state_of self.now) pass (Place.Turns m) ds result }
+        ensures goes { m < length self.now.boot.machines → RoundGoes pass result }
+        ensures falls { IfSome result (λ r. Falls (length self.now.boot.machines) (state_of self.now) (Cursor.Passing pass (Place.Turns m)) r.0 r.1) }
+    {
+        match self.first_turn(pass, m) {
+            Some(turn) => Some((
+                Step::Turn(turn),
+                Cursor::Passing {
+                    pass,
+                    place: Place::Turns(turn + 1),
                 },
-            ),
+            )),
+            None => None,
+        }
+    }
+
+    /// The first machine from `m` on that takes its turn in a pass.
+    fn first_turn(&self, pass: Pass, m: u8) -> Option<u8>
+        requires { IsWorld self.now }
+        ensures first { FirstTurnIs (length self.now.boot.machines) (state_of self.now) pass m result }
+        ensures goes { m < length self.now.boot.machines → RoundGoes pass result }
+        ensures takes { IfSome result (λ k. TakesTurn (length self.now.boot.machines) (state_of self.now) pass m k) }
+    {
+        for k in m..self.machines() {
+            if self.takes_turn(pass, k) {
+                return Some(k);
+            }
+        }
+        None
+    }
+
+    /// Whether a machine takes its turn in a pass.
+    fn takes_turn(&self, pass: Pass, m: u8) -> bool
+        requires world { IsWorld self.now }
+        requires within { m < length self.now.boot.machines }
+        ensures { result ≡ takes_turn pass (has_mail (state_of self.now)) m }
+    {
+        match pass {
+            Pass::Round(_) => true,
+            Pass::Settle => self.has_mail(m),
         }
     }
 

@@ -7,11 +7,12 @@ mod end_lines;
 mod end_messages;
 mod end_process;
 mod end_servers;
+mod quiet;
 mod speak;
 mod step;
 pub mod world;
 
-pub use cursor::{Cursor, Stage};
+pub use cursor::{Cursor, Place};
 pub use dm_memory::NoMemory;
 pub use dm_node::Stop;
 pub use world::World;

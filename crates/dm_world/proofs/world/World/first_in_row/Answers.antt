@@ -27,6 +27,7 @@ returns-in-Some-clause-fresh c =
     record {
       from = c.requires.from;
       to = small;
+      apart = c.if-from-b.true;
       first = first_unseen_is (packets_on w.wires c.args.from c.loop-b.b) ∙ sym c.unseen.ensures.first ∙ c.in-Some.is;
       short = c.unseen.ensures.short;
     }

@@ -1,0 +1,92 @@
+-- Whether anything is on its way, and whether a machine has mail, is what the printed lines say.
+use Rattle.std.proofs.Common.{◌≡◌, ◌≢◌, ℕ, suc, ◌-◌, ◌<◌, ◌≤◌, ◌==◌, ◌&&◌, Bool, true, false, not, List, [], ◌∷◌, map, drop, length, nat_lt, length-drop, length-map, refl, ap, ◌∙◌, sym, arith}
+use Rattle.std.specs.Prelude.{◌||◌, ◌↔◌}
+use Rattle.std.specs.declared.option.Option.TheVariants.{Some}
+use Rattle.std.proofs.lemmas.Bool.Decides.{nat_tests}
+use Rattle.dm_message.specs.declared.Message.{Message}
+use Rattle.dm_message.specs.declared.MsgId.{MsgId}
+use Rattle.dm_onekernel.specs.declared.boot.Boot.{Boot}
+use Rattle.dm_onekernel.specs.Boot.{IsValid}
+use Rattle.dm_schedule.specs.declared.Step.{Step}
+use Rattle.dm_line.specs.Each.{all_below}
+use Rattle.dm_line.proofs.Below.{all_same}
+use Rattle.dm_rule.specs.Laws.{Leads}
+use Rattle.dm_rule.specs.Pairs.{HomeStands}
+use Rattle.dm_rule.specs.Point.{Point, first_point}
+use Rattle.dm_rule.specs.Quiet.{IsQuiet, has_mail, is_quiet, pair_is_quiet}
+use Rattle.dm_rule.specs.View.{Pair}
+use Rattle.dm_rule.proofs.Pairs.{pairs_stand_always}
+use Rattle.dm_rule.proofs.QuietTests.{passes_quiet, quiet_passes}
+use Rattle.dm_places.specs.Placed.{Placed}
+use Rattle.dm_world.specs.World.{WorldState}
+use Rattle.dm_world.specs.Next as world
+use Rattle.dm_mirror.specs.Laws.{MailIsSaid, QuietIsSaid}
+use Rattle.dm_mirror.specs.Stands.{AreMessages, History, PairStands, Stands, StandsWith, id_of}
+use Rattle.dm_mirror.proofs.Machines.{machines_are}
+
+-- as many messages as names
+as_many : {B : Type 0} (bag : MsgId → B) (wrap : Message → B) (ids : List MsgId) (ms : List Message) → map bag ids ≡ map wrap ms → length ms ≡ length ids
+as_many bag wrap ids ms e = sym (length-map wrap ms) ∙ sym (ap length e) ∙ length-map bag ids
+
+pub mail_same : (b : Boot) (w : WorldState) (pt : Point) (l : Placed) (h : History) (m : ℕ) → m < pt.kernel.machines → StandsWith b w pt l h → world.has_mail w m ≡ has_mail pt.view m
+mail_same b w pt l h m small s = ap (nat_lt 0) (as_many l.bag Some (pt.view.inbox m) (w.nodes m).kernel.inbox (s.nodes m small).kernel.inbox)
+
+-- a machine's pair with itself is always quiet
+home_quiet : (p : Pair) → HomeStands p → pair_is_quiet true p ≡ true
+home_quiet p h = let e = h.taken in let f : (p.taken == length p.ids) ≡ true = grind (arith, nat_tests) in ap (λ (t : Bool). t && true) f
+
+-- between different machines nothing is on its way exactly where the sender keeps nothing
+kept_quiet : (k taken acked n : ℕ) → acked ≤ taken → taken ≤ n → k ≡ n - acked → (k == 0) ≡ ((taken == n) && (acked == n))
+kept_quiet k taken acked n h g e = by ((taken == n) && (acked == n)) refl
+  where
+    all : (x y : Bool) → (x && y) ≡ true → y ≡ true
+    all true y e = e
+    all false y e = let f : y ≡ true = cc in f
+    by : (t : Bool) → ((taken == n) && (acked == n)) ≡ t → (k == 0) ≡ ((taken == n) && (acked == n))
+    by t is = grind (arith, nat_tests)
+
+pair_quiet : (b : Boot) (w : WorldState) (pt : Point) (l : Placed) (h : History) (a c : ℕ) → PairStands b pt l w h a c → (length ((w.nodes a).senders c).unacked == 0) ≡ (((pt.view.pair a c).taken == length (pt.view.pair a c).ids) && ((pt.view.pair a c).acked == length (pt.view.pair a c).ids))
+pair_quiet b w pt l h a c p =
+    let order = p.stream.in_order in
+    let all : length (h.given a c) ≡ length (pt.view.pair a c).ids = sym (length-map id_of (h.given a c)) ∙ ap length p.ids in
+    let kept : length ((w.nodes a).senders c).unacked ≡ length (h.given a c) - ((w.nodes a).senders c).acked = ap length order.unacked ∙ length-drop ((w.nodes a).senders c).acked (h.given a c) in
+    let acked = p.acked in
+    let taken = p.taken in
+    let one = order.acked_taken in
+    let two = order.taken_gone in
+    let three = order.gone_given in
+    kept_quiet (length ((w.nodes a).senders c).unacked) (pt.view.pair a c).taken (pt.view.pair a c).acked (length (pt.view.pair a c).ids) (omega (arith, acked, taken, one)) (omega (arith, taken, two, three, all)) (omega (arith, kept, all, acked))
+
+heard_same : (b : Boot) (w : WorldState) (pt : Point) (l : Placed) (h : History) (a c : ℕ) (same : Bool) → (a == c) ≡ same → (same ≡ true → HomeStands (pt.view.pair a c)) → (same ≡ false → PairStands b pt l w h a c)
+    → (same || (length ((w.nodes a).senders c).unacked == 0)) ≡ pair_is_quiet same (pt.view.pair a c)
+heard_same b w pt l h a c true e home apart = sym (home_quiet (pt.view.pair a c) (home refl))
+heard_same b w pt l h a c false e home apart = pair_quiet b w pt l h a c (apart refl)
+
+is_home : (v : ℕ → ℕ → Pair) (a c : ℕ) → (a == c) ≡ true → HomeStands (v a a) → HomeStands (v a c)
+is_home v a c e h = let same : a ≡ c = grind (arith, nat_tests) in subst (λ (k : ℕ). HomeStands (v a k)) same h
+
+not_same : (a c : ℕ) → (a == c) ≡ false → a ≢ c
+not_same a c e = grind (arith, nat_tests)
+
+pub quiet_same : (b : Boot) (es : List Step) (w : WorldState) (pt : Point) → IsValid b → Leads b (first_point b) es pt → Stands b w pt → world.is_quiet (length b.machines) w ≡ is_quiet (length b.machines) pt.view
+quiet_same b es w pt valid leads ((l, h, s), counts) =
+    let n = length b.machines in
+    let machines = machines_are b es pt leads in
+    let home = λ (a : ℕ). (pairs_stand_always b es pt a (suc a) leads (λ same. absurd (let f : a < a = omega (arith, same) in omega (arith, f)))).1 in
+    all_same n (λ a. not (world.has_mail w a) && all_below n (world.all_heard w a)) (λ a. not (has_mail pt.view a) && all_below n (λ c. pair_is_quiet (a == c) (pt.view.pair a c)))
+    (λ a small.
+        ap (λ (t : Bool). not t && all_below n (world.all_heard w a)) (mail_same b w pt l h a (omega (arith, small, machines)) s)
+        ∙ ap (λ (t : Bool). not (has_mail pt.view a) && t)
+        (all_same n (world.all_heard w a) (λ c. pair_is_quiet (a == c) (pt.view.pair a c))
+        (λ c also. heard_same b w pt l h a c (a == c) refl (λ same. is_home pt.view.pair a c same (home a))
+        (λ apart. s.pairs a c (omega (arith, small, machines)) (omega (arith, also, machines)) (not_same a c apart)))))
+
+pub quiet_is_said : QuietIsSaid
+quiet_is_said b es w pt valid leads stands =
+    let n = length b.machines in
+    let machines = machines_are b es pt leads in
+    let same = quiet_same b es w pt valid leads stands ∙ ap (λ (m : ℕ). is_quiet m pt.view) (sym machines) in
+    (λ e. passes_quiet pt.kernel.machines pt.view (sym same ∙ e), λ q. same ∙ quiet_passes pt.kernel.machines pt.view q)
+
+pub mail_is_said : MailIsSaid
+mail_is_said b es w pt m valid leads ((l, h, s), counts) small = mail_same b w pt l h m (let machines = machines_are b es pt leads in omega (arith, small, machines)) s

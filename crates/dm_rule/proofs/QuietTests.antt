@@ -1,0 +1,66 @@
+-- The test for quiet decides whether all is quiet.
+use Rattle.std.proofs.Common.{◌≡◌, ◌≢◌, ℕ, ◌<◌, ◌==◌, ◌&&◌, Bool, true, false, not, List, [], ◌∷◌, length, nat_lt, refl, ap, ◌∙◌, sym, arith}
+use Rattle.std.specs.Prelude.{◌||◌}
+use Rattle.std.proofs.lemmas.Bool.{false≢true}
+use Rattle.std.proofs.lemmas.Bool.Decides.{nat_tests}
+use Rattle.dm_message.specs.declared.MsgId.{MsgId}
+use Rattle.dm_line.specs.Each.{all_below}
+use Rattle.dm_line.proofs.Below.{all_of_each, both_true, each_of_all, left_true, right_true}
+use Rattle.dm_rule.specs.Laws.{QuietIsTested}
+use Rattle.dm_rule.specs.Quiet.{IsQuiet, has_mail, is_quiet, pair_is_quiet}
+use Rattle.dm_rule.specs.View.{Pair, View}
+
+eq_is : (m n : ℕ) → m ≡ n → (m == n) ≡ true
+eq_is m n e = grind (arith, nat_tests)
+
+is_eq : (m n : ℕ) → (m == n) ≡ true → m ≡ n
+is_eq m n e = grind (arith, nat_tests)
+
+eq_not : (m n : ℕ) → m ≢ n → (m == n) ≡ false
+eq_not m n e = grind (arith, nat_tests)
+
+or_true : (x : Bool) → (x || true) ≡ true
+or_true true = refl
+or_true false = refl
+
+heard_by : (same : Bool) (p : Pair) → (same ≡ false → p.acked ≡ length p.ids) → (same || (p.acked == length p.ids)) ≡ true
+heard_by true p h = refl
+heard_by false p h = eq_is p.acked (length p.ids) (h refl)
+
+heard_is : (same : Bool) (p : Pair) → same ≡ false → (same || (p.acked == length p.ids)) ≡ true → p.acked ≡ length p.ids
+heard_is true p e h = absurd (false≢true (sym e))
+heard_is false p e h = is_eq p.acked (length p.ids) h
+
+pub no_mail_empty : (v : View) (m : ℕ) → not (has_mail v m) ≡ true → v.inbox m ≡ []
+no_mail_empty v m e = none (v.inbox m) e
+  where
+    none : {X : Type 0} (xs : List X) → not (nat_lt 0 (length xs)) ≡ true → xs ≡ []
+    none [] e = refl
+    none (x ∷ xs) e = absurd (some (length (x ∷ xs)) (omega arith) e)
+      where
+        some : (n : ℕ) → 0 < n → not (nat_lt 0 n) ≡ true → ⊥
+        some n h e = grind (arith, nat_tests)
+
+empty_no_mail : (v : View) (m : ℕ) → v.inbox m ≡ [] → not (has_mail v m) ≡ true
+empty_no_mail v m e = ap (λ (xs : List MsgId). not (nat_lt 0 (length xs))) e
+
+pub quiet_passes : (n : ℕ) (v : View) → IsQuiet n v → is_quiet n v ≡ true
+quiet_passes n v q =
+    all_of_each n (λ a. not (has_mail v a) && all_below n (λ b. pair_is_quiet (a == b) (v.pair a b)))
+    (λ a h. both_true (not (has_mail v a)) (all_below n (λ b. pair_is_quiet (a == b) (v.pair a b))) (empty_no_mail v a (q.inbox a h))
+    (all_of_each n (λ b. pair_is_quiet (a == b) (v.pair a b))
+    (λ b k. both_true ((v.pair a b).taken == length (v.pair a b).ids) ((a == b) || ((v.pair a b).acked == length (v.pair a b).ids)) (eq_is (v.pair a b).taken (length (v.pair a b).ids) (q.taken a b h k))
+    (heard_by (a == b) (v.pair a b) (λ apart. q.acked a b h k (λ same. false≢true (sym apart ∙ eq_is a b same)))))))
+
+pub passes_quiet : (n : ℕ) (v : View) → is_quiet n v ≡ true → IsQuiet n v
+passes_quiet n v e =
+    let each = λ (a : ℕ) (h : a < n). each_of_all n (λ a. not (has_mail v a) && all_below n (λ b. pair_is_quiet (a == b) (v.pair a b))) e a h in
+    let pair = λ (a b : ℕ) (h : a < n) (k : b < n). each_of_all n (λ b. pair_is_quiet (a == b) (v.pair a b)) (right_true (not (has_mail v a)) (all_below n (λ b. pair_is_quiet (a == b) (v.pair a b))) (each a h)) b k in
+    record {
+      taken = λ a b h k. is_eq (v.pair a b).taken (length (v.pair a b).ids) (left_true ((v.pair a b).taken == length (v.pair a b).ids) ((a == b) || ((v.pair a b).acked == length (v.pair a b).ids)) (pair a b h k));
+      acked = λ a b h k apart. heard_is (a == b) (v.pair a b) (eq_not a b apart) (right_true ((v.pair a b).taken == length (v.pair a b).ids) ((a == b) || ((v.pair a b).acked == length (v.pair a b).ids)) (pair a b h k));
+      inbox = λ m h. no_mail_empty v m (left_true (not (has_mail v m)) (all_below n (λ b. pair_is_quiet (m == b) (v.pair m b))) (each m h));
+    }
+
+pub quiet_is_tested : QuietIsTested
+quiet_is_tested n v = (passes_quiet n v, quiet_passes n v)

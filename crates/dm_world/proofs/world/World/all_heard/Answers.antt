@@ -1,0 +1,14 @@
+use Rattle.std.proofs.Common.{◌≡◌, ◌<◌, ◌+◌, ◌==◌, false, length, sym, ap, ◌∙◌, arith}
+use Rattle.dm_line.proofs.Below.{fails_at}
+use Rattle.dm_world.specs.Meets.{state_of}
+use Rattle.dm_world.specs.Next.{all_heard}
+use Rattle.dm_world.proofs.Passes.{not_heard}
+use Rattle.dm_world.proofs.world.World.all_heard.Goals as goal
+
+pub returns-then-not-is_heard : goal.returns-then-not-is_heard
+returns-then-not-is_heard c =
+    let w = c.args.self.now in
+    let all = c.machines-to-end.ensures.all in
+    let test = c.loop-to-test.true in
+    sym (fails_at (length w.boot.machines) (all_heard (state_of w) c.args.m) c.loop-to.to (omega (arith, all, test))
+    (not_heard (state_of w) c.args.m c.loop-to.to c.if-m-to.true (sym c.is_heard.ensures ∙ c.if-not-is_heard.true)))

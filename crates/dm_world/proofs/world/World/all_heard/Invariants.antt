@@ -1,0 +1,9 @@
+use Rattle.std.proofs.Common.{◌≡◌, true}
+use Rattle.dm_line.specs.Each.{all_below}
+use Rattle.dm_world.specs.Meets.{state_of}
+use Rattle.dm_world.specs.Next.{all_heard}
+use Rattle.dm_world.proofs.world.World.all_heard.Given as goal
+
+-- all that was routed to those passed is acknowledged
+abbrev pub invariant-loop-to : goal.invariant-loop-to
+invariant-loop-to l = all_below l.to (all_heard (state_of l.self) l.m) ≡ true

@@ -1,0 +1,12 @@
+use Rattle.std.proofs.Common.{length, sym, subst}
+use Rattle.dm_line.specs.declared.pass.Pass.{Pass}
+use Rattle.dm_world.specs.Cursor.{NextPassIs}
+use Rattle.dm_world.specs.Meets.{state_of}
+use Rattle.dm_world.proofs.Passes.{settle_next}
+use Rattle.dm_world.proofs.world.World.next_pass.Goals as goal
+
+pub returns-in-Settle-clause-next : goal.returns-in-Settle-clause-next
+returns-in-Settle-clause-next c ds =
+    let w = c.args.self.now in
+    let P : Pass → Type 0 = λ p. NextPassIs (length w.boot.machines) (state_of w) p ds c.next_packet.result in
+    subst P (sym c.in-Settle.is) (settle_next (length w.boot.machines) (state_of w) ds c.next_packet.result (c.next_packet.ensures.next ds))

@@ -1,0 +1,57 @@
+//! Whether anything is on its way.
+ghost use Rattle.std.specs.Prelude.{◌≡◌, ◌<◌, ◌==◌, length};
+ghost use Rattle.dm_line.specs.Each.{all_below};
+ghost use Rattle.dm_world.specs.Meets.{IsWorld, state_of};
+ghost use Rattle.dm_world.specs.Next.{all_heard, has_mail, is_quiet};
+
+use crate::world::World;
+
+impl World {
+    /// Whether nothing is on its way: no inbox has a message, and each message that was routed to another machine is
+    /// acknowledged. It looks at each inbox and each stream once, and takes no memory.
+    pub fn is_quiet(&self) -> bool
+        requires { IsWorld self.now }
+        ensures { result ≡ is_quiet (length self.now.boot.machines) (state_of self.now) }
+    {
+        for m in 0..self.machines() {
+            if self.has_mail(m) || !self.all_heard(m) {
+                return false;
+            }
+        }
+        true
+    }
+
+    /// Whether the inbox of a machine has a message.
+    pub(crate) fn has_mail(&self, m: u8) -> bool
+        requires world { IsWorld self.now }
+        requires within { m < length self.now.boot.machines }
+        ensures { result ≡ has_mail (state_of self.now) m }
+    {
+        self.machine(m).kernel().inbox().len() > 0
+    }
+
+    /// Whether all that a machine routed to others is acknowledged.
+    fn all_heard(&self, m: u8) -> bool
+        requires world { IsWorld self.now }
+        requires within { m < length self.now.boot.machines }
+        ensures { result ≡ all_below (length self.now.boot.machines) (all_heard (state_of self.now) m) }
+    {
+        for to in 0..self.machines() {
+            if m != to && !self.is_heard(m, to) {
+                return false;
+            }
+        }
+        true
+    }
+
+    /// Whether all that a machine routed to this other one is acknowledged.
+    fn is_heard(&self, m: u8, to: u8) -> bool
+        requires world { IsWorld self.now }
+        requires within { m < length self.now.boot.machines }
+        requires to { to < length self.now.boot.machines }
+        ensures { result ≡ (length (((state_of self.now).nodes m).senders to).unacked == 0) }
+    {
+        let sender = self.machine(m).sender(to);
+        sender.given() == sender.acknowledged()
+    }
+}
