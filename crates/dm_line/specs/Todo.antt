@@ -69,16 +69,13 @@ or (Some x) y = Some x
 abbrev pub begin_round : ℕ → (ℕ → ℕ → Option ℕ) → ℕ → List Directive → Option Next
 begin_round machines first rounds ds = in_round (round_begun machines rounds ds) (next_delivery first (pairs_of (below machines) (below machines)))
 
-abbrev pub begin_rounds : ℕ → (ℕ → ℕ → Option ℕ) → ℕ → List Directive → Option Next
-begin_rounds machines first zero ds = None
-begin_rounds machines first (suc n) ds = begin_round machines first n ds
-
--- where a round is over, the next one begins, and where there is none, the next directive
+-- where a round is over, the next one begins, and where there is none, the next directive; a spin of no rounds is passed over
 abbrev pub next_round : ℕ → (ℕ → ℕ → Option ℕ) → ℕ → List Directive → Option Next
 next_round machines first zero [] = None
 next_round machines first zero (directive.One s ∷ ds) = next s (record { pairs = []; machines = []; rounds = 0; directives = ds })
 next_round machines first zero (directive.Round ∷ ds) = begin_round machines first 0 ds
-next_round machines first zero (directive.Spin n ∷ ds) = begin_rounds machines first n ds
+next_round machines first zero (directive.Spin zero ∷ ds) = next_round machines first zero ds
+next_round machines first zero (directive.Spin (suc n) ∷ ds) = begin_round machines first n ds
 next_round machines first (suc k) ds = begin_round machines first k ds
 
 -- the elementary directive that follows, where the first packet of each pair that was never delivered is known

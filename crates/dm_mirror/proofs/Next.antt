@@ -13,7 +13,7 @@ use Rattle.dm_onekernel.specs.Boot.{IsValid}
 use Rattle.dm_schedule.specs.declared.Step.{Step}
 use Rattle.dm_schedule.specs.declared.Directive.{Directive}
 use Rattle.dm_schedule.specs.declared.Directive.TheVariants as directive
-use Rattle.dm_line.specs.Todo.{Two, Todo, Next, below, pairs_with, pairs_of, here_or_later, next_delivery, round_begun, next_turn, in_round, or, begin_round, begin_rounds, next_round, following}
+use Rattle.dm_line.specs.Todo.{Two, Todo, Next, below, pairs_with, pairs_of, here_or_later, next_delivery, round_begun, next_turn, in_round, or, begin_round, next_round, following}
 use Rattle.dm_rule.specs.Good.{first_undelivered}
 use Rattle.dm_rule.specs.Good as rule
 use Rattle.dm_rule.specs.Laws.{IsStep, Leads}
@@ -85,15 +85,12 @@ round_same : (machines : ℕ) (f g : ℕ → ℕ → Option ℕ) (rounds : ℕ) 
 round_same machines f g rounds ds same =
     ap (in_round (round_begun machines rounds ds)) (delivery_same machines f g (pairs_of (below machines) (below machines)) same (all_pairs machines))
 
-rounds_same : (machines : ℕ) (f g : ℕ → ℕ → Option ℕ) (rounds : ℕ) (ds : List Directive) → Agrees machines f g → begin_rounds machines f rounds ds ≡ begin_rounds machines g rounds ds
-rounds_same machines f g zero ds same = refl
-rounds_same machines f g (suc n) ds same = round_same machines f g n ds same
-
 later_same : (machines : ℕ) (f g : ℕ → ℕ → Option ℕ) (rounds : ℕ) (ds : List Directive) → Agrees machines f g → next_round machines f rounds ds ≡ next_round machines g rounds ds
 later_same machines f g zero [] same = refl
 later_same machines f g zero (directive.One s ∷ ds) same = refl
 later_same machines f g zero (directive.Round ∷ ds) same = round_same machines f g 0 ds same
-later_same machines f g zero (directive.Spin n ∷ ds) same = rounds_same machines f g n ds same
+later_same machines f g zero (directive.Spin zero ∷ ds) same = later_same machines f g zero ds same
+later_same machines f g zero (directive.Spin (suc n) ∷ ds) same = round_same machines f g n ds same
 later_same machines f g (suc k) ds same = round_same machines f g k ds same
 
 following_same : (machines : ℕ) (f g : ℕ → ℕ → Option ℕ) (t : Todo) → Agrees machines f g → All (IsTwo machines) t.pairs → following machines f t ≡ following machines g t
@@ -137,16 +134,13 @@ begun_fits machines first rounds ds h =
     (record { pairs = all_pairs machines; machines_ = all_below machines; directives = h })
     (delivery_fits machines first (pairs_of (below machines) (below machines)) (all_pairs machines))
 
-rounds_fit : (machines : ℕ) (first : ℕ → ℕ → Option ℕ) (rounds : ℕ) (ds : List Directive) → All (IsDirective machines) ds → Fits machines (begin_rounds machines first rounds ds)
-rounds_fit machines first zero ds h = tt
-rounds_fit machines first (suc n) ds h = begun_fits machines first n ds h
-
 later_fits : (machines : ℕ) (first : ℕ → ℕ → Option ℕ) (rounds : ℕ) (ds : List Directive) → All (IsDirective machines) ds → Fits machines (next_round machines first rounds ds)
 later_fits machines first zero [] h = tt
 later_fits machines first zero (directive.One s ∷ ds) h =
     record { step = All-head (IsDirective machines) (directive.One s) ds h; left = record { pairs = All-nil (IsTwo machines); machines_ = All-nil (IsBelow machines); directives = All-tail (IsDirective machines) (directive.One s) ds h } }
 later_fits machines first zero (directive.Round ∷ ds) h = begun_fits machines first 0 ds (All-tail (IsDirective machines) directive.Round ds h)
-later_fits machines first zero (directive.Spin n ∷ ds) h = rounds_fit machines first n ds (All-tail (IsDirective machines) (directive.Spin n) ds h)
+later_fits machines first zero (directive.Spin zero ∷ ds) h = later_fits machines first zero ds (All-tail (IsDirective machines) (directive.Spin 0) ds h)
+later_fits machines first zero (directive.Spin (suc n) ∷ ds) h = begun_fits machines first n ds (All-tail (IsDirective machines) (directive.Spin (suc n)) ds h)
 later_fits machines first (suc k) ds h = begun_fits machines first k ds h
 
 or_fits : (machines : ℕ) (x y : Option Next) → Fits machines x → Fits machines y → Fits machines (or x y)

@@ -1,5 +1,5 @@
 //! How far a directive has come, and which elementary one comes next.
-ghost use Rattle.std.specs.Prelude.{◌≡◌, ◌≢◌, ◌∷◌, ◌+◌, ◌<◌, ◌≤◌, ℕ, List, None, Option, Some, IfSome, [], length};
+ghost use Rattle.std.specs.Prelude.{◌≡◌, ◌∷◌, ◌+◌, ◌<◌, ◌≤◌, ℕ, List, None, Option, Some, IfSome, [], length};
 ghost use Rattle.dm_schedule.specs.declared.Directive.{Directive as TheDirective};
 ghost use Rattle.dm_line.specs.Todo.{Todo, Two, all_of, following};
 ghost use Rattle.dm_world.specs.Cursor.{Falls, FirstIs, IsFresh, IsFreshStep, NextIs, RowIs, pairs_at, todo_of};
@@ -33,7 +33,6 @@ pub enum Stage {
 impl Cursor {
     /// Nothing of the directive is done yet.
     pub fn new(directive: &Directive) -> Cursor
-        requires { directive.now ≢ Directive.Spin 0 }
         ensures { (n : ℕ) (first : ℕ → ℕ → Option ℕ) (ds : List TheDirective) →
             following n first (todo_of n result ds) ≡ following n first (all_of (directive.now ∷ ds)) }
     {
