@@ -107,6 +107,7 @@ pub mod StartRooms
 pub mod Starting
 pub mod Next
 pub mod Outs
+pub mod LocalLines
 pub mod Local
 pub mod Staying
 pub mod EndLists
