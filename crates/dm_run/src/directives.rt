@@ -73,7 +73,6 @@ fn run_directive<K: Sink>(
     requires world { IsWorld world.old }
     requires running { world.old.stopped ≡ false }
     requires due { IsDue world.old directive.now (K.told out.old) }
-    requires is_for { IsFor (length world.old.boot.machines) directive.now }
     requires groups { world.old.groups + 2 ^ 80 ≤ 2 ^ 126 }
     ensures came { (ds rest : List TheDirective) (before : Option (List ℕ)) →
         HasCome world.old.boot ds (all_of (directive.now ∷ rest)) before (K.told out.old) (state_of world.old) →
