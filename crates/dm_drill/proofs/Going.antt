@@ -251,3 +251,7 @@ ended_by dr b ds before now after w quiet last (Err WriteFault) valid one same n
       stands = (one, same, h.stands.stands);
     }
 ended_by dr b ds before now after w quiet last (Err (Worn from to)) valid one same none h tells is o = absurd o
+
+pub ended_err : {A : Type 0} (dr : Drill) (b : Boot) (ds : List Directive) (before after : Option (List ℕ)) (u : World) (r : Result A Stop) (e : Stop) → IsErr r × IsErrAnd r (λ y. y ≡ e) → Stopped dr b ds before after (Some u) e → Ended dr b ds before after u r
+ended_err dr b ds before after u (Ok x) e h p = absurd (false≢true h.0)
+ended_err dr b ds before after u (Err y) e h p = subst (λ (x : Stop). Stopped dr b ds before after (Some u) x) (sym h.1) p

@@ -12,7 +12,7 @@ ghost use Rattle.dm_run.specs.Coming.{Blames, Came, Ended, HasCome, IsAfter, IsD
 ghost use Rattle.dm_run.specs.Printed.{Lasts};
 ghost use Rattle.dm_run.specs.Running.{IsRunning};
 
-use crate::offer::{offer, offer_ends};
+use crate::offering::{offer, offer_ends};
 use crate::stop::Stop;
 use dm_outside::Sink;
 use dm_schedule::{Directive, Step};
