@@ -9,7 +9,8 @@ pub mod stop;
 pub mod write;
 
 pub use directives::{run_directives, run_to_end};
-pub use offering::{offer, offer_ends};
+pub use fit::lines_fit;
+pub use offering::{offer, offer_bytes, offer_ends};
 pub use running::{begin, end_lines, step_on};
 pub use stop::Stop;
 pub use write::write_all;

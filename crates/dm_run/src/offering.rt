@@ -45,7 +45,7 @@ pub fn offer_ends<K: Sink>(ends: &[EndLine], page: &mut Vec<u8>, out: &mut K) ->
 }
 
 /// Writes these bytes, all of them.
-fn offer_bytes<K: Sink>(bytes: &[u8], out: &mut K) -> Result<(), Stop>
+pub fn offer_bytes<K: Sink>(bytes: &[u8], out: &mut K) -> Result<(), Stop>
     ensures says { Offered (K.told out.old) bytes.now (K.told out.new) result }
     ensures blames { Blames (K.faults out.old) (K.faults out.new) result }
     ensures writes { K.faults out.old ≤ K.faults out.new }
