@@ -13,7 +13,7 @@ use Rattle.dm_asm.specs.Statements.{line_bytes, listed_bytes, statement_bytes}
 -- the line and the number of a refusal; 0 and 0 where there is an image
 abbrev refusal : Result (List ℕ) (ℕ × Why) → ℕ × ℕ
 refusal (Ok _) = (0, 0)
-refusal (Err no) = (no.0, why_code no.1)
+refusal (Err at) = (at.0, why_code at.1)
 
 -- texts and their bytes: the forms, each instruction, the first text of the smallest run
 abbrev images : List (List ℕ × List ℕ)

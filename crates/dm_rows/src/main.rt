@@ -41,8 +41,17 @@ fn do_runs<'a>(rt: &HostRuntime, table: &'a str) -> Result<Vec<Run<'a>>> {
 fn show_rows(rt: &HostRuntime, table: &str, good: &[Run<'_>]) -> Result<()> {
     for line in table.lines().filter(|line| is_entry(line)) {
         let row = Row::of_line(line).context("a line of the table of rows")?;
-        let verdict = if row.is_shown(rt, good)? { "shown" } else { "NOT shown" };
-        println!(rt; "row {}: {verdict} by {}, line {}", row.name, row.run, row.number())?;
+        let verdict = if row.is_shown(rt, good)? {
+            "shown"
+        } else {
+            "NOT shown"
+        };
+        println!(rt;
+            "row {}: {verdict} by {}, line {}",
+            row.name,
+            row.run,
+            row.number()
+        )?;
     }
     Ok(())
 }

@@ -96,10 +96,18 @@ pub fn say_errors(rt: &HostRuntime) -> Result<()> {
         LineFault::OutOfRange,
         LineFault::SameMachine,
     ] {
-        println!(rt; "schedule, {}: {}", fault.number(), SchedNo::Refused { line: 7, fault })?;
+        println!(rt;
+            "schedule, {}: {}",
+            fault.number(),
+            SchedNo::Refused { line: 7, fault }
+        )?;
     }
     let rule = BootRule::ProcessRoom;
-    println!(rt; "boot file, {}: {}", rule.number(), BootNo::Refused { rule, place: 2 })?;
+    println!(rt;
+        "boot file, {}: {}",
+        rule.number(),
+        BootNo::Refused { rule, place: 2 }
+    )?;
     let lacks = Lacks {
         free_slots: 1,
         free_blocks: 20,

@@ -41,7 +41,10 @@ impl<'a> Row<'a> {
         for run in good {
             if run.name == self.run {
                 let output = fs::read_to_string(rt, run.output)?;
-                return Ok(says(run, &output, self.line) && self.put.is_none_or(|put| says(run, &output, put)));
+                return Ok(
+                    says(run, &output, self.line)
+                        && self.put.is_none_or(|put| says(run, &output, put)),
+                );
             }
         }
         Ok(false)

@@ -4,9 +4,8 @@ use anyhow::Result;
 use dm_outside::{MemSink, RealShelf};
 use dm_program::finish;
 use std::alloc::{AllocError, Global};
-use std::fmt;
-use std::fs;
 use std::process::ExitCode;
+use std::{fmt, fs};
 
 /// The most bytes of a line on standard error.
 const LONGEST_LINE: usize = 96;
