@@ -1,0 +1,4 @@
+pub mod Decimal
+pub mod PiecesAt
+pub mod NamesRead
+pub mod Fitting
