@@ -5,3 +5,5 @@ pub mod Choices
 pub mod Sorts
 pub mod Shapes
 pub mod Heads
+pub mod Full
+pub mod Laws

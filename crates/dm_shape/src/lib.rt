@@ -6,6 +6,7 @@
 
 mod choice;
 pub mod head;
+pub mod laws;
 pub mod names;
 mod number;
 mod shape;
