@@ -8,4 +8,4 @@ mod rows;
 #[cfg(test)]
 mod tests;
 pub mod text;
-mod word;
+pub mod word;

@@ -1,0 +1,2 @@
+-- Scans of lines.
+pub ruleset ahead_lemmas = ()

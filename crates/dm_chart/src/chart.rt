@@ -1,0 +1,272 @@
+//! The whole picture.
+ghost use Rattle.std.specs.Prelude.{◌≡◌, ◌≤◌, ◌<◌, ◌+◌, [], ◌∷◌, ◌++◌, IfOk, OnOk, codes, length, map, option_to_list};
+ghost use Rattle.std.specs.List.{concat, flat_map};
+ghost use Rattle.dm_chart.specs.Drawn.{all_drawn};
+ghost use Rattle.dm_chart.specs.Legend.{marks, meanings, style_sheet};
+ghost use Rattle.dm_chart.specs.Picture.{extent, frame_of, left_out, made_in, made_with, picture_in, picture_of, processes_in, sheet, title};
+ghost use Rattle.dm_chart.specs.Roles.{role_of};
+ghost use Rattle.dm_chart.specs.Shapes.{columns, first_bar, shapes};
+ghost use Rattle.dm_chart.specs.Spots.{first_spot};
+ghost use Rattle.dm_chart.specs.Xml.{opening};
+
+use crate::draw::{put_column, put_written};
+use crate::frame::{Frame, MOST_LANES, Point, breadth, height};
+use crate::kept::Kept;
+use crate::key::{put_marks, put_meanings, put_style_sheet};
+use crate::lines::{put_lines, put_living};
+use crate::role::{Life, Role, role_of};
+use crate::spot::first_spot;
+use crate::xml::{put_alone, put_closing, put_opening, with};
+use dm_line::line::Line;
+use dm_link::Pid;
+use dm_lists::Items;
+use dm_memory::NoMemory;
+use dm_onekernel::boot::{Boot, BootProcess};
+use dm_text::word::Word::{Name, Number, Wide};
+use std::alloc::Global;
+
+/// The text of the picture of what is kept of a run, a document in the form SVG.
+#[tactic(auto, unfolding(crate::specs::Picture::picture_of))]
+pub fn picture(alloc: Global, boot: &Boot, kept: &Kept) -> Result<Vec<u8>, NoMemory>
+    requires { length boot.now.machines ≤ 255 }
+    ensures { IfOk result (λ text. text.items ≡ picture_of boot.now kept.now) }
+{
+    let frame = frame_of(alloc, boot, kept)?;
+    let mut text = Vec::new(alloc);
+    put_picture(alloc, &mut text, &frame, boot, kept)?;
+    Ok(text)
+}
+
+/// What the picture is drawn in.
+fn frame_of(alloc: Global, boot: &Boot, kept: &Kept) -> Result<Frame, NoMemory>
+    requires { length boot.now.machines ≤ 255 }
+    ensures { IfOk result (λ f. f ≡ frame_of boot.now kept.now) }
+{
+    let processes = processes_in(
+        alloc,
+        boot.processes.as_slice(),
+        kept.lines.as_slice(),
+    )?;
+    let numbers = copied(alloc, kept.numbers.as_slice())?;
+    Ok(Frame {
+        machines: boot.machines.len() as u8,
+        processes,
+        numbers,
+        rows: kept.rows,
+    })
+}
+
+/// These numbers.
+fn copied(alloc: Global, numbers: &[u64]) -> Result<Items<u64>, NoMemory>
+    ensures { IfOk result (λ ns. ns ≡ numbers.now) }
+{
+    let mut all = Items::new(alloc);
+    for number in numbers {
+        all.push(*number)?;
+    }
+    Ok(all)
+}
+
+/// The processes that are there from the start, and those that are made.
+fn processes_in(
+    alloc: Global,
+    starts: &[BootProcess],
+    lines: &[Line],
+) -> Result<Items<Pid>, NoMemory>
+    ensures { IfOk result (λ ps. ps ≡ processes_in starts.now lines.now) }
+{
+    let mut processes = Items::new(alloc);
+    push_starts(&mut processes, starts)?;
+    push_made(&mut processes, lines)?;
+    Ok(processes)
+}
+
+/// Adds the processes that are there from the start.
+#[tactic(auto, using(crate::proofs::Pieces::pieces_lemmas))]
+fn push_starts(processes: &mut Items<Pid>, starts: &[BootProcess]) -> Result<(), NoMemory>
+    ensures { OnOk result (processes.new ≡ processes.old ++ map (λ p. p.pid) starts.now) }
+{
+    for start in starts {
+        processes.push(start.pid)?;
+    }
+    Ok(())
+}
+
+/// Adds the processes that are made.
+#[tactic(auto, using(crate::proofs::Pieces::pieces_lemmas))]
+fn push_made(processes: &mut Items<Pid>, lines: &[Line]) -> Result<(), NoMemory>
+    ensures { OnOk result (processes.new ≡ processes.old ++ flat_map (λ l. made_in (role_of l)) lines.now) }
+{
+    for line in lines {
+        if let Some(pid) = made_in(role_of(line)) {
+            processes.push(pid)?;
+        }
+    }
+    Ok(())
+}
+
+/// The process that a line of this role makes.
+fn made_in(role: Role) -> Option<Pid>
+    ensures { option_to_list result ≡ made_in role }
+{
+    match role {
+        Role::Note(life) => made_with(life),
+        _ => None,
+    }
+}
+
+fn made_with(life: Life) -> Option<Pid>
+    ensures { option_to_list result ≡ made_with life }
+{
+    match life {
+        Life::Made(pid) => Some(pid),
+        _ => None,
+    }
+}
+
+/// Writes the picture.
+fn put_picture(
+    alloc: Global,
+    into: &mut Vec<u8>,
+    frame: &Frame,
+    boot: &Boot,
+    kept: &Kept,
+) -> Result<(), NoMemory>
+    requires { length boot.now.machines ≤ 255 }
+    ensures { OnOk result (into.new.items ≡ into.old.items ++ picture_in frame.now boot.now kept.now) }
+{
+    put_extent(into, frame)?;
+    put_style_sheet(into)?;
+    put_marks(into)?;
+    put_sheet(into, frame)?;
+    put_title(into, boot, kept)?;
+    put_meanings(into)?;
+    put_shapes(alloc, into, frame, boot, kept)?;
+    put_left_out(into, frame, kept)?;
+    put_closing(into, "svg")
+}
+
+/// Opens the picture.
+fn put_extent(into: &mut Vec<u8>, frame: &Frame) -> Result<(), NoMemory>
+    ensures { OnOk result (into.new.items ≡ into.old.items ++ opening (codes "svg") (extent frame.now)) }
+{
+    put_opening(
+        into,
+        "svg",
+        &[
+            with("xmlns", Name("http://www.w3.org/2000/svg")),
+            with("width", Number(breadth(frame))),
+            with("height", Number(height(frame.rows) + 44)),
+        ],
+    )
+}
+
+/// Draws a white ground.
+fn put_sheet(into: &mut Vec<u8>, frame: &Frame) -> Result<(), NoMemory>
+    ensures { OnOk result (into.new.items ≡ into.old.items ++ sheet frame.now) }
+{
+    put_alone(
+        into,
+        "rect",
+        &[
+            with("width", Number(breadth(frame))),
+            with("height", Number(height(frame.rows) + 44)),
+            with("fill", Name("#fff")),
+        ],
+    )
+}
+
+/// Writes how much there was.
+fn put_title(into: &mut Vec<u8>, boot: &Boot, kept: &Kept) -> Result<(), NoMemory>
+    requires { length boot.now.machines ≤ 255 }
+    ensures { OnOk result (into.new.items ≡ into.old.items ++ title boot.now kept.now) }
+{
+    put_written(
+        into,
+        "t",
+        Point { x: 10, y: 24 },
+        &[
+            Name("machines "),
+            Number(boot.machines.len() as u32),
+            Name(", groups "),
+            Wide(kept.groups),
+            Name(", messages "),
+            Wide(kept.messages),
+        ],
+    )
+}
+
+/// Writes what the picture leaves out.
+fn put_left_out(into: &mut Vec<u8>, frame: &Frame, kept: &Kept) -> Result<(), NoMemory>
+    ensures { OnOk result (into.new.items ≡ into.old.items ++ left_out frame.now kept.now) }
+{
+    let bars = frame.processes.len().saturating_sub(MOST_LANES) as u64;
+    put_written(
+        into,
+        "q",
+        Point {
+            x: 10,
+            y: height(frame.rows) + 30,
+        },
+        &[
+            Name("left out: "),
+            Wide(kept.left_groups),
+            Name(" groups behind these, which put "),
+            Wide(kept.left_messages),
+            Name(" messages; the bars of "),
+            Wide(bars),
+            Name(" processes"),
+        ],
+    )
+}
+
+/// Draws all shapes.
+fn put_shapes(
+    alloc: Global,
+    into: &mut Vec<u8>,
+    frame: &Frame,
+    boot: &Boot,
+    kept: &Kept,
+) -> Result<(), NoMemory>
+    ensures { OnOk result (into.new.items ≡ into.old.items ++ all_drawn frame.now (shapes frame.now.machines frame.now.rows boot.now.processes kept.now.lines)) }
+{
+    let lines = kept.lines.as_slice();
+    put_columns(into, frame)?;
+    put_starts(alloc, into, frame, boot.processes.as_slice(), lines)?;
+    put_lines(alloc, into, frame, lines)
+}
+
+/// Draws the machines.
+fn put_columns(into: &mut Vec<u8>, frame: &Frame) -> Result<(), NoMemory>
+    ensures { OnOk result (into.new.items ≡ into.old.items ++ all_drawn frame.now (columns frame.now.machines)) }
+{
+    for m in 0..frame.machines {
+        put_column(into, frame, m)?;
+    }
+    Ok(())
+}
+
+/// Draws the processes that are there from the start.
+fn put_starts(
+    alloc: Global,
+    into: &mut Vec<u8>,
+    frame: &Frame,
+    starts: &[BootProcess],
+    lines: &[Line],
+) -> Result<(), NoMemory>
+    ensures { OnOk result (into.new.items ≡ into.old.items ++ all_drawn frame.now (map (first_bar frame.now.rows lines.now) starts.now)) }
+{
+    for start in starts {
+        put_living(
+            alloc,
+            into,
+            frame,
+            start.pid,
+            start.pid.home,
+            first_spot(),
+            lines,
+            lines,
+        )?;
+    }
+    Ok(())
+}
