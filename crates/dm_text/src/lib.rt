@@ -6,4 +6,4 @@ mod ends;
 mod labels;
 mod rows;
 pub mod text;
-mod word;
+pub mod word;
