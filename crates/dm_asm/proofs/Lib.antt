@@ -4,3 +4,4 @@ pub mod Digits
 pub mod Meant
 mod Sizes
 mod Stands
+mod Worked

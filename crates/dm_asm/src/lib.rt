@@ -11,8 +11,6 @@ mod numbers;
 mod operands;
 mod refusals;
 mod statements;
-#[cfg(test)]
-mod tests;
 
 pub use assembler::assemble;
 pub use image::Image;

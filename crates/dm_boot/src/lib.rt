@@ -72,6 +72,3 @@ fn unread(why: &Error) -> BootNo
         }
     }
 }
-
-#[cfg(test)]
-mod tests;

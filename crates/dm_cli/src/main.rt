@@ -1,17 +1,8 @@
 //! The program `demosmp`: it runs a schedule on the system of a boot file, and prints what happens.
 #![tactic(auto)]
 
-mod commands;
-mod ending;
-mod entry;
-mod inputs;
-mod program;
-mod read;
-mod status;
-mod words;
-
 use dm_outside::{RealShelf, RealSink};
-use entry::{finish, words_of};
+use dm_program::{finish, words_of};
 use std::process::ExitCode;
 use std::{env, io};
 
@@ -26,20 +17,3 @@ fn main(rt: HostRuntime) -> ExitCode {
         &mut RealSink::new(rt.stderr()),
     )
 }
-
-#[cfg(test)]
-mod tests;
-#[cfg(test)]
-mod worked;
-#[cfg(test)]
-mod worked_calls;
-#[cfg(test)]
-mod worked_chains;
-#[cfg(test)]
-mod worked_migration;
-#[cfg(test)]
-mod worked_moves;
-#[cfg(test)]
-mod worked_programs;
-#[cfg(test)]
-mod worked_servers;

@@ -62,6 +62,3 @@ pub fn body_at(memory: &Memory, base: u32, len: u32) -> Body
     body.try_extend_from_slice(part).unwrap();
     body
 }
-
-#[cfg(test)]
-mod tests;

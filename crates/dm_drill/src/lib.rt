@@ -1,9 +1,7 @@
-//! A system and a schedule drawn from a number, and what is counted of their run.
+//! A drill: a run that is counted, and its summary.
 #![tactic(auto)]
 
-pub mod boot;
 pub mod counts;
-pub mod directives;
-pub mod draw;
+pub mod drill;
 pub mod summary;
 pub mod tally;

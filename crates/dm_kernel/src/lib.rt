@@ -26,6 +26,3 @@ pub use dm_memory::NoMemory;
 pub use kernel::{Kernel, Servers};
 pub use law::{machines_open_lawfully, moves_are_asked_lawfully, turns_are_lawful};
 pub use part::Part;
-
-#[cfg(test)]
-mod tests;

@@ -153,6 +153,3 @@ impl Table {
         retarget_slots(&mut self.slots, slots, about, at, moves)
     }
 }
-
-#[cfg(test)]
-mod tests;

@@ -7,6 +7,3 @@ mod telling;
 
 pub use following::apply;
 pub use telling::{has_update, notice};
-
-#[cfg(test)]
-mod tests;

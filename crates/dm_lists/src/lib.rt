@@ -3,8 +3,6 @@
 
 pub mod items;
 pub mod queue;
-#[cfg(test)]
-mod tests;
 
 pub use items::Items;
 pub use queue::Queue;

@@ -33,6 +33,3 @@ impl<T: Drop> From<AllocFailed<T>> for NoMemory {
         NoMemory(())
     }
 }
-
-#[cfg(test)]
-mod tests;

@@ -209,6 +209,3 @@ impl Placeless for Message {
         self.to.relocate(at, moves);
     }
 }
-
-#[cfg(test)]
-mod tests;

@@ -11,6 +11,3 @@ pub use arriving::{Arriving, Wanted};
 pub use dm_memory::NoMemory;
 pub use laws::{arrives_whole, can_move, comes_by_pieces};
 pub use leaving::{Leaving, freeze};
-
-#[cfg(test)]
-mod tests;

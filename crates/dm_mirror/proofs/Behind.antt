@@ -8,7 +8,7 @@ use Rattle.dm_schedule.specs.declared.Step.{Step}
 use Rattle.dm_schedule.specs.declared.Directive.{Directive}
 use Rattle.dm_schedule.specs.declared.Directive.TheVariants as directive
 use Rattle.dm_line.specs.declared.line.Line.{Line}
-use Rattle.dm_line.specs.Todo.{Todo, Next, Two, all_of, begin_round, begin_rounds, below, following, in_round, next_delivery, next_round, next_turn, or, pairs_of, round_begun}
+use Rattle.dm_line.specs.Todo.{Todo, Next, Two, all_of, begin_round, below, following, in_round, next_delivery, next_round, next_turn, or, pairs_of, round_begun}
 use Rattle.dm_rule.specs.Good.{next_step, undelivered, IsRun}
 use Rattle.dm_rule.specs.Point.{Point}
 
@@ -34,15 +34,12 @@ begin_behind machines first rounds ds more = round_behind more (round_begun mach
 kept_behind : (more : List Directive) (o p : Option Next) (n : Next) → p ≡ option_map (next_behind more) o → o ≡ Some n → p ≡ Some (next_behind more n)
 kept_behind more o p n e f = e ∙ ap (option_map (next_behind more)) f
 
-rounds_behind : (machines : ℕ) (first : ℕ → ℕ → Option ℕ) (rounds : ℕ) (ds more : List Directive) (n : Next) → begin_rounds machines first rounds ds ≡ Some n → begin_rounds machines first rounds (ds ++ more) ≡ Some (next_behind more n)
-rounds_behind machines first zero ds more n e = cc
-rounds_behind machines first (suc k) ds more n e = kept_behind more _ _ n (begin_behind machines first k ds more) e
-
 later_behind : (machines : ℕ) (first : ℕ → ℕ → Option ℕ) (rounds : ℕ) (ds more : List Directive) (n : Next) → next_round machines first rounds ds ≡ Some n → next_round machines first rounds (ds ++ more) ≡ Some (next_behind more n)
 later_behind machines first zero [] more n e = cc
 later_behind machines first zero (directive.One s ∷ ds) more n e = ap (option_map (next_behind more)) e
 later_behind machines first zero (directive.Round ∷ ds) more n e = kept_behind more _ _ n (begin_behind machines first 0 ds more) e
-later_behind machines first zero (directive.Spin k ∷ ds) more n e = rounds_behind machines first k ds more n e
+later_behind machines first zero (directive.Spin zero ∷ ds) more n e = later_behind machines first zero ds more n e
+later_behind machines first zero (directive.Spin (suc k) ∷ ds) more n e = kept_behind more _ _ n (begin_behind machines first k ds more) e
 later_behind machines first (suc k) ds more n e = kept_behind more _ _ n (begin_behind machines first k ds more) e
 
 or_behind : (more : List Directive) (a b p q : Option Next) (n : Next) → p ≡ option_map (next_behind more) a → (b ≡ Some n → q ≡ Some (next_behind more n)) → or a b ≡ Some n → or p q ≡ Some (next_behind more n)

@@ -49,7 +49,7 @@ pub leads_last : (b : Boot) (es : List Step) (pt mid : Point) (e : Step) (v : Sp
 leads_last b [] pt mid e v leads fit is = (v, subst (λ (q : Point). IsStep q.kernel.machines e) (sym leads) fit, ap (λ (q : Point). group_of b q e) leads ∙ is, refl)
 leads_last b (d ∷ ds) pt mid e v (w, first, group, rest) fit is = (w, first, group, leads_last b ds w.point mid e v rest fit is)
 
-run_last : (b : Boot) (gs : List (List Line)) (pt end : Point) (t left : Todo) (n : Next) (v : Spelled) (g : List Line) → IsRun b pt t gs end left → next_step end.kernel.machines end.view left ≡ Some n → group_of b end n.step ≡ Some v → v.lines ≡ g → IsKept b v.point
+pub run_last : (b : Boot) (gs : List (List Line)) (pt end : Point) (t left : Todo) (n : Next) (v : Spelled) (g : List Line) → IsRun b pt t gs end left → next_step end.kernel.machines end.view left ≡ Some n → group_of b end n.step ≡ Some v → v.lines ≡ g → IsKept b v.point
     → IsRun b pt t (gs ++ g ∷ []) v.point n.left
 run_last b [] pt end t left n v g (e, f) next is lines kept = (
   n,
@@ -67,7 +67,7 @@ joined_last [] g = append-nil g
 joined_last (h ∷ hs) g = ap (λ (ls : List Line). h ++ ls) (joined_last hs g) ∙ sym (append_assoc h (joined hs) g)
 
 -- the labels replay, with one more group
-replays_last : (b : Boot) (gs : List (List Line)) (pt : Point) (e : Step) (v : Spelled) (g : List Line) → replay (start b) (labels (joined gs)) ≡ Some pt.kernel → group_of b pt e ≡ Some v → v.lines ≡ g
+pub replays_last : (b : Boot) (gs : List (List Line)) (pt : Point) (e : Step) (v : Spelled) (g : List Line) → replay (start b) (labels (joined gs)) ≡ Some pt.kernel → group_of b pt e ≡ Some v → v.lines ≡ g
     → replay (start b) (labels (joined (gs ++ g ∷ []))) ≡ Some v.point.kernel
 replays_last b gs pt e v g before is lines =
     ap (replay (start b)) (ap labels (joined_last gs g) ∙ labels-append (joined gs) g)

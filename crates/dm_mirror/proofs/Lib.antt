@@ -108,6 +108,7 @@ pub mod Starting
 pub mod QuietSaid
 pub mod Next
 pub mod Outs
+pub mod LocalLines
 pub mod Local
 pub mod Staying
 pub mod EndLists

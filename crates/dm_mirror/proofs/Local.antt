@@ -1,5 +1,5 @@
 -- A directive acts on one machine.
-use Rattle.std.proofs.Common.{◌≡◌, ℕ, zero, suc, ◌+◌, ◌==◌, ◌&&◌, Bool, true, false, List, [], ◌∷◌, refl, ap, ◌∙◌, sym, subst, arith}
+use Rattle.std.proofs.Common.{◌≡◌, ℕ, zero, suc, ◌+◌, ◌==◌, ◌&&◌, Bool, true, false, List, [], ◌∷◌, map, refl, ap, ◌∙◌, sym, subst, arith}
 use Rattle.std.specs.Prelude.{⊤, if◌then◌else◌}
 use Rattle.std.specs.declared.option.Option.{Option}
 use Rattle.std.specs.declared.option.Option.TheVariants.{None, Some}
@@ -29,7 +29,8 @@ use Rattle.dm_node.specs.Out.{Acted, Acts, Goes, Worn}
 use Rattle.dm_node.specs.Acts as machine
 use Rattle.dm_node.proofs.Here.{StaysAt, asks_move_stays}
 use Rattle.dm_world.specs.World.{WorldState, Said, Says, acted, turned, arrives, reads, delivers, world_step}
-use Rattle.dm_mirror.specs.Local.{IsFresh, PutsFrom, marked_by, ActsLocally, SamePacket, DoesSame, ReadsLocally, NothingComes}
+use Rattle.dm_mirror.specs.Local.{IsFresh, PutsFrom, marked_by, ActsLocally, SamePacket, unnumbered, DoesSame, ReadsLocally, NothingComes}
+use Rattle.dm_mirror.proofs.LocalLines.{acted_unnumbered, acted_exact, marked_long}
 use Rattle.dm_mirror.proofs.Outs.{IsFrom, ActsFrom, acts_from, tick_from, arrives_from, packets_to, all_fresh, spoken_off, spoken_on}
 
 -- a kernel stays on its machine, whatever a turn gives
@@ -140,6 +141,8 @@ delivers_same b w u a c k s None here_is there_is is node happens =
       more = λ n. [];
       puts = subst (λ (z : Said). PutsFrom c (λ n. []) (marked_by e w) z.state) (sym same) (nothing_puts w a c k here_is);
       puts_there = nothing_puts u a c k there_is;
+      lines = ap (λ (z : Said). map unnumbered z.lines) (sym same);
+      exact = λ long. ap (λ (z : Said). z.lines) (sym same);
     }
 delivers_same b w u a c k s (Some bytes) here_is there_is is node happens =
     let e = step.Deliver a c k in
@@ -156,6 +159,8 @@ delivers_same b w u a c k s (Some bytes) here_is there_is is node happens =
       more = λ n. packets_to n d.outs;
       puts = subst (λ (z : Said). PutsFrom c (λ n. packets_to n d.outs) x z.state) (sym p.said) (acted_puts x e c d from);
       puts_there = acted_puts y e c d from;
+      lines = acted_unnumbered x y e c d ∙ ap (λ (z : Said). map unnumbered z.lines) (sym p.said);
+      exact = λ long. acted_exact x y e c d from (marked_long c e w u long) ∙ ap (λ (z : Said). z.lines) (sym p.said);
     }
 
 turn_same : KernelStays → (b : Boot) (w u : WorldState) (m : ℕ) (s : Said) → here (w.nodes m) ≡ m → u.nodes m ≡ w.nodes m → world_step b w (step.Turn m) ≡ Some (Says s) → DoesSame b w u (step.Turn m) s
@@ -170,6 +175,8 @@ turn_same stays b w u m s is node happens =
       more = λ n. packets_to n d.outs;
       puts = subst (λ (z : Said). PutsFrom m (λ n. packets_to n d.outs) w z.state) (sym t.said) (acted_puts w e m d t.from);
       puts_there = acted_puts u e m d t.from;
+      lines = acted_unnumbered w u e m d ∙ ap (λ (z : Said). map unnumbered z.lines) (sym t.said);
+      exact = λ long. acted_exact w u e m d t.from long ∙ ap (λ (z : Said). z.lines) (sym t.said);
     }
 
 tick_same : (b : Boot) (w u : WorldState) (m : ℕ) (s : Said) → here (w.nodes m) ≡ m → u.nodes m ≡ w.nodes m → world_step b w (step.Tick m) ≡ Some (Says s) → DoesSame b w u (step.Tick m) s
@@ -185,6 +192,8 @@ tick_same b w u m s is node happens =
       more = λ n. packets_to n d.outs;
       puts = subst (λ (z : Said). PutsFrom m (λ n. packets_to n d.outs) w z.state) (sym said) (acted_puts w e m d from);
       puts_there = acted_puts u e m d from;
+      lines = acted_unnumbered w u e m d ∙ ap (λ (z : Said). map unnumbered z.lines) (sym said);
+      exact = λ long. acted_exact w u e m d from long ∙ ap (λ (z : Said). z.lines) (sym said);
     }
 
 migrate_same : (b : Boot) (w u : WorldState) (p : Pid) (m : ℕ) (s : Said) → here (w.nodes 0) ≡ 0 → u.nodes 0 ≡ w.nodes 0 → world_step b w (step.Migrate p m) ≡ Some (Says s) → DoesSame b w u (step.Migrate p m) s
@@ -199,6 +208,8 @@ migrate_same b w u p m s is node happens =
       more = λ n. packets_to n d.outs;
       puts = subst (λ (z : Said). PutsFrom 0 (λ n. packets_to n d.outs) w z.state) (sym t.said) (acted_puts w e 0 d t.from);
       puts_there = acted_puts u e 0 d t.from;
+      lines = acted_unnumbered w u e 0 d ∙ ap (λ (z : Said). map unnumbered z.lines) (sym t.said);
+      exact = λ long. acted_exact w u e 0 d t.from long ∙ ap (λ (z : Said). z.lines) (sym t.said);
     }
 
 pub reads_locally : KernelStays → ReadsLocally

@@ -30,7 +30,7 @@ use Rattle.dm_node.specs.Acts.{acts, routes, routes_home, routes_away, gives, se
 use Rattle.dm_node.specs.Wired.{with_packet, spoken}
 use Rattle.dm_mirror.specs.Local.{IsFresh}
 
-abbrev from_of : Packet → ℕ
+abbrev pub from_of : Packet → ℕ
 from_of (packet.Data from to k m) = from
 from_of (packet.Ack from to k) = from
 

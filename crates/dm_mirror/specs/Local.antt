@@ -1,6 +1,6 @@
 -- A directive acts on one machine: it reads that machine alone, and at a delivery the packet that comes; it changes that machine
--- alone; and what it puts on wires goes from that machine.
-use Rattle.std.specs.Prelude.{◌≡◌, ◌≢◌, ℕ, ◌+◌, false, List, [], ◌∷◌, ◌++◌}
+-- alone; what it puts on wires goes from that machine; and so its lines are that machine's alone.
+use Rattle.std.specs.Prelude.{◌≡◌, ◌≢◌, ℕ, ◌+◌, false, List, [], ◌∷◌, ◌++◌, length, map}
 use Rattle.std.specs.List.{All}
 use Rattle.std.specs.declared.option.Option.TheVariants.{None, Some}
 use Rattle.dm_wire.specs.Sent.{Sent, bytes_at}
@@ -8,6 +8,7 @@ use Rattle.dm_wire.specs.Wire.{after_mark}
 use Rattle.dm_onekernel.specs.declared.boot.Boot.{Boot}
 use Rattle.dm_schedule.specs.declared.Step.{Step}
 use Rattle.dm_schedule.specs.declared.Step.TheVariants as step
+use Rattle.dm_line.specs.declared.line.Line.{Line}
 use Rattle.dm_line.specs.declared.line.Line.TheVariants as line
 use Rattle.dm_rule.specs.View.{actor}
 use Rattle.dm_node.specs.State.{here}
@@ -45,7 +46,39 @@ SamePacket (step.Tick m) w u = Unit {0}
 SamePacket (step.Deliver a c k) w u = bytes_at (u.wires a c) k ≡ bytes_at (w.wires a c) k
 SamePacket (step.Migrate p m) w u = Unit {0}
 
--- the same machine does the same: it is the same behind it, and has put the same packets on its wires
+-- a line but for its packet's number, which is how many stand on the wire before it; a row a line
+abbrev pub unnumbered : Line → Line
+unnumbered (line.Packet a c k l) = line.Packet a c 0 l
+unnumbered (line.Head d) = line.Head d
+unnumbered (line.Idle m) = line.Idle m
+unnumbered (line.Label l) = line.Label l
+unnumbered (line.Put a c id k q) = line.Put a c id k q
+unnumbered (line.Taken a c n) = line.Taken a c n
+unnumbered (line.Old a c n) = line.Old a c n
+unnumbered (line.Early a c n) = line.Early a c n
+unnumbered (line.Acked a c n) = line.Acked a c n
+unnumbered line.Nothing = line.Nothing
+unnumbered (line.Resent m n) = line.Resent m n
+unnumbered (line.Queued id) = line.Queued id
+unnumbered (line.Held id) = line.Held id
+unnumbered (line.Forwarded id m) = line.Forwarded id m
+unnumbered (line.Updated id n) = line.Updated id n
+unnumbered (line.Migration s q) = line.Migration s q
+unnumbered (line.SentOn q n) = line.SentOn q n
+unnumbered (line.Lacks q s t) = line.Lacks q s t
+unnumbered (line.Stays q) = line.Stays q
+unnumbered (line.Here id) = line.Here id
+unnumbered (line.NoMove id) = line.NoMove id
+unnumbered (line.Proto id) = line.Proto id
+unnumbered (line.NoChild q) = line.NoChild q
+unnumbered (line.Pinned q) = line.Pinned q
+
+-- machine m has put as many packets on each of its wires
+abbrev pub AsLong : ℕ → WorldState → WorldState → Type 0
+AsLong m w u = (c : ℕ) → length (u.wires m c) ≡ length (w.wires m c)
+
+-- the same machine does the same: it is the same behind it, has put the same packets on its wires, and says the same lines, with the
+-- same numbers of packets where as many were on its wires
 pub record DoesSame (b : Boot) (w u : WorldState) (e : Step) (s : Said) : Type 0 where
   pub said : Said
   pub happens : world_step b u e ≡ Some (Says said)
@@ -53,6 +86,8 @@ pub record DoesSame (b : Boot) (w u : WorldState) (e : Step) (s : Said) : Type 0
   pub more : ℕ → List Sent
   pub puts : PutsFrom (actor e) more (marked_by e w) s.state
   pub puts_there : PutsFrom (actor e) more (marked_by e u) said.state
+  pub lines : map unnumbered said.lines ≡ map unnumbered s.lines
+  pub exact : AsLong (actor e) w u → said.lines ≡ s.lines
 
 -- whatever the other machines are, and whatever else lies on wires
 abbrev pub ReadsLocally : Type 0

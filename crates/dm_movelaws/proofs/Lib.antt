@@ -87,3 +87,11 @@ pub mod MoversSays
 pub mod MoversRows
 pub mod MoversGone
 pub mod MoversAlways
+pub mod RoutedSteps
+pub mod RoutedOuts
+pub mod RoutedGroups
+pub mod RoutedAlways
+pub mod ProtocolMoves
+pub mod ListsFor
+pub mod LifePlaces
+pub mod LifeLines

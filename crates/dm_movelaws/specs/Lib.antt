@@ -13,3 +13,6 @@ pub mod Forwards
 pub mod Links
 pub mod Pending
 pub mod Movers
+pub mod Routed
+pub mod Protocol
+pub mod LifeLines

@@ -3,15 +3,18 @@ ghost use Rattle.dm_rule.specs.Trails.{TrailsAlways};
 ghost use Rattle.dm_movelaws.specs.AtRest.{AtRestAlways, DropsAlways};
 ghost use Rattle.dm_movelaws.specs.Counts.{CountsKept, CountsStay};
 ghost use Rattle.dm_movelaws.specs.Ends.{EndsAlways};
-ghost use Rattle.dm_movelaws.specs.Lists.{ListsAlways};
+ghost use Rattle.dm_movelaws.specs.Lists.{ListsAlways, ListsForTheirs};
 ghost use Rattle.dm_movelaws.specs.Numbers.{NumbersAlways};
+ghost use Rattle.dm_movelaws.specs.LifeLines.{LivesAreSaid};
 ghost use Rattle.dm_movelaws.specs.Forwards.{ForwardsTell, RequestsTell};
 ghost use Rattle.dm_movelaws.specs.Links.{CountsPromise};
 ghost use Rattle.dm_movelaws.specs.Movers.{MoversHavePieces};
 ghost use Rattle.dm_movelaws.specs.Pending.{PendingAscends, PendingHasOne};
 ghost use Rattle.dm_movelaws.specs.Open.{OpenMoves, OpenSpares, OpenStays, OpenKeeps};
 ghost use Rattle.dm_movelaws.specs.Promise.{PromisesAlways};
+ghost use Rattle.dm_movelaws.specs.Protocol.{ProtocolMoves};
 ghost use Rattle.dm_movelaws.specs.Real.{RealAlways};
+ghost use Rattle.dm_movelaws.specs.Routed.{RoutedAlways};
 ghost use Rattle.dm_movelaws.specs.Stages.{StepsInOrder};
 ghost use Rattle.dm_movelaws.specs.Trail.{TrailsStand, AddressesLead};
 ghost use Rattle.dm_movelaws.specs.Updates.{UpdatesAlways};
@@ -174,4 +177,31 @@ pub fn movers_have_pieces()
 /// forwarding address of the machine that acts; and behind it a new update is under way that tells the manager this address.
 pub fn requests_tell()
     ensures { RequestsTell }
+{}
+
+/// Wherever the rule leads from a boot file: each message that a living process or a server has counted as sent was routed, under the
+/// name with its number, by a line among those so far. So each such count is at most the number of messages that were routed on all
+/// pairs of machines.
+pub fn routed_always()
+    ensures { RoutedAlways }
+{}
+
+/// Wherever the rule leads from a boot file: each message in the queue of a process is a user message for that process, which nobody
+/// has got yet; and each message that is held back for a process, a kernel's own or another, is for that process.
+pub fn lists_for_theirs()
+    ensures { ListsForTheirs }
+{}
+
+/// Wherever the rule leads from a boot file: each message by which two kernels move a process, of the kinds from ask to restart, that
+/// stands in any inbox, queue, held list or stream is about a process that moves, and is the one message of its migration that is
+/// under way.
+pub fn protocol_moves()
+    ensures { ProtocolMoves }
+{}
+
+/// Wherever the rule leads from a boot file: among the lines that are said there at the end, each process that was ever made has
+/// exactly one that says whether it lives. It says of one that has ended why, and of a living one the machine that it is on, leaves or
+/// comes to, and how it stands there. A process that was never made has none.
+pub fn lives_are_said()
+    ensures { LivesAreSaid }
 {}

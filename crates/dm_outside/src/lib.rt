@@ -72,6 +72,3 @@ pub trait Sink {
         ensures steady { OnOk result (faults self.new ≡ faults self.old) }
         ensures counts { faults self.old ≤ faults self.new };
 }
-
-#[cfg(test)]
-mod tests;

@@ -111,6 +111,3 @@ pub fn encode(packet: &Packet, out: &mut Vec<u8>) -> Result<(), NoMemory>
     out.extend_from_slice(&bytes)?;
     Ok(())
 }
-
-#[cfg(test)]
-mod tests;

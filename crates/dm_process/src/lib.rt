@@ -5,6 +5,3 @@ pub mod process;
 
 pub use dm_memory::NoMemory;
 pub use process::{Direction, Process, Status};
-
-#[cfg(test)]
-mod tests;

@@ -10,8 +10,6 @@ mod opcodes;
 mod operations;
 mod registers;
 mod storage;
-#[cfg(test)]
-mod tests;
 
 pub use blocks::Memory;
 pub use dm_memory::NoMemory;

@@ -209,6 +209,3 @@ impl ProcMan {
             + retarget_pending(self.pending.as_mut_slice(), about, at, moves)
     }
 }
-
-#[cfg(test)]
-mod tests;

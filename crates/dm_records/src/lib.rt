@@ -7,6 +7,3 @@ pub mod records;
 pub use dm_memory::NoMemory;
 pub use record::{Record, Whereabouts};
 pub use records::Records;
-
-#[cfg(test)]
-mod tests;

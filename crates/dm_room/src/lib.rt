@@ -5,8 +5,6 @@
 
 mod law;
 mod room;
-#[cfg(test)]
-mod tests;
 
 pub use law::any_reservations;
 pub use room::{Lacks, Room};

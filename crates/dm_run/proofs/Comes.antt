@@ -49,12 +49,12 @@ pub always_ok : {A E : Type 0} (r : Result A E) (P : Type 0) → P → OnOk r P
 always_ok (Ok x) P h = h
 always_ok (Err e) P h = tt
 
-text_append : (a b : List Line) → text_of_lines (a ++ b) ≡ text_of_lines a ++ text_of_lines b
+pub text_append : (a b : List Line) → text_of_lines (a ++ b) ≡ text_of_lines a ++ text_of_lines b
 unfolding text_of_lines
 text_append [] b = refl
 text_append (l ∷ ls) b = ap (λ t. text l ++ t) (text_append ls b) ∙ sym (append_assoc (text l) (text_of_lines ls) (text_of_lines b))
 
-text_none : text_of_lines [] ≡ []
+pub text_none : text_of_lines [] ≡ []
 unfolding text_of_lines
 text_none = refl
 
@@ -62,11 +62,11 @@ ends_none : text_of_ends [] ≡ []
 unfolding text_of_ends
 ends_none = refl
 
-joined_last : (gs : List (List Line)) (g : List Line) → joined (gs ++ g ∷ []) ≡ joined gs ++ g
+pub joined_last : (gs : List (List Line)) (g : List Line) → joined (gs ++ g ∷ []) ≡ joined gs ++ g
 joined_last [] g = append-nil g
 joined_last (h ∷ hs) g = ap (λ (ls : List Line). h ++ ls) (joined_last hs g) ∙ sym (append_assoc h (joined hs) g)
 
-appended_none : (old : Option (List ℕ)) → old ≡ appended old []
+pub appended_none : (old : Option (List ℕ)) → old ≡ appended old []
 appended_none None = refl
 appended_none (Some old) = ap Some (sym (append-nil old))
 
@@ -98,16 +98,16 @@ pub may_end : (b : Boot) (ds : List Directive) (t : Todo) (before after : Option
 may_end b ds t before after w valid h = end_may b h.stands.steps w h.end valid h.stands.leads h.stands.stands
 
 -- a group was printed
-record Grown (b : Boot) (ds : List Directive) (left : Todo) (gs : List (List Line)) (ls : List Line) (u : WorldState) : Type 0 where
-  end : Point
-  stands : RunStands b ds (gs ++ ls ∷ []) end left u
+pub record Grown (b : Boot) (ds : List Directive) (left : Todo) (gs : List (List Line)) (ls : List Line) (u : WorldState) : Type 0 where
+  pub end : Point
+  pub stands : RunStands b ds (gs ++ ls ∷ []) end left u
 
 grown_by : (b : Boot) (ds : List Directive) (t : Todo) (before after : Option (List ℕ)) (w : WorldState) (n : Next) (said : Said) → IsValid b → (h : HasCome b ds t before after w) → (g : GoesOn b w h.end n.step) → RunStands b ds (h.groups ++ g.said.lines ∷ []) g.group.point n.left g.said.state
     → g.said ≡ said → Grown b ds n.left h.groups said.lines said.state
 grown_by b ds t before after w n said valid h g on e =
     subst (λ (x : Said). Grown b ds n.left h.groups x.lines x.state) e (record { end = g.group.point; stands = on })
 
-grown : (b : Boot) (ds : List Directive) (t : Todo) (before after : Option (List ℕ)) (w : WorldState) (n : Next) (said : Said) → IsValid b → (h : HasCome b ds t before after w) → next_step (length b.machines) w t ≡ Some n → world_step b w n.step ≡ Some (Says said)
+pub grown : (b : Boot) (ds : List Directive) (t : Todo) (before after : Option (List ℕ)) (w : WorldState) (n : Next) (said : Said) → IsValid b → (h : HasCome b ds t before after w) → next_step (length b.machines) w t ≡ Some n → world_step b w n.step ≡ Some (Says said)
     → AreReadBack (gave b w n.step) → AreWhole w n.step → Grown b ds n.left h.groups said.lines said.state
 grown b ds t before after w n said valid h is happens again whole =
     let k = goes b ds t before after w n valid h is in
@@ -147,20 +147,20 @@ pub lacks_there : (b : Boot) (ds : List Directive) (t : Todo) (before now after 
 lacks_there b ds t before now after w h e = record { groups = h.groups; end = h.end; left = h.left; good = h.stands.good; fits = h.fits; written = e ∙ h.written }
 
 -- the text of one more group, in its parts
-text_last : (gs : List (List Line)) (g : List Line) → text_of_lines (joined (gs ++ g ∷ [])) ≡ text_of_lines (joined gs) ++ text_of_lines g
+pub text_last : (gs : List (List Line)) (g : List Line) → text_of_lines (joined (gs ++ g ∷ [])) ≡ text_of_lines (joined gs) ++ text_of_lines g
 text_last gs g = ap text_of_lines (joined_last gs g) ∙ text_append (joined gs) g
 
-cut_text : (a b : List ℕ) (c : ℕ) → a ++ b ≡ (a ++ take c b) ++ drop c b
+pub cut_text : (a b : List ℕ) (c : ℕ) → a ++ b ≡ (a ++ take c b) ++ drop c b
 cut_text a b c = ap (λ t. a ++ t) (sym (take-append-drop c b)) ∙ sym (append_assoc a (take c b) (drop c b))
 
 -- no lines at the end
 no_ends : (ls : List Line) → text_of_lines ls ++ text_of_ends [] ≡ text_of_lines ls
 no_ends ls = ap (λ t. text_of_lines ls ++ t) ends_none ∙ append-nil (text_of_lines ls)
 
-more_written : (before now after : Option (List ℕ)) (a b : List ℕ) → now ≡ appended before a → after ≡ appended now b → after ≡ appended before (a ++ b)
+pub more_written : (before now after : Option (List ℕ)) (a b : List ℕ) → now ≡ appended before a → after ≡ appended now b → after ≡ appended before (a ++ b)
 more_written before now after a b e f = f ∙ (ap (λ t. appended t b) e ∙ appended_twice before a b)
 
-fits_last : (gs : List (List Line)) (g : List Line) → All LineFits (joined gs) → All LineFits g → All LineFits (joined (gs ++ g ∷ []))
+pub fits_last : (gs : List (List Line)) (g : List Line) → All LineFits (joined gs) → All LineFits g → All LineFits (joined (gs ++ g ∷ []))
 fits_last gs g h k = subst (All LineFits) (sym (joined_last gs g)) (All-append LineFits (joined gs) g h k)
 
 -- the lines of a group were offered

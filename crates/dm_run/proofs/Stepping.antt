@@ -60,9 +60,6 @@ falls_on a b w u c next e same after falls =
 pub one_group_more : (a : Boot) (w u : WorldState) (e : Step) → IsAfter a w e u → u.groups ≡ w.groups + 1
 one_group_more a w u e after = counts a w e (record { state = u; lines = after.lines }) after.happens
 
-pub not_no_rounds : (n : ℕ) (d : Directive) → IsFor n d → d ≢ directive.Spin 0
-not_no_rounds n d h e = let k : IsFor n (directive.Spin 0) = subst (IsFor n) e h in omega (arith, k.0)
-
 pub few_machines : (b : Boot) → IsValid b → length b.machines ≤ 16
 few_machines b valid = most (length b.machines) valid.few_machines
   where

@@ -3,6 +3,10 @@ use Rattle.std.proofs.Common.{◌≡◌, ℕ, inl, inr, false, List, [], ◌∷�
 use Rattle.std.specs.declared.option.Option.TheVariants.{Some}
 use Rattle.std.specs.List.{All}
 use Rattle.std.specs.declared.option.Option.{Option}
+use Rattle.std.specs.Result.{IfErr, IsErr, IsErrAnd}
+use Rattle.std.specs.declared.result.Result.{Result}
+use Rattle.std.specs.declared.result.Result.TheVariants.{Ok, Err}
+use Rattle.std.proofs.lemmas.Bool.{false≢true}
 use Rattle.dm_onekernel.specs.declared.boot.Boot.{Boot}
 use Rattle.dm_onekernel.specs.Boot.{IsValid}
 use Rattle.dm_schedule.specs.declared.Step.{Step}
@@ -15,11 +19,14 @@ use Rattle.dm_rule.specs.Laws.{IsStep}
 use Rattle.dm_rule.specs.Point.{Point, first_point}
 use Rattle.dm_rule.specs.Worn.{IsWorn}
 use Rattle.dm_text.specs.Fits.{HidesNothing}
+use Rattle.dm_node.specs.declared.stop.Stop.{Stop}
+use Rattle.dm_node.specs.declared.stop.Stop.TheVariants as stop
+use Rattle.dm_node.specs.Meets.{OrNoMemory}
 use Rattle.dm_world.specs.declared.world.World.{World}
 use Rattle.dm_world.specs.Ends as world_ends
 use Rattle.dm_world.specs.Ends.{MayEnd}
 use Rattle.dm_world.specs.May.{MayStep}
-use Rattle.dm_world.specs.Meets.{IsWorld, state_of}
+use Rattle.dm_world.specs.Meets.{Answers, IsWorld, state_of}
 use Rattle.dm_world.specs.Readable.{AreReadBack, gave}
 use Rattle.dm_world.specs.Whole.{AreWhole}
 use Rattle.dm_world.specs.World.{WorldState, Said, Says, WornOut, first_world, world_step}
@@ -27,8 +34,9 @@ use Rattle.dm_mirror.specs.Run.{GoesOn, RunStands}
 use Rattle.dm_mirror.specs.Ran.{Ran, RanGoes}
 use Rattle.dm_mirror.specs.Todo.{IsDirective}
 use Rattle.dm_run.specs.Coming.{HasCome, IsFor}
-use Rattle.dm_run.specs.Running.{IsRunning, RanOn, RunsOn}
+use Rattle.dm_run.specs.Running.{IsRunning, RanOn, RunsOn, StopsWorn}
 use Rattle.dm_run.proofs.Comes.{stands_hide}
+use Rattle.dm_run.proofs.Counted.{worn_out}
 use Rattle.dm_run.proofs.Laws.{end_is_said, end_may, ran_begins, ran_goes_on, run_is_ran}
 use Rattle.dm_run.proofs.Stepping.{are_directives}
 
@@ -90,6 +98,16 @@ stops_worn b w e from to es gs pt valid fits happens whole r =
           let two : s.to ≡ to = cc in
           subst (λ (m : ℕ). IsWorn b pt e from m) two (subst (λ (m : ℕ). IsWorn b pt e m s.to) one s.worn)
     ]
+
+-- what its error says
+pub stops_as : (b : Boot) (w u : WorldState) (e : Step) (s : Stop) → IsValid b → IsStep (length b.machines) e → Answers (Err s) u (world_step b w e) → OrNoMemory {X = List Line} (Err s) (AreWhole w e) → StopsWorn b w e s
+stops_as b w u e (stop.Worn from to) valid fits answers whole = λ es gs pt r. stops_worn b w e from to es gs pt valid fits (worn_out from to (world_step b w e) answers) whole r
+stops_as b w u e (stop.NoMemory lack) valid fits answers whole = tt
+
+-- what holds of the one error holds of the error there is
+pub if_err : {A E : Type 0} (r : Result A E) (e : E) (P : E → Type 0) → IsErr r × IsErrAnd r (λ y. y ≡ e) → P e → IfErr r P
+if_err (Ok x) e P h p = absurd (false≢true h.0)
+if_err (Err y) e P h p = subst P (sym h.1) p
 
 -- the lines at the end can be said
 pub may_end_there : (w : World) → (r : IsRunning w) → MayEnd (length w.boot.machines) (state_of w)

@@ -12,7 +12,7 @@ ghost use Rattle.dm_run.specs.Coming.{Blames, Came, Ended, HasCome, IsAfter, IsD
 ghost use Rattle.dm_run.specs.Printed.{Lasts};
 ghost use Rattle.dm_run.specs.Running.{IsRunning};
 
-use crate::offer::{offer, offer_ends};
+use crate::offering::{offer, offer_ends};
 use crate::stop::Stop;
 use dm_outside::Sink;
 use dm_schedule::{Directive, Step};
@@ -73,7 +73,6 @@ fn run_directive<K: Sink>(
     requires world { IsWorld world.old }
     requires running { world.old.stopped ≡ false }
     requires due { IsDue world.old directive.now (K.told out.old) }
-    requires is_for { IsFor (length world.old.boot.machines) directive.now }
     requires groups { world.old.groups + 2 ^ 80 ≤ 2 ^ 126 }
     ensures came { (ds rest : List TheDirective) (before : Option (List ℕ)) →
         HasCome world.old.boot ds (all_of (directive.now ∷ rest)) before (K.told out.old) (state_of world.old) →

@@ -7,7 +7,7 @@ use dm_line::line::Line;
 use dm_text::back::{end_fits, line_fits};
 
 /// Those of lines of groups.
-pub(crate) fn lines_fit(lines: &[Line])
+pub fn lines_fit(lines: &[Line])
     ensures { All LineFits lines.now }
 {
     for line in lines {

@@ -6,8 +6,6 @@ mod keywords;
 mod lines;
 mod numbers;
 mod operands;
-#[cfg(test)]
-mod tests;
 
 ghost use Rattle.std.specs.Prelude.{◌++◌, IfErr, IfOk, OnOk, option_to_list, ◌≡◌};
 ghost use Rattle.dm_schedule.specs.declared.SchedNo.TheVariants as no;

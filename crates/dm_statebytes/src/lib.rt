@@ -125,6 +125,3 @@ pub fn unpack(bytes: &[u8], cap: u8) -> Result<Shell, CarryBad>
 {
     state_at(bytes, cap)
 }
-
-#[cfg(test)]
-mod tests;

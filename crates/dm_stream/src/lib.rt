@@ -4,8 +4,6 @@
 mod law;
 mod receiver;
 mod sender;
-#[cfg(test)]
-mod tests;
 
 pub use dm_memory::NoMemory;
 pub use law::{any_schedule, one_step, while_it_stands};

@@ -133,6 +133,3 @@ impl Switchboard {
         retarget_names(&mut self.names, about, at, moves)
     }
 }
-
-#[cfg(test)]
-mod tests;

@@ -37,6 +37,3 @@ pub enum Completed {
     /// The process has this reply in register 0, and the message stays.
     Refused(Reply),
 }
-
-#[cfg(test)]
-mod tests;

@@ -18,11 +18,11 @@ abbrev pub line_bytes : List (List ℕ) → List ℕ
 line_bytes [] = []
 line_bytes (w ∷ ws) = w ++ spaced ws
 
-spelled_bytes : (ws : List (List ℕ)) → spelled ws ≡ line_bytes ws ++ 10 ∷ []
+pub spelled_bytes : (ws : List (List ℕ)) → spelled ws ≡ line_bytes ws ++ 10 ∷ []
 spelled_bytes [] = refl
 spelled_bytes (w ∷ ws) = refl
 
-pieces_of_words : (w : List ℕ) (ws : List (List ℕ)) → AreWords (w ∷ ws) → pieces 32 (w ++ spaced ws) ≡ w ∷ ws
+pub pieces_of_words : (w : List ℕ) (ws : List (List ℕ)) → AreWords (w ∷ ws) → pieces 32 (w ++ spaced ws) ≡ w ∷ ws
 pieces_of_words w [] h = ap (λ t. pieces 32 t) (append-nil w) ∙ pieces-free 32 w (free-above 32 w h.0)
 pieces_of_words w (v ∷ vs) h = rw (pieces-next 32 w (v ++ spaced vs) (free-above 32 w h.0), pieces_of_words v vs h.1) refl
 
@@ -30,7 +30,7 @@ free_spaced : (ws : List (List ℕ)) → AreWords ws → free 10 (spaced ws) ≡
 free_spaced [] h = refl
 free_spaced (w ∷ ws) h = free-append 10 w (spaced ws) (free-above 10 w (above-le 10 32 w (omega arith) h.0)) (free_spaced ws h.1)
 
-free_bytes : (ws : List (List ℕ)) → AreWords ws → free 10 (line_bytes ws) ≡ true
+pub free_bytes : (ws : List (List ℕ)) → AreWords ws → free 10 (line_bytes ws) ≡ true
 free_bytes [] h = refl
 free_bytes (w ∷ ws) h = free-append 10 w (spaced ws) (free-above 10 w (above-le 10 32 w (omega arith) h.0)) (free_spaced ws h.1)
 
@@ -65,7 +65,7 @@ before_lines w l [] ls e f = absurd (cc)
 before_lines w l (p ∷ ps) ls e f = rw (e, f) refl
 
 -- words as a line, before a text
-pieces_of_line : (ws : List (List ℕ)) (t : List ℕ) → AreWords ws → pieces 10 (spelled ws ++ t) ≡ line_bytes ws ∷ pieces 10 t
+pub pieces_of_line : (ws : List (List ℕ)) (t : List ℕ) → AreWords ws → pieces 10 (spelled ws ++ t) ≡ line_bytes ws ∷ pieces 10 t
 pieces_of_line ws t h =
     ap (λ s. pieces 10 (s ++ t)) (spelled_bytes ws)
     ∙ ap (λ s. pieces 10 s) (append_assoc (line_bytes ws) (10 ∷ []) t)

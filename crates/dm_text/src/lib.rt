@@ -5,7 +5,5 @@ pub mod back;
 mod ends;
 mod labels;
 mod rows;
-#[cfg(test)]
-mod tests;
 pub mod text;
-mod word;
+pub mod word;

@@ -11,9 +11,9 @@ use dm_memory::NoMemory;
 use dm_message::MsgId;
 use itoa::Buffer;
 
-/// A word of a line.
+/// A word of a text.
 #[derive(Clone, Copy)]
-pub(crate) enum Word<'a> {
+pub enum Word<'a> {
     Name(&'static str),
     Byte(u8),
     Number(u32),
@@ -82,12 +82,11 @@ fn put_hex(into: &mut Vec<u8>, bytes: &[u8]) -> Result<(), NoMemory>
     Ok(())
 }
 
-/// Writes a word behind a space.
-fn put_word(into: &mut Vec<u8>, word: &Word) -> Result<(), NoMemory>
-    ensures ok { OnOk result (into.new.items ≡ into.old.items ++ codes " " ++ word_text word.now) }
+/// Writes a word.
+pub fn put_bare(into: &mut Vec<u8>, word: &Word) -> Result<(), NoMemory>
+    ensures ok { OnOk result (into.new.items ≡ into.old.items ++ word_text word.now) }
     ensures err { OnErr result (Keeps into.old.items into.new.items) }
 {
-    into.push(b' ')?;
     match *word {
         Word::Name(name) => {
             into.extend_from_slice(name.as_bytes())?;
@@ -100,6 +99,15 @@ fn put_word(into: &mut Vec<u8>, word: &Word) -> Result<(), NoMemory>
         Word::Message(id) => put_id(into, id),
         Word::Bytes(bytes) => put_hex(into, bytes),
     }
+}
+
+/// Writes a word behind a space.
+fn put_word(into: &mut Vec<u8>, word: &Word) -> Result<(), NoMemory>
+    ensures ok { OnOk result (into.new.items ≡ into.old.items ++ codes " " ++ word_text word.now) }
+    ensures err { OnErr result (Keeps into.old.items into.new.items) }
+{
+    into.push(b' ')?;
+    put_bare(into, word)
 }
 
 /// Writes words, each behind a space.

@@ -2,8 +2,6 @@
 #![tactic(auto)]
 
 mod packets;
-#[cfg(test)]
-mod tests;
 mod wire;
 
 pub use dm_memory::NoMemory;

@@ -5,11 +5,8 @@ use Rattle.dm_world.specs.Meets.{state_of}
 use Rattle.dm_world.specs.Next.{undelivered}
 use Rattle.dm_run.proofs.Comes.{comes_as}
 use Rattle.dm_run.proofs.Counted.{left_most}
-use Rattle.dm_run.proofs.Stepping.{blames_err, brings_on, came_err, falls_on, few_machines, may_on, none_on, not_no_rounds, one_group_more, stops_on}
+use Rattle.dm_run.proofs.Stepping.{blames_err, brings_on, came_err, falls_on, few_machines, may_on, none_on, one_group_more, stops_on}
 use Rattle.dm_run.proofs.directives.run_directive.Goals as goal
-
-pub new-cursor-requires : goal.new-cursor-requires
-new-cursor-requires g c = not_no_rounds (length c.args.world.now.boot.machines) c.args.directive.now c.requires.is_for
 
 pub steps-init : goal.steps-init
 steps-init g c =

@@ -16,3 +16,6 @@ returns-clause-ended g c =
     subst (λ (b : Boot). Ended {A = Unit {0}} b c.args.directives.now (g.K.Sink.told c.args.out.now) (g.K.Sink.told c.say_end.new.out) c.run_directives.new.world c.say_end.result) c.in_ok-run_directives.ensures.boot
     (c.say_end.ensures.ended c.args.directives.now (g.K.Sink.told c.args.out.now)
     (subst (λ (b : Boot). HasCome b c.args.directives.now (all_of []) (g.K.Sink.told c.args.out.now) (g.K.Sink.told c.run_directives.new.out) (state_of c.run_directives.new.world)) (sym c.in_ok-run_directives.ensures.boot) c.in_ok-run_directives.ensures.came))
+
+pub returns-clause-lasts : goal.returns-clause-lasts
+returns-clause-lasts g c = ended_lasts c.args.world.now.boot c.args.directives.now (g.K.Sink.told c.args.out.now) (g.K.Sink.told c.say_end.new.out) c.run_directives.new.world c.say_end.result (returns-clause-ended g c)

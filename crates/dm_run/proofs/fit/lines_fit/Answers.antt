@@ -8,7 +8,7 @@ use Rattle.dm_run.proofs.fit.lines_fit.Goals as goal
 pub loop-line-preserved : goal.loop-line-preserved
 loop-line-preserved c =
     let h : c.loop-line.line-index < length c.args.lines.now = omega arith in
-    All-more LineFits c.args.lines.now c.loop-line.line-index c.line-item.result h c.loop-line.invariant (subst LineFits c.line-item.is c.line_fits.ensures)
+    All-more LineFits c.args.lines.now c.loop-line.line-index _ h c.loop-line.invariant c.line_fits.ensures
 
 pub returns : goal.returns
 returns c =

@@ -4,7 +4,7 @@ use Rattle.dm_line.specs.declared.line.Line.{Line}
 use Rattle.dm_drill.specs.Counts.{one_more, shown, with_lines}
 use Rattle.dm_drill.specs.Totals.{Totals}
 use Rattle.dm_drill.specs.declared.counts.Counted.{Counted}
-use Rattle.dm_drill.proofs.Drawing.{lines_none, lines_more}
+use Rattle.dm_drill.proofs.Counting.{lines_none, lines_more}
 use Rattle.dm_drill.proofs.counts.Counts.add_lines.Goals as goal
 
 pub loop-line-init : goal.loop-line-init

@@ -1,0 +1,12 @@
+use Rattle.std.proofs.Common.{rules, subst, sym}
+use Rattle.dm_onekernel.specs.Boot.{IsValid}
+use Rattle.dm_draw.specs.Boot.{boot_of}
+use Rattle.dm_draw.proofs.Valid.{boot_valid}
+use Rattle.dm_draw.proofs.boot.drill_boot.Goals as goal
+
+pub returns-clause-boot : goal.returns-clause-boot
+unfolding boot_of
+returns-clause-boot c = search rules
+
+pub returns-clause-valid : goal.returns-clause-valid
+returns-clause-valid c = subst IsValid (sym (returns-clause-boot c)) (boot_valid c.args.machines c.requires.0 c.requires.1)

@@ -1,0 +1,22 @@
+use Rattle.std.proofs.Common.{◌≡◌, ◌++◌, ◌∷◌, [], sym, ap, ◌∙◌}
+use Rattle.dm_schedule.specs.declared.Directive.{Directive}
+use Rattle.dm_draw.specs.Directives.{directive_drawn, directives_drawn, state_behind}
+use Rattle.dm_draw.proofs.Drawing.{drawn_none, state_none, drawn_more, state_more}
+use Rattle.dm_draw.proofs.directives.drill_directives.Goals as goal
+
+pub loop-init : goal.loop-init
+loop-init c = record {
+  drawn = c.new-directives.ensures.items ∙ sym (drawn_none c.args.machines c.args.seed);
+  state = c.new-generator.ensures ∙ sym (state_none c.args.machines c.args.seed);
+}
+
+pub loop-preserved : goal.loop-preserved
+loop-preserved c =
+    let m = c.args.machines in
+    let x = c.args.seed in
+    let n = c.loop.counter in
+    let said : c.draw_directive.result ≡ (directive_drawn m (state_behind m x n)).directive = c.draw_directive.ensures.directive ∙ ap (λ s. (directive_drawn m s).directive) c.loop.invariant.state in
+    record {
+      drawn = c.in_ok-push.ensures.items ∙ (ap (λ ds. ds ++ c.draw_directive.result ∷ []) c.loop.invariant.drawn ∙ (ap (λ (d : Directive). directives_drawn m x n ++ d ∷ []) said ∙ sym (drawn_more m x n)));
+      state = c.draw_directive.ensures.state ∙ (ap (λ s. (directive_drawn m s).state) c.loop.invariant.state ∙ sym (state_more m x n));
+    }

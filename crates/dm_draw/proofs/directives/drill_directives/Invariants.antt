@@ -1,0 +1,10 @@
+use Rattle.std.proofs.Common.{◌≡◌}
+use Rattle.dm_draw.specs.Directives.{directives_drawn, state_behind}
+use Rattle.dm_draw.proofs.directives.drill_directives.Given as goal
+
+abbrev pub invariant-loop : goal.invariant-loop
+invariant-loop l =
+    record {
+      drawn : l.directives.items ≡ directives_drawn l.machines l.seed l.counter;
+      state : l.generator.state ≡ state_behind l.machines l.seed l.counter;
+    }

@@ -1,0 +1,6 @@
+//! A system and a schedule drawn from a number.
+#![tactic(auto)]
+
+pub mod boot;
+pub mod directives;
+pub mod draw;

@@ -1,6 +1,0 @@
-use Rattle.std.proofs.Common.{◌≡◌}
-use Rattle.dm_drill.specs.Boot.{machines_of}
-use Rattle.dm_drill.proofs.boot.machines_of.Given as goal
-
-abbrev pub invariant-loop : goal.invariant-loop
-invariant-loop l = l.items ≡ machines_of l.counter

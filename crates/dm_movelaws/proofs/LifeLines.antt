@@ -1,0 +1,269 @@
+-- The end lines say of each process once whether it lives.
+use Rattle.std.proofs.Common.{◌≡◌, ◌≢◌, ◌⊎◌, ℕ, zero, suc, ◌+◌, ◌<◌, ◌≤◌, ◌==◌, ◌||◌, Bool, true, false, is_some, nat_le, List, [], ◌∷◌, ◌++◌, length, refl, ap, ◌∙◌, sym, subst, inl, inr, arith}
+use Rattle.std.specs.Prelude.{◌*◌, ◌/◌, if◌then◌else◌, take, drop}
+use Rattle.std.specs.declared.option.Option.{Option}
+use Rattle.std.specs.declared.option.Option.TheVariants.{None, Some}
+use Rattle.std.proofs.lemmas.Bool.{cases_Bool}
+use Rattle.std.proofs.lemmas.Bool.Decides.{nat_tests}
+use Rattle.std.proofs.lemmas.List.{append-nil}
+use Rattle.std.proofs.lemmas.List.Elements.{filter-append}
+use Rattle.dm_link.specs.declared.Pid.{Pid}
+use Rattle.dm_link.specs.Names.{pid_of, pid_eq}
+use Rattle.dm_link.specs.Plain.{PlainLink}
+use Rattle.dm_message.specs.declared.MsgId.{MsgId}
+use Rattle.dm_onekernel.specs.declared.boot.Boot.{Boot}
+use Rattle.dm_onekernel.specs.Boot.{first_number, switchboard, manager}
+use Rattle.dm_onekernel.specs.PlainProcess.{PlainProcess}
+use Rattle.dm_onekernel.specs.Kernel.{Life, Alive, NamedLink, Pending}
+use Rattle.dm_onekernel.specs.Kernel as kernel
+use Rattle.dm_laws.proofs.Equal.{pid_eq-is, pid_eq-same}
+use Rattle.dm_line.specs.declared.end_line.EndLine.{EndLine}
+use Rattle.dm_line.specs.declared.end_line.EndLine.TheVariants as end
+use Rattle.dm_line.specs.Ends.{trimmed, block_line, memory_lines, home_with, each_machine, list_line}
+use Rattle.dm_rule.specs.Addresses.{Addresses}
+use Rattle.dm_rule.specs.Ends.{Stood, has, first_with, stood, doing_of, slot_line, link_lines, state_lines, alive_lines, process_lines, homes_with, each_process, name_lines, child_lines, pending_lines, queue_at, queue_lines, holding_lines, inbox_lines, stream_lines, server_lines, end_lines}
+use Rattle.dm_rule.specs.Point.{Point}
+use Rattle.dm_rule.specs.Spots.{untaken}
+use Rattle.dm_rule.specs.View.{View}
+use Rattle.dm_rulelaws.specs.Fits.{is_server}
+use Rattle.dm_rulelaws.proofs.Runs.{Run}
+use Rattle.dm_rulelaws.proofs.RunsAlways.{run_always}
+use Rattle.dm_movelaws.specs.LifeLines.{tells_life, life_lines, IsSaid, LivesAreSaid}
+use Rattle.dm_movelaws.proofs.LifePlaces.{alive_placed}
+
+-- lines that say of no process whether it lives
+abbrev Mute : Pid → List EndLine → Type 0
+Mute p ls = life_lines p ls ≡ []
+
+both : (p : Pid) (xs ys : List EndLine) → life_lines p (xs ++ ys) ≡ life_lines p xs ++ life_lines p ys
+both p xs ys = filter-append (tells_life p) xs ys
+
+mute_both : (p : Pid) (xs ys : List EndLine) → Mute p xs → Mute p ys → Mute p (xs ++ ys)
+mute_both p xs ys h k = both p xs ys ∙ ap (λ (ls : List EndLine). ls ++ life_lines p ys) h ∙ k
+
+-- all lines of many processes or machines
+mute_home : (p : Pid) (f : Pid → List EndLine) (home n : ℕ) → ((q : Pid) → Mute p (f q)) → Mute p (home_with f home n)
+mute_home p f home zero h = refl
+mute_home p f home (suc n) h = mute_both p (home_with f home n) (f (pid_of home (first_number + n))) (mute_home p f home n h) (h (pid_of home (first_number + n)))
+
+mute_homes : (p : Pid) (pt : Point) (f : Pid → List EndLine) (n : ℕ) → ((q : Pid) → Mute p (f q)) → Mute p (homes_with pt f n)
+mute_homes p pt f zero h = refl
+mute_homes p pt f (suc home) h = mute_both p (homes_with pt f home) (home_with f home (pt.kernel.made home)) (mute_homes p pt f home h) (mute_home p f home (pt.kernel.made home) h)
+
+mute_machines : (p : Pid) (f : ℕ → List EndLine) (n : ℕ) → ((m : ℕ) → Mute p (f m)) → Mute p (each_machine f n)
+mute_machines p f zero h = refl
+mute_machines p f (suc m) h = mute_both p (each_machine f m) (f m) (mute_machines p f m h) (h m)
+
+-- all but the lines of processes
+mute_list : (p : Pid) (f : List MsgId → EndLine) (ids : List MsgId) → ((is : List MsgId) → tells_life p (f is) ≡ false) → Mute p (list_line f ids)
+mute_list p f [] h = refl
+mute_list p f (i ∷ is) h = ap (λ (c : Bool). if c then f (i ∷ is) ∷ [] else []) (h (i ∷ is))
+
+mute_names : (p : Pid) (a : Addresses) (n : ℕ) (ks : List NamedLink) → Mute p (name_lines a n ks)
+mute_names p a n [] = refl
+mute_names p a n (k ∷ ks) = mute_names p a (n + 1) ks
+
+mute_children : (p : Pid) (a : Addresses) (n : ℕ) (qs : List Pid) → Mute p (child_lines a n qs)
+mute_children p a n [] = refl
+mute_children p a n (q ∷ qs) = mute_children p a (n + 1) qs
+
+mute_pending : (p : Pid) (rs : List Pending) → Mute p (pending_lines rs)
+mute_pending p [] = refl
+mute_pending p (r ∷ rs) = mute_pending p rs
+
+mute_servers : (p : Pid) (pt : Point) → Mute p (server_lines pt)
+mute_servers p pt =
+    let s = pt.kernel in
+    let names = end.Server switchboard s.switchboard.sent ∷ end.Server manager s.manager.sent ∷ name_lines pt.addresses 0 s.switchboard.names in
+    let children = child_lines pt.addresses 1 s.manager.children in
+    let pending = pending_lines s.manager.pending in
+    mute_both p (names ++ children) pending (mute_both p names children (mute_names p pt.addresses 0 s.switchboard.names) (mute_children p pt.addresses 1 s.manager.children)) (mute_pending p s.manager.pending)
+
+mute_queue : (p : Pid) (v : View) (q : Pid) (o : Option Stood) → Mute p (queue_at v q o)
+mute_queue p v q None = refl
+mute_queue p v q (Some s) = mute_list p (end.Queue q) (v.queue s.at q) (λ is. refl)
+
+mute_queues : (p : Pid) (pt : Point) → Mute p (queue_lines pt)
+mute_queues p pt =
+    let n = pt.kernel.machines in
+    mute_homes p pt (λ q. queue_at pt.view q (first_with has pt.view q n)) n (λ q. mute_queue p pt.view q (first_with has pt.view q n))
+
+mute_holding : (p : Pid) (pt : Point) → Mute p (holding_lines pt)
+mute_holding p pt =
+    let n = pt.kernel.machines in
+    mute_machines p (λ m. each_process pt (λ q. list_line (end.Holding m q) (pt.view.held m q))) n
+    (λ m. mute_homes p pt (λ q. list_line (end.Holding m q) (pt.view.held m q)) n (λ q. mute_list p (end.Holding m q) (pt.view.held m q) (λ is. refl)))
+
+mute_inboxes : (p : Pid) (pt : Point) → Mute p (inbox_lines pt)
+mute_inboxes p pt = mute_machines p (λ m. list_line (end.Inbox m) (pt.view.inbox m)) pt.kernel.machines (λ m. mute_list p (end.Inbox m) (pt.view.inbox m) (λ is. refl))
+
+mute_streams : (p : Pid) (pt : Point) → Mute p (stream_lines pt)
+mute_streams p pt =
+    let n = pt.kernel.machines in
+    mute_machines p (λ a. each_machine (λ c. list_line (end.Stream a c) (untaken (pt.view.pair a c))) n) n
+    (λ a. mute_machines p (λ c. list_line (end.Stream a c) (untaken (pt.view.pair a c))) n (λ c. mute_list p (end.Stream a c) (untaken (pt.view.pair a c)) (λ is. refl)))
+
+-- the lines of a process, but for the first
+mute_block : (p q : Pid) (k : ℕ) (bytes : List ℕ) → Mute p (block_line q k bytes)
+mute_block p q k [] = refl
+mute_block p q k (x ∷ xs) = refl
+
+mute_memory : (p q : Pid) (bytes : List ℕ) (k : ℕ) → Mute p (memory_lines q bytes k)
+mute_memory p q bytes zero = refl
+mute_memory p q bytes (suc k) =
+    let block = trimmed (take 256 (drop (256 * k) bytes)) in
+    mute_both p (memory_lines q bytes k) (block_line q k block) (mute_memory p q bytes k) (mute_block p q k block)
+
+mute_slot : (p : Pid) (a : Addresses) (q : Pid) (k : ℕ) (o : Option PlainLink) → Mute p (slot_line a q k o)
+mute_slot p a q k None = refl
+mute_slot p a q k (Some l) = refl
+
+mute_links : (p : Pid) (a : Addresses) (q : Pid) (k : ℕ) (ls : List (Option PlainLink)) → Mute p (link_lines a q k ls)
+mute_links p a q k [] = refl
+mute_links p a q k (l ∷ ls) = mute_both p (slot_line a q k l) (link_lines a q (k + 1) ls) (mute_slot p a q k l) (mute_links p a q (k + 1) ls)
+
+mute_state : (p : Pid) (a : Addresses) (q : Pid) (x : PlainProcess) → Mute p (state_lines a q x)
+mute_state p a q x =
+    let memory = memory_lines q x.memory (length x.memory / 256) in
+    mute_both p (end.Registers q x.regs.r x.regs.pc ∷ memory) (link_lines a q 0 x.links) (mute_memory p q x.memory (length x.memory / 256)) (mute_links p a q 0 x.links)
+
+-- another process's lines say nothing of this one
+other_alive : (p : Pid) (a : Addresses) (q : Pid) (x : PlainProcess) (o : Option Stood) → pid_eq p q ≡ false → Mute p (alive_lines a q x o)
+other_alive p a q x None off = refl
+other_alive p a q x (Some s) off =
+    let l = end.Process q s.at s.standing (doing_of x.status) x.stopped x.sent in
+    ap (λ (c : Bool). if c then l ∷ life_lines p (state_lines a q x) else life_lines p (state_lines a q x)) off ∙ mute_state p a q x
+
+other_life : (p : Pid) (pt : Point) (q : Pid) (l : Option Life) → pid_eq p q ≡ false → Mute p (process_lines pt q l)
+other_life p pt q None off = refl
+other_life p pt q (Some (Alive x)) off = other_alive p pt.addresses q x (stood pt.view q pt.kernel.machines) off
+other_life p pt q (Some (kernel.Ended because)) off = ap (λ (c : Bool). if c then end.Ended q because ∷ [] else []) off
+
+-- this process's own lines
+own_life : (b : Boot) (pt : Point) (p : Pid) (l : Option Life) → Run b pt → pt.kernel.processes p ≡ l → IsSaid pt p l (life_lines p (process_lines pt p l))
+own_life b pt p None run is = refl
+own_life b pt p (Some (kernel.Ended because)) run is = ap (λ (c : Bool). if c then end.Ended p because ∷ [] else []) (pid_eq-same p)
+own_life b pt p (Some (Alive x)) run is =
+    let at = alive_placed b pt p x run is in
+    let l = end.Process p at.at.at at.at.standing (doing_of x.status) x.stopped x.sent in
+    let rest = state_lines pt.addresses p x in
+    let said : life_lines p (alive_lines pt.addresses p x (stood pt.view p pt.kernel.machines)) ≡ l ∷ [] =
+    ap (λ (o : Option Stood). life_lines p (alive_lines pt.addresses p x o)) at.is ∙ ap (λ (c : Bool). if c then l ∷ life_lines p rest else life_lines p rest) (pid_eq-same p)
+    ∙ ap (λ (ls : List EndLine). l ∷ ls) (mute_state p pt.addresses p x) in
+    (at.at, at.place, said)
+
+-- a process among those of a home, and of all homes
+not_same : (p q : Pid) → (p ≡ q → ⊥) → pid_eq p q ≡ false
+not_same p q h = elim (cases_Bool (pid_eq p q)) [
+  | inl same ↦ absurd (h (pid_eq-is p q same))
+  | inr off ↦ off
+]
+
+abbrev Others : Pid → (Pid → List EndLine) → Type 0
+Others p f = (q : Pid) → pid_eq p q ≡ false → Mute p (f q)
+
+one_last : (p : Pid) (xs ys ls : List EndLine) → Mute p xs → life_lines p ys ≡ ls → life_lines p (xs ++ ys) ≡ ls
+one_last p xs ys ls h k = both p xs ys ∙ ap (λ (zs : List EndLine). zs ++ life_lines p ys) h ∙ k
+
+one_first : (p : Pid) (xs ys ls : List EndLine) → life_lines p xs ≡ ls → Mute p ys → life_lines p (xs ++ ys) ≡ ls
+one_first p xs ys ls h k = both p xs ys ∙ ap (λ (zs : List EndLine). life_lines p xs ++ zs) k ∙ append-nil (life_lines p xs) ∙ h
+
+-- past the last of a home, and in another home, it isn't
+past_home : (p : Pid) (f : Pid → List EndLine) (home n : ℕ) → Others p f → (p.home ≢ home) ⊎ (first_number + n ≤ p.num) → Mute p (home_with f home n)
+past_home p f home zero others off = refl
+past_home p f home (suc n) others off =
+    let q = pid_of home (first_number + n) in
+    let apart : pid_eq p q ≡ false = not_same p q (λ e. elim off [
+      | inl home_off ↦ home_off (ap (λ (x : Pid). x.home) e)
+      | inr past ↦ (let num : p.num ≡ first_number + n = ap (λ (x : Pid). x.num) e in omega (arith, num, past))
+    ]) in
+    let before : (p.home ≢ home) ⊎ (first_number + n ≤ p.num) = elim off [
+      | inl home_off ↦ inl home_off
+      | inr past ↦ inr (omega (arith, past))
+    ] in
+    mute_both p (home_with f home n) (f q) (past_home p f home n others before) (others q apart)
+
+among_home : (p : Pid) (f : Pid → List EndLine) (n : ℕ) → Others p f → first_number ≤ p.num → p.num < first_number + n → life_lines p (home_with f p.home n) ≡ life_lines p (f p)
+among_home p f zero others least most = absurd (omega (arith, least, most))
+among_home p f (suc n) others least most =
+    let q = pid_of p.home (first_number + n) in
+    elim (cases_Bool (p.num == first_number + n)) [
+      | inl here ↦
+          let num : p.num ≡ first_number + n = grind (arith, nat_tests) in
+          let is : q ≡ p = λ i. record { home = p.home; num = sym num i } in
+          one_last p (home_with f p.home n) (f q) (life_lines p (f p)) (past_home p f p.home n others (inr (omega (arith, num)))) (ap (λ (x : Pid). life_lines p (f x)) is)
+      | inr off ↦
+          let less : p.num < first_number + n = grind (arith, nat_tests) in
+          let apart : pid_eq p q ≡ false = not_same p q (λ e. let num : p.num ≡ first_number + n = ap (λ (x : Pid). x.num) e in omega (arith, num, less)) in
+          one_first p (home_with f p.home n) (f q) (life_lines p (f p)) (among_home p f n others least less) (others q apart)
+    ]
+
+past_homes : (p : Pid) (pt : Point) (f : Pid → List EndLine) (n : ℕ) → Others p f → n ≤ p.home → Mute p (homes_with pt f n)
+past_homes p pt f zero others past = refl
+past_homes p pt f (suc home) others past =
+    mute_both p (homes_with pt f home) (home_with f home (pt.kernel.made home)) (past_homes p pt f home others (omega (arith, past))) (past_home p f home (pt.kernel.made home) others (inl (λ e. omega (arith, e, past))))
+
+among_homes : (p : Pid) (pt : Point) (f : Pid → List EndLine) (n : ℕ) → Others p f → p.home < n → first_number ≤ p.num → p.num < first_number + pt.kernel.made p.home → life_lines p (homes_with pt f n) ≡ life_lines p (f p)
+among_homes p pt f zero others home least most = absurd (omega (arith, home))
+among_homes p pt f (suc n) others home least most = elim (cases_Bool (p.home == n)) [
+  | inl here ↦
+      let is : p.home ≡ n = grind (arith, nat_tests) in
+      one_last p (homes_with pt f n) (home_with f n (pt.kernel.made n)) (life_lines p (f p)) (past_homes p pt f n others (omega (arith, is)))
+      (ap (λ (x : ℕ). life_lines p (home_with f x (pt.kernel.made x))) (sym is) ∙ among_home p f (pt.kernel.made p.home) others least most)
+  | inr off ↦
+      let less : p.home < n = grind (arith, nat_tests) in
+      let apart : p.home ≢ n = λ e. omega (arith, e, less) in
+      one_first p (homes_with pt f n) (home_with f n (pt.kernel.made n)) (life_lines p (f p)) (among_homes p pt f n others less least most) (past_home p f n (pt.kernel.made n) others (inl apart))
+]
+
+-- all lines at the end
+abbrev of_processes : Point → Pid → List EndLine
+of_processes pt q = process_lines pt q (pt.kernel.processes q)
+
+end_by : (p : Pid) (pt : Point) (ls : List EndLine) → life_lines p (each_process pt (of_processes pt)) ≡ ls → life_lines p (end_lines pt) ≡ ls
+end_by p pt ls h =
+    let lives = end.Final ∷ each_process pt (of_processes pt) in
+    let servers = lives ++ server_lines pt in
+    let queues = servers ++ queue_lines pt in
+    let holding = queues ++ holding_lines pt in
+    let inboxes = holding ++ inbox_lines pt in
+    let streams = inboxes ++ stream_lines pt in
+    one_first p streams (end.Groups pt.view.groups ∷ []) ls
+    (one_first p inboxes (stream_lines pt) ls
+    (one_first p holding (inbox_lines pt) ls
+    (one_first p queues (holding_lines pt) ls
+    (one_first p servers (queue_lines pt) ls (one_first p lives (server_lines pt) ls h (mute_servers p pt)) (mute_queues p pt)) (mute_holding p pt)) (mute_inboxes p pt)) (mute_streams p pt)) refl
+
+-- a process that was made is among those of its home
+made_among : (b : Boot) (pt : Point) (p : Pid) → Run b pt → is_some (pt.kernel.processes p) ≡ true → life_lines p (each_process pt (of_processes pt)) ≡ life_lines p (of_processes pt p)
+made_among b pt p run made =
+    let sane = run.based.phased.sane in
+    let least = sane.sound.made.least p made in
+    let most = sane.sound.made.most p made in
+    let server : is_server p ≡ false = no_server p least in
+    let home = run.found.known_within p.home p (run.based.known.home p server made) in
+    among_homes p pt (of_processes pt) pt.kernel.machines (λ q off. other_life p pt q (pt.kernel.processes q) off) home (grind (arith, nat_tests)) (grind (arith, nat_tests))
+  where
+    no_server : (q : Pid) → nat_le 3 q.num ≡ true → is_server q ≡ false
+    no_server q e =
+        let a : pid_eq q switchboard ≡ false = grind (arith, nat_tests) in
+        let c : pid_eq q manager ≡ false = grind (arith, nat_tests) in
+        ap (λ (x : Bool). x || pid_eq q manager) a ∙ c
+
+never_made : (p : Pid) (pt : Point) (n : ℕ) → pt.kernel.processes p ≡ None → Mute p (homes_with pt (of_processes pt) n)
+never_made p pt n none = mute_homes p pt (of_processes pt) n (λ q. by q (pid_eq p q) refl)
+  where
+    by : (q : Pid) (c : Bool) → pid_eq p q ≡ c → Mute p (of_processes pt q)
+    by q false off = other_life p pt q (pt.kernel.processes q) off
+    by q true same = ap (λ (l : Option Life). life_lines p (process_lines pt q l)) (ap pt.kernel.processes (sym (pid_eq-is p q same)) ∙ none)
+
+said_by : (b : Boot) (pt : Point) (p : Pid) (l : Option Life) → Run b pt → pt.kernel.processes p ≡ l → IsSaid pt p l (life_lines p (end_lines pt))
+said_by b pt p None run is = end_by p pt [] (never_made p pt pt.kernel.machines is)
+said_by b pt p (Some life) run is =
+    let all : life_lines p (end_lines pt) ≡ life_lines p (process_lines pt p (Some life)) =
+    end_by p pt (life_lines p (process_lines pt p (Some life))) (made_among b pt p run (ap is_some is) ∙ ap (λ (l : Option Life). life_lines p (process_lines pt p l)) is) in
+    subst (IsSaid pt p (Some life)) (sym all) (own_life b pt p (Some life) run is)
+
+-- wherever the rule leads
+pub lives_are_said : LivesAreSaid
+lives_are_said b es pt p valid leads = said_by b pt p (pt.kernel.processes p) (run_always b es pt valid leads).run refl

@@ -1,0 +1,31 @@
+-- Each message of a migration that stands anywhere is the one that is under way of a process that moves.
+use Rattle.std.proofs.Common.{◌≡◌, ℕ, ap, ◌∙◌, sym, subst}
+use Rattle.std.specs.declared.option.Option.TheVariants.{Some}
+use Rattle.dm_link.specs.declared.Pid.{Pid}
+use Rattle.dm_message.specs.declared.MsgId.{MsgId}
+use Rattle.dm_message.specs.declared.kind.MessageKind.{MessageKind}
+use Rattle.dm_rule.specs.Phases.{Moves, IsIn, told_between}
+use Rattle.dm_rule.specs.View.{View, Told}
+use Rattle.dm_rule.proofs.PhasesStand.{token_is}
+use Rattle.dm_rulelaws.proofs.RunsAlways.{run_always}
+use Rattle.dm_movelaws.specs.Protocol.{ProtocolMoves}
+
+-- what was told of the message says its kind
+kind_is : (v : View) (p : Pid) (i : MsgId) (t : Told) (k : MessageKind) (s d : ℕ) → v.told i ≡ Some t → IsIn v p (Moves k s d (Some i)) → k ≡ t.kind
+kind_is v p i t k s d told h =
+    let e : Some (told_between p k s d) ≡ Some t = sym h.token.told ∙ told in
+    let f : told_between p k s d ≡ t = cc in
+    ap (λ (u : Told). u.kind) f
+
+pub protocol_moves : ProtocolMoves
+protocol_moves b es pt i t z valid leads told between stands =
+    let phases = (run_always b es pt valid leads).run.based.phased.phases in
+    let (p, k, s, d, about, is) = token_is pt.view phases i t z told between stands in
+    let moves : IsIn pt.view p (Moves k s d (Some i)) = subst (IsIn pt.view p) is (phases.each p) in
+    record {
+      process = p;
+      about = about;
+      source = s;
+      destination = d;
+      moves = subst (λ (x : MessageKind). IsIn pt.view p (Moves x s d (Some i))) (kind_is pt.view p i t k s d told moves) moves;
+    }

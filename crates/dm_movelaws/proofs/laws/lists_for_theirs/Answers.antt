@@ -1,0 +1,5 @@
+use Rattle.dm_movelaws.proofs.ListsFor.{lists_for_theirs}
+use Rattle.dm_movelaws.proofs.laws.lists_for_theirs.Goals as goal
+
+pub returns : goal.returns
+returns c = lists_for_theirs

@@ -1,0 +1,5 @@
+use Rattle.dm_movelaws.proofs.RoutedAlways.{routed_always}
+use Rattle.dm_movelaws.proofs.laws.routed_always.Goals as goal
+
+pub returns : goal.returns
+returns c = routed_always

@@ -1,0 +1,26 @@
+-- Each message of a migration that stands anywhere is of a process that moves: the one message of its migration that is under way.
+use Rattle.std.specs.Prelude.{◌≡◌, ℕ, ◌≤◌, true, List}
+use Rattle.std.specs.declared.option.Option.TheVariants.{Some}
+use Rattle.dm_link.specs.declared.Pid.{Pid}
+use Rattle.dm_message.specs.declared.MsgId.{MsgId}
+use Rattle.dm_onekernel.specs.declared.boot.Boot.{Boot}
+use Rattle.dm_onekernel.specs.Boot.{IsValid}
+use Rattle.dm_schedule.specs.declared.Step.{Step}
+use Rattle.dm_rule.specs.Laws.{Leads}
+use Rattle.dm_rule.specs.Phases.{Moves, IsIn, is_between}
+use Rattle.dm_rule.specs.Point.{Point, first_point}
+use Rattle.dm_rule.specs.Spots.{Spot, standing}
+use Rattle.dm_rule.specs.View.{View, Told, Of}
+
+-- it is about a process that moves from a source to a destination, where just this message is under way
+pub record IsOfMove (v : View) (i : MsgId) (t : Told) : Type 0 where
+  pub process : Pid
+  pub about : t.about ≡ Of process
+  pub source : ℕ
+  pub destination : ℕ
+  pub moves : IsIn v process (Moves t.kind source destination (Some i))
+
+-- wherever the rule leads, of the kinds from ask to restart
+abbrev pub ProtocolMoves : Type 0
+ProtocolMoves =
+    (b : Boot) (es : List Step) (pt : Point) (i : MsgId) (t : Told) (z : Spot) → IsValid b → Leads b (first_point b) es pt → pt.view.told i ≡ Some t → is_between t.kind ≡ true → 1 ≤ standing pt.view i z → IsOfMove pt.view i t

@@ -1,0 +1,42 @@
+-- What the program promises where memory lacks before anything was done, or the words ask for nothing.
+use Rattle.std.proofs.Common.{◌≡◌, ◌⊎◌, inl, inr, ℕ, List, refl, ap, sym, subst, ◌∙◌}
+use Rattle.std.specs.declared.option.Option.{Option}
+use Rattle.std.specs.declared.option.Option.TheVariants.{None, Some}
+use Rattle.dm_memory.specs.declared.NoMemory.{NoMemory as TheNoMemory}
+use Rattle.dm_program.specs.declared.status.Input.{Input}
+use Rattle.dm_program.specs.declared.status.Status.{Status}
+use Rattle.dm_program.specs.declared.status.Status.TheVariants.{Done, Usage, ReadFault, NoMemory, Worn}
+use Rattle.dm_program.specs.declared.words.WordsNo.{WordsNo}
+use Rattle.dm_program.specs.declared.words.WordsNo.TheVariants as why
+use Rattle.dm_program.specs.Outside.{Outside}
+use Rattle.dm_program.specs.Program.{ProgramMeets}
+use Rattle.dm_program.specs.Request.{Request, Run}
+use Rattle.dm_program.specs.Status.{IsWant, status_of_no}
+
+-- nothing was done
+pub record Untouched (o : Outside) : Type 0 where
+  pub told : o.after ≡ o.before
+  pub reads : o.reads_after ≡ o.reads_before
+  pub writes : o.writes_after ≡ o.writes_before
+  pub no_world : o.world ≡ None
+
+-- want of memory, whatever the words ask for
+pub lacks_meets : {F : Type 0} (asked : F → List ℕ → F → Type 0) (faults : F → ℕ) (r : Option Request) (o : Outside) (shelf : F) (lack : TheNoMemory) → Untouched o → ((name : List ℕ) → asked shelf name shelf) → ProgramMeets asked faults r o shelf shelf (NoMemory lack)
+lacks_meets asked faults None o shelf lack h nothing = record { why = inr (lack, refl); unread = refl; nothing = h.told; unfailed = h.writes; no_world = h.no_world }
+lacks_meets asked faults (Some (Run boot schedule)) o shelf lack h nothing = record {
+  says = inr (record { why = tt; nothing = h.told; no_world = h.no_world });
+  completes = λ files b ds told accepts lasts never. inr (lack, refl);
+  wears = λ files b ds from to told accepts wears never. inr (lack, refl);
+  refuses = λ files due told why some quiet. inr (lack, refl);
+  asks = inl (nothing boot);
+  boot_fault = λ e. absurd cc;
+  schedule_fault = λ e. absurd cc;
+  shelf = h.reads;
+  sink = h.writes;
+}
+
+-- no words of a command
+pub no_request : {F : Type 0} (asked : F → List ℕ → F → Type 0) (faults : F → ℕ) (r : Option Request) (o : Outside) (shelf : F) (no : WordsNo) → Untouched o → ((name : List ℕ) → asked shelf name shelf) → (no ≡ why.Usage → r ≡ None) → ProgramMeets asked faults r o shelf shelf (status_of_no no)
+no_request asked faults r o shelf why.Usage h nothing usage =
+    subst (λ (x : Option Request). ProgramMeets asked faults x o shelf shelf Usage) (sym (usage refl)) (record { why = inl refl; unread = refl; nothing = h.told; unfailed = h.writes; no_world = h.no_world })
+no_request asked faults r o shelf (why.NoMemory lack) h nothing usage = lacks_meets asked faults r o shelf lack h nothing

@@ -1,0 +1,29 @@
+-- Whose read failed.
+use Rattle.std.proofs.Common.{◌≡◌, ℕ, List, subst, sym}
+use Rattle.std.proofs.lemmas.Bool.{false≢true}
+use Rattle.std.specs.Result.{IfErr, IsErr, IsErrAnd}
+use Rattle.std.specs.declared.result.Result.TheVariants.{Ok, Err}
+use Rattle.std.specs.declared.option.Option.{Option}
+use Rattle.std.specs.declared.result.Result.{Result}
+use Rattle.dm_program.specs.declared.status.Status.{Status}
+use Rattle.dm_program.specs.declared.status.Status.TheVariants as status
+use Rattle.dm_program.specs.declared.status.Input.TheVariants as input
+use Rattle.dm_program.specs.Asked.{AsksBoth, FailsSecond}
+use Rattle.dm_program.specs.Inputs.{NoDirectives}
+
+-- a read of the schedule failed, after the boot file's
+second_fails : {S : Type 0} (asked : S → List ℕ → S → Type 0) (faults : S → ℕ) (files told : Option (List ℕ → Option (List ℕ))) (boot schedule : List ℕ) (machines : ℕ) (old new : S) (a : AsksBoth asked files boot schedule old new) (s : Status)
+    → NoDirectives told schedule machines (faults a.between) (faults new) s → s ≡ status.ReadFault input.Schedule → FailsSecond asked faults files boot schedule old new
+second_fails asked faults files told boot schedule machines old new a s why is =
+    let rose : NoDirectives told schedule machines (faults a.between) (faults new) (status.ReadFault input.Schedule) = subst (λ x. NoDirectives told schedule machines (faults a.between) (faults new) x) is why in
+    (a, rose)
+
+-- what holds of the one error holds of the error there is
+if_err : {A E : Type 0} (r : Result A E) (e : E) (P : E → Type 0) → IsErr r × IsErrAnd r (λ y. y ≡ e) → P e → IfErr r P
+if_err (Ok x) e P h p = absurd (false≢true h.0)
+if_err (Err y) e P h p = subst P (sym h.1) p
+
+pub fault_told : {S A : Type 0} (asked : S → List ℕ → S → Type 0) (faults : S → ℕ) (files told : Option (List ℕ → Option (List ℕ))) (boot schedule : List ℕ) (machines : ℕ) (old new : S) (a : AsksBoth asked files boot schedule old new) (r : Result A Status) (e : Status)
+    → IsErr r × IsErrAnd r (λ y. y ≡ e) → NoDirectives told schedule machines (faults a.between) (faults new) e → IfErr r (λ s. s ≡ status.ReadFault input.Schedule → FailsSecond asked faults files boot schedule old new)
+fault_told asked faults files told boot schedule machines old new a r e is why =
+    if_err r e (λ s. s ≡ status.ReadFault input.Schedule → FailsSecond asked faults files boot schedule old new) is (λ f. second_fails asked faults files told boot schedule machines old new a e why f)

@@ -1,0 +1,17 @@
+use Rattle.std.proofs.Common.{rules, ◌≡◌, List, ℕ, map, refl, string_bytes, subst, sym}
+use Rattle.std.specs.declared.option.Option.TheVariants.{None}
+use Rattle.dm_program.specs.Outside.{around}
+use Rattle.dm_program.specs.Program.{ProgramMeets}
+use Rattle.dm_program.specs.Words.{request_of}
+use Rattle.dm_program.proofs.Lacking.{lacks_meets}
+use Rattle.dm_program.proofs.entry.run_given.Goals as goal
+
+pub returns-in-Ok-texts-clause-meets : goal.returns-in-Ok-texts-clause-meets
+returns-in-Ok-texts-clause-meets g c =
+    let e : map (λ w. w.now) c.as_slice-in-Ok-texts.result.now ≡ map string_bytes c.in-Ok.words.items = search rules in
+    rw c.in-Ok.is (subst (λ (w : List (List ℕ)). ProgramMeets g.F.Shelf.asked g.F.Shelf.faults (request_of w)
+    (around g.F.Shelf.told g.F.Shelf.faults g.K.Sink.told g.K.Sink.faults c.args.shelf.now c.run_program.new.shelf c.args.out.now c.run_program.new.out c.run_program.new.world) c.args.shelf.now c.run_program.new.shelf c.run_program.result) e c.run_program.ensures.meets)
+
+pub returns-in-Ok-Err-clause-meets : goal.returns-in-Ok-Err-clause-meets
+returns-in-Ok-Err-clause-meets g c =
+    rw c.in-Ok.is (lacks_meets g.F.Shelf.asked g.F.Shelf.faults (request_of (map string_bytes c.in-Ok.words.items)) _ c.args.shelf.now c.in-Ok-Err.no (record { told = refl; reads = refl; writes = refl; no_world = refl }) (g.F.Shelf.asks_nothing c.args.shelf.now))

@@ -1,0 +1,50 @@
+-- The words of the command line, as `clap` takes them, and what they ask for.
+use Rattle.std.specs.Prelude.{◌≡◌, ℕ, true, List, [], ◌∷◌, codes, option_and_then, if◌then◌else◌}
+use Rattle.std.specs.Str.{bytes_eq}
+use Rattle.std.specs.declared.option.Option.{Option}
+use Rattle.std.specs.declared.option.Option.TheVariants.{None, Some}
+use Rattle.clap.specs.Walk.{Row, is_empty}
+use Rattle.clap.specs.Simple.{App, Shape, new_shape, subcommand_of, with_subcommand}
+use Rattle.clap.specs.Faults.{fault_of}
+use Rattle.dm_program.specs.declared.words.Request.{Request as TheRequest}
+use Rattle.dm_program.specs.declared.words.Request.TheVariants as the
+use Rattle.dm_program.specs.Request.{Request, Run}
+use Rattle.dm_program.specs.RunWords.{run_command, run_request}
+
+-- a command: its name and its options, and what its matches ask for
+pub record Command : Type 0 where
+  pub shape : Shape
+  pub request : List Row → Option Request
+
+-- the commands of the program, a row each
+abbrev pub commands : List Command
+commands = record { shape = run_command; request = run_request } ∷ []
+
+abbrev pub with_commands : App → List Command → App
+with_commands a [] = a
+with_commands a (c ∷ cs) = with_commands (with_subcommand a c.shape) cs
+
+-- `demosmp COMMAND ..`, with no other word in place of a command
+abbrev pub demosmp : App
+demosmp = with_commands (record { top = record (new_shape (codes "demosmp")) { disable_help_subcommand = true; subcommand_required = true }; subs = [] }) commands
+
+-- what the matches of the command of this name ask for
+abbrev pub request_in : List Command → List ℕ → List Row → Option Request
+request_in [] name rows = None
+request_in (c ∷ cs) name rows = if bytes_eq name c.shape.name then c.request rows else request_in cs name rows
+
+-- the same of a name and its matches
+abbrev pub request_at : List ℕ × List Row → Option Request
+request_at found = request_in commands found.0 found.1
+
+-- the command takes the words: no step of their parse fails
+abbrev pub IsTaken : List (List ℕ) → Type 0
+IsTaken words = fault_of demosmp words ≡ []
+
+-- what the words ask for, where the command takes them
+abbrev pub request_of : List (List ℕ) → Option Request
+request_of words = if is_empty (fault_of demosmp words) then option_and_then request_at (subcommand_of demosmp words) else None
+
+-- a request of the code, by its names alone
+abbrev pub request_said : TheRequest → Request
+request_said (the.Run boot schedule) = Run boot.now schedule.now

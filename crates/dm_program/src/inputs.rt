@@ -1,0 +1,114 @@
+//! What the program reads before a run: the boot file and the schedule.
+ghost use Rattle.std.specs.Prelude.{◌≡◌, ◌≤◌, IfErr, IfOk, length};
+ghost use Rattle.std.specs.List.{All};
+ghost use Rattle.dm_onekernel.specs.Boot.{IsValid};
+ghost use Rattle.dm_program.specs.Asked.{AsksFiles, FailsAlone, FailsSecond};
+ghost use Rattle.dm_program.specs.Inputs.{AcceptsFiles, NoBoot, NoDirectives, NoFiles, SaysBoot, SaysDirectives};
+ghost use Rattle.dm_program.specs.Status.{BlamesShelf};
+ghost use Rattle.dm_run.specs.Coming.{IsFor};
+
+use crate::read::{ReadNo, read_file};
+use crate::status::{Input, Status};
+use dm_boot::{BootNo, read_boot};
+use dm_onekernel::Boot;
+use dm_outside::Shelf;
+use dm_schedule::{Directive, SchedNo, read_schedule};
+use std::alloc::Global;
+
+/// The most bytes of a boot file.
+const MOST_BOOT: u32 = 1_048_576;
+
+/// The most bytes of a schedule.
+const MOST_SCHEDULE: u32 = 16_777_216;
+
+/// What a run begins with.
+#[derive(Drop)]
+pub struct Inputs {
+    pub boot: Boot,
+    pub directives: Vec<Directive>,
+}
+
+/// What files of these names say, or why there is no run.
+pub fn read_files<F: Shelf>(
+    alloc: Global,
+    boot: &str,
+    schedule: &str,
+    shelf: &mut F,
+) -> Result<Inputs, Status>
+    ensures accepts { IfOk result (λ i. AcceptsFiles (F.told shelf.old) boot.now schedule.now i.boot i.directives.items) }
+    ensures valid { IfOk result (λ i. IsValid i.boot) }
+    ensures each { IfOk result (λ i. All (IsFor (length i.boot.machines)) i.directives.items) }
+    ensures few { IfOk result (λ i. length i.directives.items ≤ 16777216) }
+    ensures none { IfErr result (λ s. NoFiles (F.told shelf.old) boot.now schedule.now (F.faults shelf.old) (F.faults shelf.new) s) }
+    ensures same { F.told shelf.new ≡ F.told shelf.old }
+    ensures steady { IfOk result (λ _. F.faults shelf.new ≡ F.faults shelf.old) }
+    ensures blames { IfErr result (λ s. BlamesShelf (F.faults shelf.old) (F.faults shelf.new) s) }
+    ensures reads { F.faults shelf.old ≤ F.faults shelf.new }
+    ensures asks { AsksFiles F.asked (F.told shelf.old) boot.now schedule.now shelf.old shelf.new }
+    ensures boot_fault { IfErr result (λ s. s ≡ Status.ReadFault Input.Boot → FailsAlone F.asked F.faults boot.now shelf.old shelf.new) }
+    ensures schedule_fault { IfErr result (λ s. s ≡ Status.ReadFault Input.Schedule →
+        FailsSecond F.asked F.faults (F.told shelf.old) boot.now schedule.now shelf.old shelf.new) }
+{
+    let boot = read_system(alloc, boot, shelf)?;
+    let machines = boot.machines.len() as u8;
+    let directives = read_directives(alloc, schedule, machines, shelf)?;
+    Ok(Inputs { boot, directives })
+}
+
+/// The system that the boot file of this name says.
+fn read_system<F: Shelf>(alloc: Global, name: &str, shelf: &mut F) -> Result<Boot, Status>
+    ensures says { IfOk result (λ b. SaysBoot (F.told shelf.old) name.now b) }
+    ensures valid { IfOk result (λ b. IsValid b) }
+    ensures none { IfErr result (λ s. NoBoot (F.told shelf.old) name.now (F.faults shelf.old) (F.faults shelf.new) s) }
+    ensures same { F.told shelf.new ≡ F.told shelf.old }
+    ensures steady { IfOk result (λ _. F.faults shelf.new ≡ F.faults shelf.old) }
+    ensures blames { IfErr result (λ s. BlamesShelf (F.faults shelf.old) (F.faults shelf.new) s) }
+    ensures reads { F.faults shelf.old ≤ F.faults shelf.new }
+    ensures asks { F.asked shelf.old name.now shelf.new }
+{
+    match read_file(alloc, shelf, name, MOST_BOOT) {
+        Ok(bytes) => match read_boot(alloc, bytes.as_slice()) {
+            Ok(boot) => Ok(boot),
+            Err(BootNo::Refused { rule, place }) => Err(Status::BootRefused {
+                number: rule.number(),
+                place,
+            }),
+            Err(BootNo::NoMemory(no)) => Err(Status::NoMemory(no)),
+        },
+        Err(ReadNo::Fault) => Err(Status::ReadFault(Input::Boot)),
+        Err(ReadNo::NoMemory(no)) => Err(Status::NoMemory(no)),
+        Err(ReadNo::TooLong) => Err(Status::TooLong(Input::Boot)),
+    }
+}
+
+/// The directives that the schedule of this name says for so many machines.
+fn read_directives<F: Shelf>(
+    alloc: Global,
+    name: &str,
+    machines: u8,
+    shelf: &mut F,
+) -> Result<Vec<Directive>, Status>
+    ensures says { IfOk result (λ ds. SaysDirectives (F.told shelf.old) name.now machines ds.items) }
+    ensures each { IfOk result (λ ds. All (IsFor machines) ds.items) }
+    ensures few { IfOk result (λ ds. length ds.items ≤ 16777216) }
+    ensures none { IfErr result (λ s. NoDirectives (F.told shelf.old) name.now machines (F.faults shelf.old) (F.faults shelf.new) s) }
+    ensures same { F.told shelf.new ≡ F.told shelf.old }
+    ensures steady { IfOk result (λ _. F.faults shelf.new ≡ F.faults shelf.old) }
+    ensures blames { IfErr result (λ s. BlamesShelf (F.faults shelf.old) (F.faults shelf.new) s) }
+    ensures reads { F.faults shelf.old ≤ F.faults shelf.new }
+    ensures asks { F.asked shelf.old name.now shelf.new }
+{
+    match read_file(alloc, shelf, name, MOST_SCHEDULE) {
+        Ok(bytes) => match read_schedule(alloc, bytes.as_slice(), machines) {
+            Ok(directives) => Ok(directives),
+            Err(SchedNo::Refused { line, fault }) => Err(Status::ScheduleRefused {
+                line,
+                why: fault.number(),
+            }),
+            Err(SchedNo::NoMemory(no)) => Err(Status::NoMemory(no)),
+        },
+        Err(ReadNo::Fault) => Err(Status::ReadFault(Input::Schedule)),
+        Err(ReadNo::NoMemory(no)) => Err(Status::NoMemory(no)),
+        Err(ReadNo::TooLong) => Err(Status::TooLong(Input::Schedule)),
+    }
+}

@@ -1,0 +1,39 @@
+//! The program: what its words ask for is done.
+ghost use Rattle.std.specs.Prelude.{◌≡◌, ◌≤◌, map};
+ghost use Rattle.dm_program.specs.Outside.{around};
+ghost use Rattle.dm_program.specs.Program.{ProgramMeets};
+ghost use Rattle.dm_program.specs.Status.{BlamesShelf, BlamesSink};
+ghost use Rattle.dm_program.specs.Words.{IsTaken, request_of};
+
+use crate::commands::run::run_files;
+use crate::status::Status;
+use crate::words::{Request, request};
+use dm_outside::{Shelf, Sink};
+use dm_world::World;
+use std::alloc::Global;
+
+/// Does what the words ask for, a row a command. The world of a run is left in `world`, which is empty where there was none.
+pub fn run_program<F: Shelf, K: Sink>(
+    alloc: Global,
+    words: &[&str],
+    shelf: &mut F,
+    out: &mut K,
+    world: &mut Option<World>,
+) -> Status
+    ensures meets { ProgramMeets F.asked F.faults (request_of (map (λ w. w.now) words.now))
+        (around F.told F.faults K.told K.faults shelf.old shelf.new out.old out.new world.new) shelf.old shelf.new result }
+    ensures refused { result ≡ Status.Usage → IsTaken (map (λ w. w.now) words.now) → ⊥ }
+    ensures same { F.told shelf.new ≡ F.told shelf.old }
+    ensures shelf { BlamesShelf (F.faults shelf.old) (F.faults shelf.new) result }
+    ensures sink { BlamesSink (K.faults out.old) (K.faults out.new) result }
+    ensures reads { F.faults shelf.old ≤ F.faults shelf.new }
+    ensures writes { K.faults out.old ≤ K.faults out.new }
+{
+    *world = None;
+    match request(alloc, words) {
+        Ok(Request::Run { boot, schedule }) => {
+            run_files(alloc, boot, schedule, shelf, out, world)
+        }
+        Err(no) => no.status(),
+    }
+}

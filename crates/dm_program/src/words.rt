@@ -1,0 +1,129 @@
+//! The words of the command line, and what they ask for.
+ghost use Rattle.std.specs.Prelude.{◌≡◌, map, option_and_then, option_map, false, Some, None, IfOk, IfErr};
+ghost use Rattle.dm_memory.specs.declared.NoMemory.{NoMemory as TheNoMemory};
+ghost use Rattle.clap.specs.Words.{app_of, fields_of, found_of, kind_of, rows_of, rule_of, subcommand_rows_of};
+ghost use Rattle.dm_program.specs.Status.{status_of_no};
+ghost use Rattle.dm_program.specs.RunWords.{file_option, run_command as run_shape, run_request as run_asked};
+ghost use Rattle.dm_program.specs.Words.{IsTaken, demosmp, request_at, request_of, request_said};
+
+use crate::status::Status;
+use clap::error::ErrorKind;
+use clap::{Arg, ArgMatches, Command, Error};
+use dm_memory::NoMemory;
+use std::alloc::{AllocError, Global};
+
+/// Why the words ask for nothing.
+#[derive(Clone, Copy, Debug, PartialEq, Eq)]
+pub enum WordsNo {
+    /// The words aren't those of a command.
+    Usage,
+    /// No memory was left.
+    NoMemory(NoMemory),
+}
+
+impl WordsNo {
+    /// How the program ends then.
+    pub fn status(self) -> Status
+        ensures { result ≡ status_of_no self }
+    {
+        match self {
+            WordsNo::Usage => Status::Usage,
+            WordsNo::NoMemory(no) => Status::NoMemory(no),
+        }
+    }
+}
+
+/// What the words ask for, a row a command.
+#[derive(Clone, Copy)]
+pub enum Request<'a> {
+    /// To run the schedule of a file on the system of a boot file.
+    Run { boot: &'a str, schedule: &'a str },
+}
+
+/// What the words ask for, where they are those of a command.
+pub fn request<'a>(alloc: Global, words: &'a [&'a str]) -> Result<Request<'a>, WordsNo>
+    ensures asks { IfOk result (λ r. request_of (map (λ w. w.now) words.now) ≡ Some (request_said r)) }
+    ensures refused { IfErr result (λ e. e ≡ WordsNo.Usage → IsTaken (map (λ w. w.now) words.now) → ⊥) }
+    ensures usage { IfErr result (λ e. e ≡ WordsNo.Usage → request_of (map (λ w. w.now) words.now) ≡ None) }
+{
+    let command = match command(alloc) {
+        Ok(command) => command,
+        Err(failed) => return Err(WordsNo::NoMemory(NoMemory::from(failed))),
+    };
+    match command.try_get_matches_from(words) {
+        Ok(matches) => match request_in(&matches) {
+            Some(request) => Ok(request),
+            None => Err(WordsNo::Usage),
+        },
+        Err(error) => Err(why(&error)),
+    }
+}
+
+/// The command line of the program, a row a command.
+fn command<'a>(alloc: Global) -> Result<Command<'a>, AllocError>
+    ensures { IfOk result (λ c. app_of c ≡ demosmp) }
+{
+    Command::new(alloc, "demosmp")
+        .disable_help_subcommand(true)
+        .subcommand_required(true)
+        .subcommand(run_command(alloc)?)
+}
+
+/// The command `run`.
+fn run_command<'a>(alloc: Global) -> Result<Command<'a>, AllocError>
+    ensures shape { IfOk result (λ c. (app_of c).top ≡ run_shape) }
+    ensures local { IfOk result (λ c. (fields_of c).has_globals ≡ false) }
+{
+    Command::new(alloc, "run")
+        .arg(file(alloc, "boot"))?
+        .arg(file(alloc, "schedule"))
+}
+
+/// The option `--name FILE`, which has to be there.
+fn file<'a>(alloc: Global, name: &'a str) -> Arg<'a>
+    ensures rule { rule_of result ≡ file_option name.now }
+    ensures local { result.global ≡ false }
+{
+    Arg::new(alloc, name).long(name).required(true)
+}
+
+/// What the matches of the subcommand ask for.
+fn request_in<'a>(matches: &ArgMatches<'a>) -> Option<Request<'a>>
+    ensures { option_map request_said result ≡ option_and_then request_at (subcommand_rows_of matches.now) }
+{
+    match matches.subcommand() {
+        Some((name, found)) => request_of_command(name, found),
+        None => None,
+    }
+}
+
+/// What the matches of the command of this name ask for, a row a command.
+fn request_of_command<'a>(name: &str, found: &ArgMatches<'a>) -> Option<Request<'a>>
+    ensures { option_map request_said result ≡ request_at (name.now, rows_of (found_of found.now)) }
+{
+    if name == "run" {
+        return run_request(found);
+    }
+    None
+}
+
+/// The two files that the matches of `run` name.
+fn run_request<'a>(matches: &ArgMatches<'a>) -> Option<Request<'a>>
+    ensures { option_map request_said result ≡ run_asked (rows_of (found_of matches.now)) }
+{
+    let boot = matches.get_str("boot")?;
+    let schedule = matches.get_str("schedule")?;
+    Some(Request::Run { boot, schedule })
+}
+
+/// What an error of the parse comes to. The parse tells want of memory by a kind of its own, and hands no allocation's
+/// error on: only that kind is want of memory.
+fn why(error: &Error) -> WordsNo
+    ensures usage { result ≡ WordsNo.Usage → kind_of error.now ≡ ErrorKind.OutOfMemory → ⊥ }
+    ensures want { (lack : TheNoMemory) → result ≡ WordsNo.NoMemory lack → kind_of error.now ≡ ErrorKind.OutOfMemory }
+{
+    match error.kind() {
+        ErrorKind::OutOfMemory => WordsNo::NoMemory(NoMemory::from(AllocError)),
+        _ => WordsNo::Usage,
+    }
+}

@@ -1,0 +1,3 @@
+[[machine]]
+slots = 0
+blocks = 0

@@ -1,0 +1,18 @@
+numbers = 3
+[[machine]]
+slots = 1
+blocks = 1
+[[image]]
+name = "a"
+blocks = 1
+text = '''
+sys 6
+sys 6
+sys 6
+sys 6
+'''
+[[process]]
+name = "a"
+machine = 0
+image = "a"
+links = [{ to = 'a' }]

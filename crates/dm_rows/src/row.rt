@@ -1,0 +1,67 @@
+//! A row of the system's tables, and the run that shows it.
+
+use crate::run::Run;
+use anyhow::Result;
+use std::fs;
+
+/// A row, and where it is shown.
+#[derive(Clone, Copy, Debug)]
+pub struct Row<'a> {
+    pub name: &'a str,
+    /// The name of a run.
+    pub run: &'a str,
+    /// A line of its output with its number, counted from 1, before it; with number 0 the line on standard error.
+    pub line: &'a str,
+    /// Where the row is about a message, the same of its first put.
+    pub put: Option<&'a str>,
+}
+
+impl<'a> Row<'a> {
+    /// The row that a line of the table tells.
+    pub fn of_line(line: &'a str) -> Option<Row<'a>> {
+        let mut columns = line.split('\t');
+        Some(Row {
+            name: columns.next()?,
+            run: columns.next()?,
+            line: columns.next()?,
+            put: columns.next(),
+        })
+    }
+
+    /// The number of its line.
+    pub fn number(&self) -> &'a str {
+        match self.line.split_once(' ') {
+            Some((number, _)) => number,
+            None => "",
+        }
+    }
+
+    /// Whether its run is one of these, and says its lines.
+    pub fn is_shown(&self, rt: &HostRuntime, good: &[Run<'_>]) -> Result<bool> {
+        for run in good {
+            if run.name == self.run {
+                let output = fs::read_to_string(rt, run.output)?;
+                return Ok(
+                    says(run, &output, self.line)
+                        && self.put.is_none_or(|put| says(run, &output, put)),
+                );
+            }
+        }
+        Ok(false)
+    }
+}
+
+/// Whether a run of this output says a numbered line.
+fn says(run: &Run<'_>, output: &str, line: &str) -> bool {
+    match numbered(line) {
+        Some((0, text)) => run.line == text,
+        Some((number, text)) => output.lines().nth(number - 1) == Some(text),
+        None => false,
+    }
+}
+
+/// A line and the number before it.
+fn numbered(line: &str) -> Option<(usize, &str)> {
+    let (number, text) = line.split_once(' ')?;
+    Some((number.parse().ok()?, text))
+}

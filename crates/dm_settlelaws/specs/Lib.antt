@@ -1,4 +1,0 @@
-pub mod Left
-pub mod Rests
-pub mod Passes
-pub mod Laws

@@ -1,0 +1,10 @@
+pub mod Decimal
+pub mod PiecesAt
+pub mod NamesRead
+pub mod Fitting
+pub mod Listed
+pub mod WordsFit
+pub mod LinesFit
+pub mod EndsFit
+pub mod ShapeLaws
+mod Worked

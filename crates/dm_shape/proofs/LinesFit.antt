@@ -1,0 +1,56 @@
+-- Each line of a group has the shape of its row.
+use Rattle.std.proofs.Common.{◌≡◌, true, refl}
+use Rattle.dm_onekernel.specs.declared.label.Label.TheVariants as label
+use Rattle.dm_schedule.specs.declared.Step.TheVariants as step
+use Rattle.dm_line.specs.declared.line.Line.{Line}
+use Rattle.dm_line.specs.declared.line.Line.TheVariants as line
+use Rattle.dm_line.specs.declared.line.Load.TheVariants as load
+use Rattle.dm_text.specs.Fits.{LineFits}
+use Rattle.dm_text.specs.Text.{words}
+use Rattle.dm_shape.specs.declared.shape.Shape.TheVariants as shape
+use Rattle.dm_shape.specs.Shapes.{is_row, row_of}
+use Rattle.dm_shape.proofs.Listed.{has_row, listed}
+use Rattle.dm_shape.proofs.WordsFit.{machine_fits, number_fits, packet_fits, process_fits, message_fits, small_fits, short_fits, reply_fits, why_fits, kind_fits, stage_fits, six_fits, data_fits, ack_fits}
+
+pub line_has_row : (l : Line) → LineFits l → has_row (words l) ≡ true
+line_has_row (line.Head (step.Turn m)) h = listed (λ x. is_row (row_of x) (words (line.Head (step.Turn m)))) shape.Turn (rw (machine_fits m h) refl)
+line_has_row (line.Head (step.Tick m)) h = listed (λ x. is_row (row_of x) (words (line.Head (step.Tick m)))) shape.Tick (rw (machine_fits m h) refl)
+line_has_row (line.Head (step.Deliver a b k)) h = listed (λ x. is_row (row_of x) (words (line.Head (step.Deliver a b k)))) shape.Deliver (rw (machine_fits a h.0, machine_fits b h.1, packet_fits k h.2) refl)
+line_has_row (line.Head (step.Migrate p m)) h = listed (λ x. is_row (row_of x) (words (line.Head (step.Migrate p m)))) shape.Migrate (rw (process_fits p h.0, machine_fits m h.1) refl)
+line_has_row (line.Idle m) h = listed (λ x. is_row (row_of x) (words (line.Idle m))) shape.Idle (rw (machine_fits m h) refl)
+line_has_row (line.Label (label.Ran p k)) h = listed (λ x. is_row (row_of x) (words (line.Label (label.Ran p k)))) shape.Ran (rw (process_fits p h.0, number_fits k h.1) refl)
+line_has_row (line.Label (label.Call p n c)) h = listed (λ x. is_row (row_of x) (words (line.Label (label.Call p n c)))) shape.Call (rw (process_fits p h.0, small_fits n h.1, reply_fits c) refl)
+line_has_row (line.Label (label.Send p i)) h = listed (λ x. is_row (row_of x) (words (line.Label (label.Send p i)))) shape.Send (rw (process_fits p h.0, message_fits i h.1) refl)
+line_has_row (line.Label (label.Wait p)) h = listed (λ x. is_row (row_of x) (words (line.Label (label.Wait p)))) shape.Wait (rw (process_fits p h) refl)
+line_has_row (line.Label (label.Out p w)) h = listed (λ x. is_row (row_of x) (words (line.Label (label.Out p w)))) shape.Out (rw (process_fits p h.0, number_fits w h.1) refl)
+line_has_row (line.Label (label.End p y)) h = listed (λ x. is_row (row_of x) (words (line.Label (label.End p y)))) shape.End (rw (process_fits p h, why_fits y) refl)
+line_has_row (line.Label (label.Receive p i)) h = listed (λ x. is_row (row_of x) (words (line.Label (label.Receive p i)))) shape.Receive (rw (process_fits p h.0, message_fits i h.1) refl)
+line_has_row (line.Label (label.Refuse p i c)) h = listed (λ x. is_row (row_of x) (words (line.Label (label.Refuse p i c)))) shape.Refuse (rw (process_fits p h.0, message_fits i h.1, reply_fits c) refl)
+line_has_row (line.Label (label.Dropped i)) h = listed (λ x. is_row (row_of x) (words (line.Label (label.Dropped i)))) shape.Dropped (rw (message_fits i h) refl)
+line_has_row (line.Label (label.Served i)) h = listed (λ x. is_row (row_of x) (words (line.Label (label.Served i)))) shape.Served (rw (message_fits i h) refl)
+line_has_row (line.Label (label.Gone i)) h = listed (λ x. is_row (row_of x) (words (line.Label (label.Gone i)))) shape.Gone (rw (message_fits i h) refl)
+line_has_row (line.Label (label.Took i)) h = listed (λ x. is_row (row_of x) (words (line.Label (label.Took i)))) shape.Took (rw (message_fits i h) refl)
+line_has_row (line.Label (label.Created i p)) h = listed (λ x. is_row (row_of x) (words (line.Label (label.Created i p)))) shape.Created (rw (message_fits i h.0, process_fits p h.1) refl)
+line_has_row (line.Label (label.NoSpace i s b)) h = listed (λ x. is_row (row_of x) (words (line.Label (label.NoSpace i s b)))) shape.NoSpace (rw (message_fits i h.0, small_fits s h.1, short_fits b h.2) refl)
+line_has_row (line.Put a b i k q) h = listed (λ x. is_row (row_of x) (words (line.Put a b i k q))) shape.Put (rw (machine_fits a h.0, machine_fits b h.1, message_fits i h.2, kind_fits k, process_fits q h.3) refl)
+line_has_row (line.Packet a b k (load.Data n)) h = listed (λ x. is_row (row_of x) (words (line.Packet a b k (load.Data n)))) shape.Packet (rw (machine_fits a h.0, machine_fits b h.1, packet_fits k h.2, data_fits, number_fits n h.3) refl)
+line_has_row (line.Packet a b k (load.Ack n)) h = listed (λ x. is_row (row_of x) (words (line.Packet a b k (load.Ack n)))) shape.Packet (rw (machine_fits a h.0, machine_fits b h.1, packet_fits k h.2, ack_fits, number_fits n h.3) refl)
+line_has_row (line.Taken a b n) h = listed (λ x. is_row (row_of x) (words (line.Taken a b n))) shape.Taken (rw (machine_fits a h.0, machine_fits b h.1, number_fits n h.2) refl)
+line_has_row (line.Old a b n) h = listed (λ x. is_row (row_of x) (words (line.Old a b n))) shape.Old (rw (machine_fits a h.0, machine_fits b h.1, number_fits n h.2) refl)
+line_has_row (line.Early a b n) h = listed (λ x. is_row (row_of x) (words (line.Early a b n))) shape.Early (rw (machine_fits a h.0, machine_fits b h.1, number_fits n h.2) refl)
+line_has_row (line.Acked a b n) h = listed (λ x. is_row (row_of x) (words (line.Acked a b n))) shape.Acked (rw (machine_fits a h.0, machine_fits b h.1, number_fits n h.2) refl)
+line_has_row line.Nothing h = listed (λ x. is_row (row_of x) (words line.Nothing)) shape.Nothing (refl)
+line_has_row (line.Resent m n) h = listed (λ x. is_row (row_of x) (words (line.Resent m n))) shape.Resent (rw (machine_fits m h.0, number_fits n h.1) refl)
+line_has_row (line.Queued i) h = listed (λ x. is_row (row_of x) (words (line.Queued i))) shape.Queued (rw (message_fits i h) refl)
+line_has_row (line.Held i) h = listed (λ x. is_row (row_of x) (words (line.Held i))) shape.Held (rw (message_fits i h) refl)
+line_has_row (line.Forwarded i m) h = listed (λ x. is_row (row_of x) (words (line.Forwarded i m))) shape.Forwarded (rw (message_fits i h.0, machine_fits m h.1) refl)
+line_has_row (line.Updated i n) h = listed (λ x. is_row (row_of x) (words (line.Updated i n))) shape.Updated (rw (message_fits i h.0, number_fits n h.1) refl)
+line_has_row (line.Migration s p) h = listed (λ x. is_row (row_of x) (words (line.Migration s p))) shape.Stage (rw (stage_fits s, process_fits p h) refl)
+line_has_row (line.SentOn p n) h = listed (λ x. is_row (row_of x) (words (line.SentOn p n))) shape.SentOn (rw (six_fits, process_fits p h.0, number_fits n h.1) refl)
+line_has_row (line.Lacks p s b) h = listed (λ x. is_row (row_of x) (words (line.Lacks p s b))) shape.Lacks (rw (process_fits p h.0, small_fits s h.1, short_fits b h.2) refl)
+line_has_row (line.Stays p) h = listed (λ x. is_row (row_of x) (words (line.Stays p))) shape.Stays (rw (process_fits p h) refl)
+line_has_row (line.Here i) h = listed (λ x. is_row (row_of x) (words (line.Here i))) shape.Here (rw (message_fits i h) refl)
+line_has_row (line.NoMove i) h = listed (λ x. is_row (row_of x) (words (line.NoMove i))) shape.NoMove (rw (message_fits i h) refl)
+line_has_row (line.Proto i) h = listed (λ x. is_row (row_of x) (words (line.Proto i))) shape.Proto (rw (message_fits i h) refl)
+line_has_row (line.NoChild p) h = listed (λ x. is_row (row_of x) (words (line.NoChild p))) shape.NoChild (rw (process_fits p h) refl)
+line_has_row (line.Pinned p) h = listed (λ x. is_row (row_of x) (words (line.Pinned p))) shape.Pinned (rw (process_fits p h) refl)

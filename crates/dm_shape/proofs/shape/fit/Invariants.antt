@@ -1,0 +1,8 @@
+use Rattle.std.proofs.Common.{◌≡◌, drop}
+use Rattle.std.specs.Option.{option_map}
+use Rattle.dm_shape.specs.Pieces.{behind}
+use Rattle.dm_shape.specs.Shapes.{fit}
+use Rattle.dm_shape.proofs.shape.fit.Given as goal
+
+abbrev pub invariant-loop-sort : goal.invariant-loop-sort
+invariant-loop-sort l = fit (drop l.sort-index l.sorts) l.lists (behind 32 (option_map (λ t. t.now) l.rest)) ≡ fit l.sorts l.lists (behind 32 (option_map (λ t. t.now) l.initial.rest))

@@ -1,0 +1,32 @@
+-- What holds of the shapes of lines.
+use Rattle.std.specs.Prelude.{◌≡◌, ℕ, true, List, ◌++◌, codes}
+use Rattle.std.specs.declared.option.Option.TheVariants.{Some}
+use Rattle.dm_schedule.specs.declared.Step.{Step}
+use Rattle.dm_line.specs.declared.line.Line.{Line}
+use Rattle.dm_line.specs.declared.line.Line.TheVariants as line
+use Rattle.dm_line.specs.declared.end_line.EndLine.{EndLine}
+use Rattle.dm_text.specs.Fits.{LineFits, EndFits, StepFits}
+use Rattle.dm_text.specs.Text.{text, end_text}
+use Rattle.dm_shape.specs.Full.{IsFull}
+use Rattle.dm_shape.specs.Heads.{head_of}
+use Rattle.dm_shape.specs.Shapes.{has_shape}
+
+-- a text is that of a line, which has its line feed behind it
+abbrev pub IsLine : List ℕ → List ℕ → Type 0
+IsLine bytes printed = bytes ++ codes "\n" ≡ printed
+
+-- each line of a group that is printed has a shape
+abbrev pub LinesHaveShapes : Type 0
+LinesHaveShapes = (l : Line) (bytes : List ℕ) → LineFits l → IsLine bytes (text l) → has_shape bytes ≡ true
+
+-- so has each line at the end of a run
+abbrev pub EndsHaveShapes : Type 0
+EndsHaveShapes = (e : EndLine) (bytes : List ℕ) → EndFits e → IsFull e → IsLine bytes (end_text e) → has_shape bytes ≡ true
+
+-- whatever is read as the head of a group has a shape
+abbrev pub HeadsHaveShapes : Type 0
+HeadsHaveShapes = (bytes : List ℕ) (e : Step) → head_of bytes ≡ Some e → has_shape bytes ≡ true
+
+-- the head of a group is read as what it is
+abbrev pub HeadsAreRead : Type 0
+HeadsAreRead = (e : Step) (bytes : List ℕ) → StepFits e → IsLine bytes (text (line.Head e)) → head_of bytes ≡ Some e

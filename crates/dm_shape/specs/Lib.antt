@@ -1,0 +1,9 @@
+pub mod Pieces
+pub mod Digits
+pub mod Words
+pub mod Choices
+pub mod Sorts
+pub mod Shapes
+pub mod Heads
+pub mod Full
+pub mod Laws

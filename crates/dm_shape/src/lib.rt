@@ -1,0 +1,19 @@
+//! The shapes of printed lines: a name, and what each word behind it may be.
+//!
+//! A text has a shape where it is a line of the format, whether or not a machine prints so much. Which lines a run prints is
+//! no matter here.
+#![tactic(auto)]
+
+mod choice;
+pub mod head;
+pub mod laws;
+pub mod names;
+mod number;
+mod shape;
+mod sort;
+pub mod split;
+mod table;
+
+pub use choice::Choice;
+pub use shape::{Shape, has_shape};
+pub use sort::Sort;

@@ -1,0 +1,210 @@
+//! Which texts have a shape.
+ghost use Rattle.std.specs.Prelude.{◌≡◌, option_map};
+ghost use Rattle.std.specs.List.{list_all, list_any};
+ghost use Rattle.dm_text.specs.Reading.{pieces};
+ghost use Rattle.dm_shape.specs.declared.sort.Sort.TheVariants as sort;
+ghost use Rattle.dm_shape.specs.Pieces.{behind};
+ghost use Rattle.dm_shape.specs.Shapes.{ends_so, fit, has_shape, is_of_shape};
+ghost use Rattle.dm_shape.specs.Sorts.{is_of};
+
+use crate::names::message;
+use crate::sort::Sort;
+use crate::split::split;
+
+/// The shape of a line.
+#[derive(Clone, Copy, Debug, PartialEq, Eq)]
+pub enum Shape {
+    // The heads of groups.
+    Turn,
+    Tick,
+    Deliver,
+    Migrate,
+    // Steps of the kernel without machines.
+    Ran,
+    Call,
+    Send,
+    Wait,
+    Out,
+    End,
+    Receive,
+    Refuse,
+    Dropped,
+    Served,
+    Gone,
+    Took,
+    Created,
+    NoSpace,
+    // The other lines of groups.
+    Idle,
+    Put,
+    Packet,
+    Taken,
+    Old,
+    Early,
+    Acked,
+    Nothing,
+    Resent,
+    Queued,
+    Held,
+    Forwarded,
+    Updated,
+    Stage,
+    SentOn,
+    Lacks,
+    Stays,
+    Here,
+    NoMove,
+    Proto,
+    NoChild,
+    Pinned,
+    // The lines at the end of a run.
+    Final,
+    Ended,
+    Ready,
+    Waiting,
+    Moving,
+    Registers,
+    Memory,
+    Link,
+    Server,
+    Name,
+    Child,
+    Pending,
+    Queue,
+    Holding,
+    Inbox,
+    Stream,
+    Groups,
+}
+
+/// All shapes.
+const SHAPES: [Shape; 57] = [
+    Shape::Turn,
+    Shape::Tick,
+    Shape::Deliver,
+    Shape::Migrate,
+    Shape::Ran,
+    Shape::Call,
+    Shape::Send,
+    Shape::Wait,
+    Shape::Out,
+    Shape::End,
+    Shape::Receive,
+    Shape::Refuse,
+    Shape::Dropped,
+    Shape::Served,
+    Shape::Gone,
+    Shape::Took,
+    Shape::Created,
+    Shape::NoSpace,
+    Shape::Idle,
+    Shape::Put,
+    Shape::Packet,
+    Shape::Taken,
+    Shape::Old,
+    Shape::Early,
+    Shape::Acked,
+    Shape::Nothing,
+    Shape::Resent,
+    Shape::Queued,
+    Shape::Held,
+    Shape::Forwarded,
+    Shape::Updated,
+    Shape::Stage,
+    Shape::SentOn,
+    Shape::Lacks,
+    Shape::Stays,
+    Shape::Here,
+    Shape::NoMove,
+    Shape::Proto,
+    Shape::NoChild,
+    Shape::Pinned,
+    Shape::Final,
+    Shape::Ended,
+    Shape::Ready,
+    Shape::Waiting,
+    Shape::Moving,
+    Shape::Registers,
+    Shape::Memory,
+    Shape::Link,
+    Shape::Server,
+    Shape::Name,
+    Shape::Child,
+    Shape::Pending,
+    Shape::Queue,
+    Shape::Holding,
+    Shape::Inbox,
+    Shape::Stream,
+    Shape::Groups,
+];
+
+/// Whether a text without line feed is a line of the format.
+#[tactic(auto, unfolding(crate::specs::Shapes::has_shape))]
+pub fn has_shape(line: &[u8]) -> bool
+    ensures { result ≡ has_shape line.now }
+{
+    has_one_of(line, &SHAPES)
+}
+
+/// Whether a text has one of these shapes.
+fn has_one_of(line: &[u8], shapes: &[Shape]) -> bool
+    ensures { result ≡ list_any (λ s. is_of_shape s line.now) shapes.now }
+{
+    shapes.iter().any(|shape| shape.is_of(line))
+}
+
+impl Shape {
+    /// Whether a text is of this shape.
+    #[tactic(auto, unfolding(crate::specs::Shapes::is_of_shape))]
+    fn is_of(self, line: &[u8]) -> bool
+        ensures { result ≡ is_of_shape self line.now }
+    {
+        let (name, words) = split(line, b' ');
+        let row = self.row();
+        name == row.name.as_bytes() && fit(row.sorts, row.lists, words)
+    }
+}
+
+/// Whether words are of these sorts, one by one, and then names of messages, where such a list is due.
+fn fit(sorts: &[Sort], lists: bool, words: Option<&[u8]>) -> bool
+    ensures { result ≡ fit sorts.now lists (behind 32 (option_map (λ t. t.now) words.entry)) }
+{
+    let mut rest = words;
+    for sort in sorts {
+        let Some(text) = rest else {
+            return false;
+        };
+        let (word, others) = split(text, b' ');
+        if !sort.has(word) {
+            return false;
+        }
+        rest = others;
+    }
+    ends_so(lists, rest)
+}
+
+/// Whether no word is left, or, where a list is due, names of messages are, one or more.
+fn ends_so(lists: bool, words: Option<&[u8]>) -> bool
+    ensures { result ≡ ends_so lists (behind 32 (option_map (λ t. t.now) words.entry)) }
+{
+    match words {
+        None => !lists,
+        Some(text) => lists && are_messages(text),
+    }
+}
+
+/// Whether each word of a text names a message.
+#[tactic(auto, unfolding(crate::specs::Sorts::is_of))]
+fn are_messages(text: &[u8]) -> bool
+    ensures { result ≡ list_all (is_of sort.Message) (pieces 32 text.now) }
+{
+    let mut rest = Some(text);
+    'words: while let Some(text) = rest {
+        let (word, others) = split(text, b' ');
+        if message(word).is_none() {
+            return false;
+        }
+        rest = others;
+    }
+    true
+}
