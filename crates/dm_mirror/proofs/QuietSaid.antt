@@ -1,8 +1,9 @@
 -- Whether anything is on its way, and whether a machine has mail, is what the printed lines say.
-use Rattle.std.proofs.Common.{◌≡◌, ◌≢◌, ℕ, suc, ◌-◌, ◌<◌, ◌≤◌, ◌==◌, ◌&&◌, Bool, true, false, not, List, [], ◌∷◌, map, drop, length, nat_lt, length-drop, length-map, refl, ap, ◌∙◌, sym, arith}
+use Rattle.std.proofs.Common.{◌≡◌, ◌≢◌, ℕ, suc, ◌-◌, ◌<◌, ◌≤◌, ◌==◌, ◌&&◌, Bool, true, false, not, List, [], ◌∷◌, map, drop, length, nat_lt, length-drop, refl, ap, ◌∙◌, sym, subst, arith}
 use Rattle.std.specs.Prelude.{◌||◌, ◌↔◌}
 use Rattle.std.specs.declared.option.Option.TheVariants.{Some}
 use Rattle.std.proofs.lemmas.Bool.Decides.{nat_tests}
+use Rattle.std.proofs.lemmas.List.{length-map}
 use Rattle.dm_message.specs.declared.Message.{Message}
 use Rattle.dm_message.specs.declared.MsgId.{MsgId}
 use Rattle.dm_onekernel.specs.declared.boot.Boot.{Boot}
@@ -26,7 +27,7 @@ use Rattle.dm_mirror.proofs.Machines.{machines_are}
 
 -- as many messages as names
 as_many : {B : Type 0} (bag : MsgId → B) (wrap : Message → B) (ids : List MsgId) (ms : List Message) → map bag ids ≡ map wrap ms → length ms ≡ length ids
-as_many bag wrap ids ms e = sym (length-map wrap ms) ∙ sym (ap length e) ∙ length-map bag ids
+as_many bag wrap ids ms e = sym (length-map ms wrap) ∙ sym (ap length e) ∙ length-map ids bag
 
 pub mail_same : (b : Boot) (w : WorldState) (pt : Point) (l : Placed) (h : History) (m : ℕ) → m < pt.kernel.machines → StandsWith b w pt l h → world.has_mail w m ≡ has_mail pt.view m
 mail_same b w pt l h m small s = ap (nat_lt 0) (as_many l.bag Some (pt.view.inbox m) (w.nodes m).kernel.inbox (s.nodes m small).kernel.inbox)
@@ -48,7 +49,7 @@ kept_quiet k taken acked n h g e = by ((taken == n) && (acked == n)) refl
 pair_quiet : (b : Boot) (w : WorldState) (pt : Point) (l : Placed) (h : History) (a c : ℕ) → PairStands b pt l w h a c → (length ((w.nodes a).senders c).unacked == 0) ≡ (((pt.view.pair a c).taken == length (pt.view.pair a c).ids) && ((pt.view.pair a c).acked == length (pt.view.pair a c).ids))
 pair_quiet b w pt l h a c p =
     let order = p.stream.in_order in
-    let all : length (h.given a c) ≡ length (pt.view.pair a c).ids = sym (length-map id_of (h.given a c)) ∙ ap length p.ids in
+    let all : length (h.given a c) ≡ length (pt.view.pair a c).ids = sym (length-map (h.given a c) id_of) ∙ ap length p.ids in
     let kept : length ((w.nodes a).senders c).unacked ≡ length (h.given a c) - ((w.nodes a).senders c).acked = ap length order.unacked ∙ length-drop ((w.nodes a).senders c).acked (h.given a c) in
     let acked = p.acked in
     let taken = p.taken in

@@ -13,6 +13,7 @@ use Rattle.dm_line.specs.declared.line.Line.{Line}
 use Rattle.dm_line.specs.Todo.{Todo, all_of}
 use Rattle.dm_rule.specs.Good.{next_step, undelivered, IsKept, IsRun}
 use Rattle.dm_rule.specs.Laws.{IsStep, Leads}
+use Rattle.dm_rule.specs.Quiet.{has_mail, is_quiet}
 use Rattle.dm_rule.specs.Point.{Point, first_point, labels}
 use Rattle.dm_rule.proofs.Groups.{stands_once_always}
 use Rattle.dm_world.specs.World.{WorldState}
@@ -83,7 +84,7 @@ record Elements (b : Boot) (gs : List (List Line)) (pt end : Point) : Type 0 whe
 elements : (b : Boot) (gs : List (List Line)) (pt end : Point) (t left : Todo) → pt.kernel.machines ≡ length b.machines → IsTodo (length b.machines) t → IsRun b pt t gs end left → Elements b gs pt end
 elements b [] pt end t left machines todo run = record { steps = []; run = (run.0, refl); leads = run.0 }
 elements b (g ∷ gs) pt end t left machines todo (n, w, next, is, said, kept, rest) =
-    let fits = next_fits (length b.machines) (undelivered pt.view) t n todo (sym (ap (λ (k : ℕ). next_step k pt.view t) machines) ∙ next) in
+    let fits = next_fits (length b.machines) (undelivered pt.view) (has_mail pt.view) (is_quiet (length b.machines) pt.view) t n todo (sym (ap (λ (k : ℕ). next_step k pt.view t) machines) ∙ next) in
     let more = elements b gs w.point end n.left left (machines_group b pt n.step w is ∙ machines) fits.left rest in
     record {
       steps = n.step ∷ more.steps;

@@ -165,13 +165,13 @@ line_view pt next l e =
     let f : moved pt l s ≡ next = cc in
     sym (ap (λ (q : Point). q.view) f)
 
-one_view : (pt next : Point) (l : Line) → after pt (l ∷ []) ≡ Some next → next.view ≡ view_after pt.view l
+pub one_view : (pt next : Point) (l : Line) → after pt (l ∷ []) ≡ Some next → next.view ≡ view_after pt.view l
 one_view pt next l e =
     let (mid, first, rest) = bind-is (after_line pt l) (λ q. after q []) next e in
     let f : mid ≡ next = cc in
     sym (ap (λ (q : Point). q.view) f) ∙ line_view pt mid l first
 
-two_views : (pt next : Point) (l k : Line) → after pt (l ∷ k ∷ []) ≡ Some next → next.view ≡ view_after (view_after pt.view l) k
+pub two_views : (pt next : Point) (l k : Line) → after pt (l ∷ k ∷ []) ≡ Some next → next.view ≡ view_after (view_after pt.view l) k
 two_views pt next l k e =
     let (mid, first, rest) = bind-is (after_line pt l) (λ q. after q (k ∷ [])) next e in
     one_view mid next k rest ∙ ap (λ (v : View). view_after v k) (line_view pt mid l first)
@@ -254,7 +254,7 @@ Fits-later f g (Owns kn q b) k h = h
 Fits-later f g (Transmits a b (load.Data n)) k h = (h.0, let x = k.gone a b in omega (arith, x, h.1))
 Fits-later f g (Transmits a b (load.Ack n)) k h = (h.0, let x = k.taken b a in omega (arith, x, h.1))
 
-AllFit-later : (f g : ℕ → ℕ → Pair) (ps : List Part) → Later f g → AllFit f ps → AllFit g ps
+pub AllFit-later : (f g : ℕ → ℕ → Pair) (ps : List Part) → Later f g → AllFit f ps → AllFit g ps
 AllFit-later f g [] k h = h
 AllFit-later f g (p ∷ ps) k h = (Fits-later f g p k h.0, AllFit-later f g ps k h.1)
 
@@ -262,7 +262,7 @@ pub AllFit-both : (f : ℕ → ℕ → Pair) (ps qs : List Part) → AllFit f ps
 AllFit-both f [] qs h k = k
 AllFit-both f (p ∷ ps) qs h k = (h.0, AllFit-both f ps qs h.1 k)
 
-fitting_goes : (pt : Point) (p : Part) (ps : List Part) (w : Spelled) (o : Onward pt p ps w) → Fits pt.view.pair p → Paired pt.view.pair → Goes pt.view.pair o.next.view.pair
+pub fitting_goes : (pt : Point) (p : Part) (ps : List Part) (w : Spelled) (o : Onward pt p ps w) → Fits pt.view.pair p → Paired pt.view.pair → Goes pt.view.pair o.next.view.pair
 fitting_goes pt (Says l) ps w o fits h =
     let is : o.next.view.pair ≡ pt.view.pair = ap (λ (v : View). v.pair) (says_view pt l ps w o) ∙ pair_same pt.view l fits in
     subst (Goes pt.view.pair) (sym is) (Goes-same pt.view.pair h)

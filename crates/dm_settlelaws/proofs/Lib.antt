@@ -1,0 +1,5 @@
+pub mod Wires
+pub mod RestsPairs
+pub mod RestsParts
+pub mod RestsComes
+pub mod RestsAlways
