@@ -1,0 +1,22 @@
+//! What holds of good groups for the directives of a schedule.
+ghost use Rattle.dm_runlaws.specs.Order.{GoodInOrder};
+ghost use Rattle.dm_runlaws.specs.Through.{AllBegin, RunsThrough};
+
+/// For each boot file that a system may start with and directives for its machines there is a good run that has come to
+/// an end: no directive is left, or the group of the next would route a message between two machines that count as many
+/// as they may. So rounds end, whatever is put on wires meanwhile.
+pub fn runs_through()
+    ensures { RunsThrough }
+{}
+
+/// Each good run for these directives is a beginning of the one that has come to an end: no other is longer, and there
+/// is only one that has.
+pub fn all_begin()
+    ensures { AllBegin }
+{}
+
+/// Where no directive of a schedule moves a process, of the messages that one process or server sent, those that a
+/// process receives on one channel in a good run are received in the order in which they were sent.
+pub fn good_in_order()
+    ensures { GoodInOrder }
+{}
