@@ -4,3 +4,4 @@ pub mod Delivers
 pub mod Runs
 pub mod Through
 pub mod Worked
+pub mod Packets
