@@ -21,7 +21,8 @@ fn add_instruction(
     op: Opcode,
     operands: &[u8],
 ) -> Result<(), Stop>
-    ensures { Gives (λ _. image.new.items) result (behind image.old.items (instruction_bytes (place_in labels.now) (length image.old.items) op (words operands.now))) }
+    ensures { Gives (λ _. image.new.items) result
+        (behind image.old.items (instruction_bytes (place_in labels.now) (length image.old.items) op (words operands.now))) }
 {
     let at = image.len();
     let last = last_bytes(labels, at, Shape::of(op), operands)?;
@@ -32,7 +33,8 @@ fn add_instruction(
 
 /// Adds a word.
 fn add_word(labels: &Labels, image: &mut Vec<u8>, operands: &[u8]) -> Result<(), Stop>
-    ensures { Gives (λ _. image.new.items) result (behind image.old.items (form_bytes (place_in labels.now) (length image.old.items) Word (words operands.now))) }
+    ensures { Gives (λ _. image.new.items) result
+        (behind image.old.items (form_bytes (place_in labels.now) (length image.old.items) Word (words operands.now))) }
 {
     let (word, _) = next_value(labels, operands, u32::MAX)?;
     let mut bytes = [0; 4];
@@ -58,7 +60,8 @@ fn add_listed(image: &mut Vec<u8>, operands: &[u8]) -> Result<(), Stop>
 
 /// Adds zeros.
 fn add_zeros(labels: &Labels, image: &mut Vec<u8>, operands: &[u8]) -> Result<(), Stop>
-    ensures { Gives (λ _. image.new.items) result (behind image.old.items (form_bytes (place_in labels.now) (length image.old.items) Zero (words operands.now))) }
+    ensures { Gives (λ _. image.new.items) result
+        (behind image.old.items (form_bytes (place_in labels.now) (length image.old.items) Zero (words operands.now))) }
 {
     let (n, _) = next_number(operands, 65_536)?;
     let len = image.len();
@@ -79,7 +82,8 @@ fn can_have(form: Form, operands: usize) -> bool
 
 /// Adds what an instruction or directive with its operands is.
 fn add_form(labels: &Labels, image: &mut Vec<u8>, form: Form, operands: &[u8]) -> Result<(), Stop>
-    ensures { Gives (λ _. image.new.items) result (behind image.old.items (form_bytes (place_in labels.now) (length image.old.items) form (words operands.now))) }
+    ensures { Gives (λ _. image.new.items) result
+        (behind image.old.items (form_bytes (place_in labels.now) (length image.old.items) form (words operands.now))) }
 {
     match form {
         Form::Instruction(op) => add_instruction(labels, image, op, operands),
@@ -97,7 +101,8 @@ pub fn add_statement(
     twice: bool,
     statement: &[u8],
 ) -> Result<(), Stop>
-    ensures { Gives (λ _. image.new.items) result (behind image.old.items (statement_bytes (place_in labels.now) (length image.old.items) twice (words statement.now))) }
+    ensures { Gives (λ _. image.new.items) result
+        (behind image.old.items (statement_bytes (place_in labels.now) (length image.old.items) twice (words statement.now))) }
 {
     match next_word(statement) {
         None if twice => Err(Stop::Fault(Why::LabelTwice)),

@@ -32,7 +32,8 @@ pub fn starts_of(
     requires machines { machines.now ≡ machines_of (view document.now.top.now) }
     requires images { images.now ≡ images_of (view document.now.top.now) }
     requires few { count (image_tables (view document.now.top.now)) ≤ 256 }
-    ensures starts { Answers (unless_at rules.ProcessRoom (first_failing (has_place (view document.now.top.now)) 0 (process_tables (view document.now.top.now))) (starts_of (view document.now.top.now))) result }
+    ensures starts { Answers (unless_at rules.ProcessRoom
+        (first_failing (has_place (view document.now.top.now)) 0 (process_tables (view document.now.top.now))) (starts_of (view document.now.top.now))) result }
     ensures few { OnOk result (count (process_tables (view document.now.top.now)) ≤ 4080) }
 {
     let tables = items_at(document.top, "process");

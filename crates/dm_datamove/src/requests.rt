@@ -87,7 +87,8 @@ pub fn request(process: &mut Process, rest: Rest, here: u8) -> Message
     requires counts { process.old.sent < 4294967295 }
     ensures message { result ≡ request here process.old rest }
     ensures process { process.new ≡ moving process.old rest }
-    ensures plain { plain_requested (plain_message result) process.new ≡ Some (requests process.old.pid (plain_process process.old) rest.dir rest.owner.pid rest.base rest.own rest.left) }
+    ensures plain { plain_requested (plain_message result) process.new ≡
+        Some (requests process.old.pid (plain_process process.old) rest.dir rest.owner.pid rest.base rest.own rest.left) }
     ensures lawful { IsLawfulProcess process.new }
     ensures lawful_message { IsLawfulMessage result }
 {

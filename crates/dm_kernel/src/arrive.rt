@@ -17,7 +17,7 @@ ghost use Rattle.dm_line.specs.declared.line.Stage.TheVariants as stage_;
 use crate::depart::step;
 use crate::kernel::Kernel;
 use crate::part::Part;
-use dm_records::Record;
+use dm_line::line::{Line, Stage};
 use dm_link::Pid;
 use dm_lists::Queue;
 use dm_memory::NoMemory;
@@ -25,8 +25,8 @@ use dm_message::{Message, MsgId, What};
 use dm_migrate::{Arriving, Asked, Wanted, answer_ask};
 use dm_onekernel::Boot;
 use dm_process::Process;
+use dm_records::Record;
 use dm_room::Lacks;
-use dm_line::line::{Line, Stage};
 
 impl Kernel {
     /// Answers a process that asks to come.
@@ -57,7 +57,8 @@ impl Kernel {
         pull: What,
     ) -> Result<Vec<Part>, NoMemory>
         requires { self.old.sent < 4294967295 }
-        ensures { Answers result self.new (turned (with_sent (with_known (state_of self.old) pid (Incoming arriving))) (takes_step stage_.Accepted pid ∷ Part.Routes (own (state_of self.old) message.now.sender pull) ∷ [])) }
+        ensures { Answers result self.new (turned (with_sent (with_known (state_of self.old) pid (Incoming arriving)))
+            (takes_step stage_.Accepted pid ∷ Part.Routes (own (state_of self.old) message.now.sender pull) ∷ [])) }
     {
         if let Err((_, e)) = self.records.set(pid, Record::Incoming(arriving)) {
             return Err(e);
@@ -75,7 +76,8 @@ impl Kernel {
         lacks: Lacks,
     ) -> Result<Vec<Part>, NoMemory>
         requires { self.old.sent < 4294967295 }
-        ensures { Answers result self.new (turned (with_sent (state_of self.old)) (Part.Says (line_.Lacks pid lacks.free_slots lacks.free_blocks) ∷ Part.Routes (own (state_of self.old) message.now.sender refusal) ∷ [])) }
+        ensures { Answers result self.new (turned (with_sent (state_of self.old))
+            (Part.Says (line_.Lacks pid lacks.free_slots lacks.free_blocks) ∷ Part.Routes (own (state_of self.old) message.now.sender refusal) ∷ [])) }
     {
         let Lacks {
             free_slots,
@@ -155,7 +157,8 @@ impl Kernel {
         held: Vec<Message>,
     ) -> Result<(), NoMemory>
         requires { IsSome (at self.old.records pid) }
-        ensures { OnOk result (IsIn self.new (record (state_of self.old) { records = with_record (at self.old.records) pid (Here process); ring = self.old.ring ++ pid ∷ []; inbox = held.items ++ self.old.inbox })) }
+        ensures { OnOk result (IsIn self.new (record (state_of self.old)
+            { records = with_record (at self.old.records) pid (Here process); ring = self.old.ring ++ pid ∷ []; inbox = held.items ++ self.old.inbox })) }
     {
         self.ring.push(pid)?;
         self.records.put(pid, Record::Here(process));

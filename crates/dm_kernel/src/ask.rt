@@ -6,10 +6,10 @@ ghost use Rattle.dm_kernel.specs.Meets.{Answers, state_of};
 
 use crate::kernel::Kernel;
 use crate::part::Part;
+use dm_line::line::Line;
 use dm_link::Pid;
 use dm_memory::NoMemory;
 use dm_procman::MoveNo;
-use dm_line::line::Line;
 
 impl Kernel {
     /// Has the manager tell a process to move to a machine, where it is one of its children. Answers what the machine

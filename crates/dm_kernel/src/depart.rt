@@ -15,18 +15,19 @@ use crate::kernel::Kernel;
 use crate::own::kernel_at;
 use crate::part::Part;
 use crate::ring::leave;
-use dm_records::Record;
+use dm_line::line::{Line, Stage};
 use dm_link::Pid;
 use dm_memory::NoMemory;
 use dm_message::{Message, What};
 use dm_migrate::freeze;
-use dm_line::line::{Line, Stage};
+use dm_records::Record;
 
 impl Kernel {
     /// Lets a process leave for a machine, if it isn't there.
     pub(crate) fn migrate(&mut self, message: &Message, to: u8) -> Result<Vec<Part>, NoMemory>
         requires process { IsHere (CanFreeze (state_of self.old)) (at self.old.records message.now.to.pid) }
-        ensures answers { Answers result self.new (bind (here_of (at self.old.records message.now.to.pid)) (λ x. migrates (state_of self.old) message.now x to)) }
+        ensures answers { Answers result self.new (bind (here_of (at self.old.records message.now.to.pid))
+            (λ x. migrates (state_of self.old) message.now x to)) }
         ensures whole { OnOk result (to ≢ self.old.here → IfSome (here_of (at self.old.records message.now.to.pid)) CanMove) }
     {
         if to == self.here {
@@ -107,7 +108,8 @@ impl Kernel {
     ) -> Result<Vec<Part>, NoMemory>
         requires sent { self.old.sent < 4294967295 }
         requires chunk { IsSuch (λ (d : Departure). HasChunk (state_bytes d.process) chunk) (frozen_of (at self.old.records pid)) }
-        ensures { Answers result self.new (bind (frozen_of (at self.old.records pid)) (λ d. gives_piece (state_of self.old) message.now (chunk_of d.process.pid (state_bytes d.process) chunk))) }
+        ensures { Answers result self.new (bind (frozen_of (at self.old.records pid))
+            (λ d. gives_piece (state_of self.old) message.now (chunk_of d.process.pid (state_bytes d.process) chunk))) }
     {
         match self.records.borrow(pid) {
             Record::Frozen(leaving) => {
@@ -127,7 +129,8 @@ impl Kernel {
     ) -> Result<Vec<Part>, NoMemory>
         requires sent { self.old.sent < 4294967295 }
         requires block { IsSuch (λ (d : Departure). HasBlock d.process.memory block) (frozen_of (at self.old.records pid)) }
-        ensures { Answers result self.new (bind (frozen_of (at self.old.records pid)) (λ d. gives_piece (state_of self.old) message.now (block_of d.process.pid d.process.memory block))) }
+        ensures { Answers result self.new (bind (frozen_of (at self.old.records pid))
+            (λ d. gives_piece (state_of self.old) message.now (block_of d.process.pid d.process.memory block))) }
     {
         match self.records.borrow(pid) {
             Record::Frozen(leaving) => {
@@ -192,7 +195,8 @@ impl Kernel {
         restart: Message,
     ) -> Result<Vec<Part>, NoMemory>
         requires { length messages.items < 4294967295 }
-        ensures { IfOk result (λ parts. parts.items ≡ Part.Says (line_.SentOn pid (length messages.items)) ∷ map Part.Routes messages.items ++ takes_step stage_.Left pid ∷ Part.Routes restart ∷ []) }
+        ensures { IfOk result (λ parts. parts.items ≡
+            Part.Says (line_.SentOn pid (length messages.items)) ∷ map Part.Routes messages.items ++ takes_step stage_.Left pid ∷ Part.Routes restart ∷ []) }
     {
         let count = messages.len() as u32;
         let mut parts = vec![in self.alloc; Part::Says(Line::SentOn { pid, count })]?;

@@ -8,11 +8,11 @@ ghost use Rattle.dm_line.specs.declared.line.Line.TheVariants as line_;
 
 use crate::kernel::Kernel;
 use crate::part::Part;
+use dm_line::line::Line;
 use dm_link::{Addr, Placeless};
 use dm_linkupdate::{apply, notice};
 use dm_memory::NoMemory;
 use dm_message::{Message, MsgId};
-use dm_line::line::Line;
 
 impl Kernel {
     /// Sends a message on to the machine where its receiver has gone by so many moves, and tells its sender, if its kind
@@ -42,7 +42,8 @@ impl Kernel {
     /// Lets the links of a process, and its data move, follow the process that an update names.
     pub(crate) fn follow(&mut self, message: &Message, about: Addr) -> Result<Vec<Part>, NoMemory>
         requires { IsSome (here_of (at self.old.records message.now.to.pid)) }
-        ensures { Answers result self.new (bind (here_of (at self.old.records message.now.to.pid)) (λ x. process_follows (state_of self.old) message.now x about)) }
+        ensures { Answers result self.new (bind (here_of (at self.old.records message.now.to.pid))
+            (λ x. process_follows (state_of self.old) message.now x about)) }
     {
         match self.records.here_mut(message.to.pid) {
             Some(process) => {

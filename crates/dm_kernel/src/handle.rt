@@ -14,12 +14,12 @@ ghost use Rattle.dm_kernel.specs.Served.{Handles, IsHere};
 
 use crate::kernel::Kernel;
 use crate::part::Part;
-use dm_records::Record;
+use dm_line::line::Line;
 use dm_link::Pid;
 use dm_memory::NoMemory;
 use dm_message::{Message, What};
 use dm_onekernel::Boot;
-use dm_line::line::Line;
+use dm_records::Record;
 
 /// The servers.
 const SWITCHBOARD: Pid = Pid { home: 0, num: 1 };
@@ -74,7 +74,8 @@ impl Kernel {
         requires lawful { IsLawfulMessage message }
         requires here { self.old.here < 16 }
         requires process { IsHere (Handles (state_of self.old) message) (at self.old.records message.to.pid) }
-        ensures answers { Answers result self.new (bind (here_of (at self.old.records message.to.pid)) (λ x. here_handles (state_of self.old) message x message.what)) }
+        ensures answers { Answers result self.new (bind (here_of (at self.old.records message.to.pid))
+            (λ x. here_handles (state_of self.old) message x message.what)) }
         ensures whole { OnOk result (WhereSentOff self.old.here message.what (IfSome (here_of (at self.old.records message.to.pid)) CanMove)) }
     {
         match &message.what {

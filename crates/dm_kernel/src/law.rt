@@ -13,12 +13,14 @@ ghost use Rattle.dm_kernel.specs.Turn.{turn};
 
 /// A turn leaves processes, messages and servers lawful, and each message that it routes is lawful.
 pub fn turns_are_lawful()
-    ensures { (b : Boot) (s : KernelState) (t : Turned) → images_are_valid b.images ≡ true → MayTurn b s → IsLawfulState s → turn b s ≡ Some t → IsLawfulTurned t }
+    ensures { (b : Boot) (s : KernelState) (t : Turned) → images_are_valid b.images ≡ true → MayTurn b s → IsLawfulState s → turn b s ≡ Some t →
+        IsLawfulTurned t }
 {}
 
 /// What asking for a move leaves and routes is lawful.
 pub fn moves_are_asked_lawfully()
-    ensures { (s : KernelState) (p : Pid) (machine : ℕ) (t : Turned) → s.here < 16 → IsMachine machine → IsLawfulState s → asks_move s p machine ≡ Some t → IsLawfulTurned t }
+    ensures { (s : KernelState) (p : Pid) (machine : ℕ) (t : Turned) → s.here < 16 → IsMachine machine → IsLawfulState s → asks_move s p machine ≡
+        Some t → IsLawfulTurned t }
 {}
 
 /// Each machine of a boot file may take a turn as the file has it, and is lawful.

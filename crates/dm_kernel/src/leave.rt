@@ -12,14 +12,14 @@ ghost use Rattle.dm_kernel.specs.State.{drops, without_process};
 use crate::kernel::Kernel;
 use crate::part::Part;
 use crate::ring::leave;
-use dm_records::Record;
+use dm_line::line::Line;
 use dm_link::Pid;
 use dm_lists::Queue;
 use dm_memory::NoMemory;
 use dm_message::Message;
 use dm_onekernel::{Label, Why};
 use dm_process::Process;
-use dm_line::line::Line;
+use dm_records::Record;
 
 impl Kernel {
     /// Ends a process that has executed so many instructions.

@@ -17,15 +17,15 @@ ghost use Rattle.dm_kernel.specs.State.{says};
 use crate::kernel::Kernel;
 use crate::part::Part;
 use dm_datamove::answer;
-use dm_records::Record;
+use dm_line::line::Line;
 use dm_link::{Link, Pid};
 use dm_linktable::Table;
 use dm_memory::NoMemory;
 use dm_message::{Message, What};
 use dm_onekernel::{Boot, BootImage, Label};
 use dm_process::Process;
+use dm_records::Record;
 use dm_room::Lacks;
-use dm_line::line::Line;
 use std::alloc::Global;
 
 /// The number of a machine's first process.
@@ -102,7 +102,8 @@ impl Kernel {
     /// Puts a process that begins into the records and at the ring's back, and counts it.
     pub(crate) fn stand(&mut self, pid: Pid, process: Process) -> Result<(), NoMemory>
         requires { self.old.made < 4294967295 }
-        ensures { OnOk result (IsIn self.new (record (state_of self.old) { records = with_record (at self.old.records) pid (Here process); ring = self.old.ring ++ pid ∷ []; made = self.old.made + 1 })) }
+        ensures { OnOk result (IsIn self.new (record (state_of self.old)
+            { records = with_record (at self.old.records) pid (Here process); ring = self.old.ring ++ pid ∷ []; made = self.old.made + 1 })) }
     {
         self.ring.push(pid)?;
         if let Err((_, fault)) = self.records.set(pid, Record::Here(process)) {
@@ -114,7 +115,8 @@ impl Kernel {
 
     /// What is said of a process that is made, and the answer to who asked for it.
     fn made(&self, message: &Message, pid: Pid) -> Result<Vec<Part>, NoMemory>
-        ensures { IfOk result (λ parts. parts.items ≡ says (label_.Created message.now.id pid) ∷ Part.Routes (answer self.now.here 0 message.now (what_.Created pid)) ∷ []) }
+        ensures { IfOk result (λ parts. parts.items ≡
+            says (label_.Created message.now.id pid) ∷ Part.Routes (answer self.now.here 0 message.now (what_.Created pid)) ∷ []) }
     {
         let said = Line::Label(Label::Created {
             id: message.id,
@@ -126,7 +128,8 @@ impl Kernel {
 
     /// What is said where there is no room, and the answer to who asked.
     fn no_space(&self, message: &Message, lacks: Lacks) -> Result<Vec<Part>, NoMemory>
-        ensures { IfOk result (λ parts. parts.items ≡ says (label_.NoSpace message.now.id lacks.free_slots lacks.free_blocks) ∷ Part.Routes (answer self.now.here 0 message.now what_.NoRoom) ∷ []) }
+        ensures { IfOk result (λ parts. parts.items ≡
+            says (label_.NoSpace message.now.id lacks.free_slots lacks.free_blocks) ∷ Part.Routes (answer self.now.here 0 message.now what_.NoRoom) ∷ []) }
     {
         let Lacks {
             free_slots,

@@ -6,10 +6,10 @@ ghost use Rattle.dm_kernel.specs.State.{own, own_id, with_sent};
 
 use crate::kernel::Kernel;
 use crate::part::Part;
+use dm_line::line::Line;
 use dm_link::{Addr, Pid};
 use dm_memory::NoMemory;
 use dm_message::{Message, MsgId, What};
-use dm_line::line::Line;
 
 impl Kernel {
     /// The name of the next message that the kernel sends itself.

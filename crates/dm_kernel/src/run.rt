@@ -15,7 +15,8 @@ pub enum Halt {
 
 /// Executes at most so many plain instructions, up to the first that isn't one: how many there were, and why no more.
 pub fn execute(regs: &mut Regs, memory: &mut Memory, quantum: u32) -> (u32, Option<Halt>)
-    ensures { ran quantum (record { regs = regs.old; bytes = memory.old }) ≡ record { count = result.0; machine = record { regs = regs.new; bytes = memory.new }; halt = result.1 } }
+    ensures { ran quantum (record { regs = regs.old; bytes = memory.old }) ≡
+        record { count = result.0; machine = record { regs = regs.new; bytes = memory.new }; halt = result.1 } }
 {
     let mut count = 0;
     while count < quantum {

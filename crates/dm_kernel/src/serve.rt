@@ -12,13 +12,13 @@ ghost use Rattle.dm_kernel.specs.State.{says};
 use crate::kernel::Kernel;
 use crate::part::Part;
 use crate::run::{Halt, execute};
-use dm_records::Record;
+use dm_line::line::Line;
 use dm_link::Pid;
 use dm_memory::NoMemory;
 use dm_message::{Message, MsgId};
 use dm_onekernel::{Label, Why};
 use dm_process::Status;
-use dm_line::line::Line;
+use dm_records::Record;
 use dm_syscall::{Called, Completed, call, complete_receive};
 
 impl Kernel {

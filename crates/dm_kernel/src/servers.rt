@@ -15,10 +15,10 @@ ghost use Rattle.dm_kernel.specs.State.{says};
 
 use crate::kernel::Kernel;
 use crate::part::Part;
+use dm_line::line::Line;
 use dm_memory::NoMemory;
 use dm_message::{Message, MsgId, What};
 use dm_onekernel::Label;
-use dm_line::line::Line;
 
 impl Kernel {
     /// Handles a message for the switchboard.
@@ -64,8 +64,10 @@ impl Kernel {
 
     /// Lets the process manager take a user message, or an answer that it waits for.
     fn take_for_manager(&mut self, message: &Message) -> Result<Vec<Part>, NoMemory>
-        requires fits { IsSuch (λ (v : Servers). IsForManager v.manager message.now.id.n message.now.what × (v.manager.sent < 4294967295) × (length v.manager.children < 4294967295)) self.old.servers }
-        ensures { Answers result self.new (bind self.old.servers (λ v. manager_took (state_of self.old) message.now v (manage.takes v.manager message.now.id.n message.now.what))) }
+        requires fits { IsSuch (λ (v : Servers). IsForManager v.manager message.now.id.n message.now.what × (v.manager.sent < 4294967295) ×
+            (length v.manager.children < 4294967295)) self.old.servers }
+        ensures { Answers result self.new (bind self.old.servers
+            (λ v. manager_took (state_of self.old) message.now v (manage.takes v.manager message.now.id.n message.now.what))) }
     {
         match &mut self.servers {
             Some(servers) => {

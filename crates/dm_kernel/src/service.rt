@@ -16,16 +16,17 @@ use crate::kernel::Kernel;
 use crate::leave::drop_all;
 use crate::part::Part;
 use dm_datamove::{Landed, gone, land, serve};
+use dm_line::line::Line;
 use dm_memory::NoMemory;
 use dm_message::{Message, MsgId};
 use dm_onekernel::{Label, Why};
-use dm_line::line::Line;
 
 impl Kernel {
     /// Puts a message at the back of its receiver's queue.
     pub(crate) fn queue(&mut self, message: Message) -> Result<Vec<Part>, NoMemory>
         requires { IsSome (here_of (at self.old.records message.to.pid)) }
-        ensures { Answers result self.new (bind (here_of (at self.old.records message.to.pid)) (λ x. turned (with_here (state_of self.old) message.to.pid (queued x message)) (Part.Says (line_.Queued message.id) ∷ []))) }
+        ensures { Answers result self.new (bind (here_of (at self.old.records message.to.pid))
+            (λ x. turned (with_here (state_of self.old) message.to.pid (queued x message)) (Part.Says (line_.Queued message.id) ∷ []))) }
     {
         let id = message.id;
         match self.records.here_mut(message.to.pid) {
@@ -44,7 +45,8 @@ impl Kernel {
         stopped: bool,
     ) -> Result<Vec<Part>, NoMemory>
         requires { IsSome (here_of (at self.old.records message.now.to.pid)) }
-        ensures { Answers result self.new (bind (here_of (at self.old.records message.now.to.pid)) (λ x. served_as (state_of self.old) message.now (record x { stopped = stopped }))) }
+        ensures { Answers result self.new (bind (here_of (at self.old.records message.now.to.pid))
+            (λ x. served_as (state_of self.old) message.now (record x { stopped = stopped }))) }
     {
         match self.records.here_mut(message.to.pid) {
             Some(process) => {
@@ -88,7 +90,8 @@ impl Kernel {
         requires lawful { IsLawfulMessage message.now }
         requires here { self.old.here < 16 }
         requires mover { IsHere (AwaitsPiece message.now) (at self.old.records message.now.to.pid) }
-        ensures { Answers result self.new (bind (here_of (at self.old.records message.now.to.pid)) (λ x. lands (state_of self.old) message.now (landing self.old.here x message.now.what x.status))) }
+        ensures { Answers result self.new (bind (here_of (at self.old.records message.now.to.pid))
+            (λ x. lands (state_of self.old) message.now (landing self.old.here x message.now.what x.status))) }
     {
         let here = self.here;
         match self.records.here_mut(message.to.pid) {

@@ -69,7 +69,8 @@ pub fn add(entries: &mut Index, receiver: Pid, slot: u8)
     requires room { length entries.old.items < 128 }
     requires slot { slot < 128 }
     ensures index { IsIndex entries.new.items }
-    ensures bits { (q : _) (s : ℕ) → bit_at (mask_of entries.new.items q) s ≡ (if pid_eq receiver q && (s == slot) then 1 else bit_at (mask_of entries.old.items q) s) }
+    ensures bits { (q : _) (s : ℕ) → bit_at (mask_of entries.new.items q) s ≡
+        (if pid_eq receiver q && (s == slot) then 1 else bit_at (mask_of entries.old.items q) s) }
 {
     match place_of(entries, receiver) {
         Ok(place) => {
@@ -88,7 +89,8 @@ pub fn remove(entries: &mut Index, receiver: Pid, slot: u8)
     requires index { IsIndex entries.old.items }
     requires slot { slot < 128 }
     ensures index { IsIndex entries.new.items }
-    ensures bits { (q : _) (s : ℕ) → bit_at (mask_of entries.new.items q) s ≡ (if pid_eq receiver q && (s == slot) then 0 else bit_at (mask_of entries.old.items q) s) }
+    ensures bits { (q : _) (s : ℕ) → bit_at (mask_of entries.new.items q) s ≡
+        (if pid_eq receiver q && (s == slot) then 0 else bit_at (mask_of entries.old.items q) s) }
 {
     match place_of(entries, receiver) {
         Ok(place) => {

@@ -101,7 +101,8 @@ impl<T> Queue<T> {
         T: Drop,
         requires callable { F.IsAlwaysCallable keep }
         requires within { place < length self.old }
-        ensures { (x : T) → slice_get self.old place ≡ Some x → (kept : List T) × IsFiltered (CalledAt F.FnMut) keep (remove self.old place) kept × (self.new ≡ kept ++ x ∷ []) }
+        ensures { (x : T) → slice_get self.old place ≡ Some x → (kept : List T) × IsFiltered (CalledAt F.FnMut) keep (remove self.old place) kept ×
+            (self.new ≡ kept ++ x ∷ []) }
     {
         let last = self.items.remove(place).unwrap();
         self.items.retain(keep);

@@ -48,9 +48,11 @@ impl Model for Arriving {
 
     ghost Value = { Arrival };
 
-    ghost view = { λ a. come_of (record { pid = a.pid; moves = a.moves; asker = a.asker; cap = a.cap; state = a.state.items; memory = a.memory; wanted = a.wanted; held = a.held.items }) };
+    ghost view = { λ a. come_of (record { pid = a.pid; moves = a.moves; asker = a.asker; cap = a.cap; state = a.state.items; memory = a.memory; wanted
+        = a.wanted; held = a.held.items }) };
 
-    ghost invariant = { λ a. IsComing (record { pid = a.pid; moves = a.moves; asker = a.asker; cap = a.cap; state = a.state.items; memory = a.memory; wanted = a.wanted; held = a.held.items }) };
+    ghost invariant = { λ a. IsComing (record { pid = a.pid; moves = a.moves; asker = a.asker; cap = a.cap; state = a.state.items; memory = a.memory;
+        wanted = a.wanted; held = a.held.items }) };
 }
 
 /// Makes room for a process that is to come, with nothing of it yet.

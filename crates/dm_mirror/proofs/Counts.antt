@@ -1,4 +1,14 @@
 -- No count is too great: each is at most what the boot file has, and one for each message that was routed.
+pub mod Few
+pub mod Own
+pub mod Acting
+pub mod Pairs
+pub mod Still
+pub mod Sorts
+pub mod Ends
+pub mod Moves
+pub mod Start
+pub mod Waiting
 use Rattle.std.proofs.Common.{◌≡◌, inl, inr, ℕ, ◌+◌, ◌<◌, ◌≤◌, true, List, [], ◌∷◌, length, nat_le, refl, ap, ◌∙◌, sym, subst, arith}
 use Rattle.std.specs.declared.option.Option.TheVariants.{Some}
 use Rattle.std.proofs.lemmas.Bool.Decides.{nat_tests}
@@ -20,18 +30,18 @@ use Rattle.dm_rule.specs.View.{View, actor, view_after}
 use Rattle.dm_rule.specs.View as view
 use Rattle.dm_rule.proofs.Groups.{GroupIs, group_is}
 use Rattle.dm_rule.proofs.States.{said, says_next}
-use Rattle.dm_rulelaws.proofs.FitsRises.{both}
-use Rattle.dm_rulelaws.proofs.GoesRuns.{Both, RunGoes, RunStarts, both_group, both_start}
+use Rattle.dm_rulelaws.proofs.Fits.Rises.{both}
+use Rattle.dm_rulelaws.proofs.Goes.Runs.{Both, RunGoes, RunStarts, both_group, both_start}
 use Rattle.dm_rulelaws.proofs.Runs.{Run}
-use Rattle.dm_mirror.proofs.CountsEnds.{BearEnds, Ends, PutsOne, Under, bear_ends, ends, ends_before, own_puts, under_more}
-use Rattle.dm_mirror.proofs.CountsFew.{CountsFew}
-use Rattle.dm_mirror.proofs.CountsMoves.{MovesFew, moves_put, moves_restart, moves_still, puts_total}
-use Rattle.dm_mirror.proofs.CountsOwn.{OwnFew, PairsWithin, own_group}
-use Rattle.dm_mirror.proofs.CountsPairs.{within_group}
-use Rattle.dm_mirror.proofs.CountsSorts.{Bears, FrontRestarts, Pays, Restarts, Sort, SortIf, outcome_sort}
-use Rattle.dm_mirror.proofs.CountsStart.{first_count, moves_start, own_start, pairs_start, under_start}
-use Rattle.dm_mirror.proofs.CountsStill.{line_still}
-use Rattle.dm_mirror.proofs.CountsWaiting.{Routed, routed_group, routed_start, waiting_few}
+use Rattle.dm_mirror.proofs.Counts.Ends.{BearEnds, Ends, PutsOne, Under, bear_ends, ends, ends_before, own_puts, under_more}
+use Rattle.dm_mirror.proofs.Counts.Few.{CountsFew}
+use Rattle.dm_mirror.proofs.Counts.Moves.{MovesFew, moves_put, moves_restart, moves_still, puts_total}
+use Rattle.dm_mirror.proofs.Counts.Own.{OwnFew, PairsWithin, own_group}
+use Rattle.dm_mirror.proofs.Counts.Pairs.{within_group}
+use Rattle.dm_mirror.proofs.Counts.Sorts.{Bears, FrontRestarts, Pays, Restarts, Sort, SortIf, outcome_sort}
+use Rattle.dm_mirror.proofs.Counts.Start.{first_count, moves_start, own_start, pairs_start, under_start}
+use Rattle.dm_mirror.proofs.Counts.Still.{line_still}
+use Rattle.dm_mirror.proofs.Counts.Waiting.{Routed, routed_group, routed_start, waiting_few}
 use Rattle.dm_mirror.proofs.Machines.{few_machines, machines_group, some_machine}
 use Rattle.dm_mirror.proofs.Raises.{sent_of}
 use Rattle.dm_mirror.proofs.Totals.{Grows, grows_on, line_grows, total, total_grows, total_most}

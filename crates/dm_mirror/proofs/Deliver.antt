@@ -1,4 +1,21 @@
 -- The delivery of a packet, world against point: a machine may take what comes, and does with it what the rule says.
+pub mod Ends
+pub mod Kept
+pub mod Events
+pub mod Stood
+pub mod Stands
+pub mod Follows
+pub mod Moves
+pub mod Comes
+pub mod Takes
+pub mod Lets
+pub mod Reads
+pub mod Goes
+pub mod Counts
+pub mod Readable
+pub mod Sent
+pub mod Outs
+pub mod Keeps
 use Rattle.std.proofs.Common.{◌≡◌, ◌≢◌, ℕ, ◌+◌, ◌^◌, ◌<◌, ◌≤◌, ◌⊎◌, ◌==◌, nat_le, nat_lt, Bool, true, false, List, [], ◌∷◌, length, refl, ap, ◌∙◌, sym, subst, inl, inr, arith}
 use Rattle.std.specs.Prelude.{if◌then◌else◌, slice_get, option_map, Ok}
 use Rattle.std.specs.List.{All}
@@ -37,13 +54,13 @@ use Rattle.dm_world.specs.World.{WorldState, acted, arrives, delivers, reads, wo
 use Rattle.dm_world.specs.May.{MayDeliver, MayRead}
 use Rattle.dm_mirror.specs.Stands.{CountsStand, History, StandsWith, line_of, load_of}
 use Rattle.dm_mirror.specs.Run.{GoesOn}
-use Rattle.dm_mirror.proofs.DeliverEnds.{PairIs, ends_of, stream_with}
-use Rattle.dm_mirror.proofs.DeliverMoves.{back_pair, there_pair}
-use Rattle.dm_mirror.proofs.DeliverComes.{begun, nothing_stands}
-use Rattle.dm_mirror.proofs.DeliverReads.{IsReadAs, ReadsAs, bytes_are, bytes_for, lines_are, load_is, reads_ack}
+use Rattle.dm_mirror.proofs.Deliver.Ends.{PairIs, ends_of, stream_with}
+use Rattle.dm_mirror.proofs.Deliver.Moves.{back_pair, there_pair}
+use Rattle.dm_mirror.proofs.Deliver.Comes.{begun, nothing_stands}
+use Rattle.dm_mirror.proofs.Deliver.Reads.{IsReadAs, ReadsAs, bytes_are, bytes_for, lines_are, load_is, reads_ack}
 use Rattle.dm_rule.proofs.Groups.{IsNet, arrives_net}
-use Rattle.dm_mirror.proofs.DeliverCounts.{Same, arrives_sent, counts_on, net_same}
-use Rattle.dm_mirror.proofs.DeliverGoes.{Comes, acked_comes, early_comes, old_comes, taken_comes}
+use Rattle.dm_mirror.proofs.Deliver.Counts.{Same, arrives_sent, counts_on, net_same}
+use Rattle.dm_mirror.proofs.Deliver.Goes.{Comes, acked_comes, early_comes, old_comes, taken_comes}
 
 module _ (b : Boot) (w : WorldState) (pt : Point) (l : Placed) (h : History) (a c k : ℕ) (s : StandsWith b w pt l h) (counted : CountsStand w pt) (a_in : a < pt.kernel.machines) (c_in : c < pt.kernel.machines) (apart : a ≢ c) where
   there : PairIs b l a c (ends_of w h a c) (w.wires a c) (pt.view.pair a c)

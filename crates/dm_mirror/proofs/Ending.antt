@@ -21,10 +21,10 @@ use Rattle.dm_world.specs.Ends as world
 use Rattle.dm_mirror.specs.Stands.{History, StandsWith}
 use Rattle.dm_mirror.specs.Made.{MadeStands}
 use Rattle.dm_mirror.specs.Laws.{EndIsSaid}
-use Rattle.dm_mirror.proofs.EndLists.{homes_same, machines_same, names_are}
-use Rattle.dm_mirror.proofs.EndProcesses.{IsOfHome, holding_said, no_server, process_said, queue_said}
+use Rattle.dm_mirror.proofs.End.Lists.{homes_same, machines_same, names_are}
+use Rattle.dm_mirror.proofs.End.Processes.{IsOfHome, holding_said, no_server, process_said, queue_said}
 use Rattle.dm_mirror.proofs.Made.{made_always}
-use Rattle.dm_mirror.proofs.EndServers.{servers_said, stream_said}
+use Rattle.dm_mirror.proofs.End.Servers.{servers_said, stream_said}
 
 -- all that is used of a run
 record Final (b : Boot) (w : WorldState) (pt : Point) (l : Placed) (h : History) : Type 0 where

@@ -7,7 +7,7 @@ use Rattle.dm_rule.specs.Laws.{Leads}
 use Rattle.dm_rule.specs.Parts.{Spelled}
 use Rattle.dm_rule.specs.Point.{Point, first_point}
 use Rattle.dm_rule.specs.Rule.{group_of}
-use Rattle.dm_rulelaws.proofs.BasedConstants.{constant_group}
+use Rattle.dm_rulelaws.proofs.Based.Constants.{constant_group}
 
 pub format_group : (b : Boot) (pt : Point) (d : Step) (w : Spelled) → group_of b pt d ≡ Some w → w.point.kernel.format ≡ pt.kernel.format
 format_group b pt d w is = (constant_group b pt d w is).format

@@ -19,7 +19,7 @@ use Rattle.dm_schedule.specs.declared.Step.TheVariants as step
 use Rattle.dm_rule.specs.Laws.{Leads}
 use Rattle.dm_rule.specs.Point.{Point, first_point}
 use Rattle.dm_rulelaws.proofs.RunsAlways.{run_always, run_group, run_start}
-use Rattle.dm_rulelaws.proofs.TablesAlways.{format_always, tables_always}
+use Rattle.dm_rulelaws.proofs.Tables.Always.{format_always, tables_always}
 use Rattle.dm_places.specs.Placed.{Placed}
 use Rattle.dm_world.specs.May.{MayStep}
 use Rattle.dm_world.specs.Whole.{AreWhole}
@@ -27,13 +27,13 @@ use Rattle.dm_world.specs.World.{WorldState}
 use Rattle.dm_mirror.specs.Laws.{EndIsSaid, EndMay, RunGoesOn, StepsStand}
 use Rattle.dm_mirror.specs.Run.{Steps}
 use Rattle.dm_mirror.specs.Stands.{History, Stands, StandsWith}
-use Rattle.dm_mirror.proofs.ComeAll.{Around}
+use Rattle.dm_mirror.proofs.Come.All.{Around}
 use Rattle.dm_mirror.proofs.Counts.{counts_few}
 use Rattle.dm_mirror.proofs.Deliver.{OthersLawful, deliver_goes, may_deliver}
-use Rattle.dm_mirror.proofs.DeliverReadable.{reads_as}
-use Rattle.dm_mirror.proofs.EndMay.{FewAlways, end_may_by}
+use Rattle.dm_mirror.proofs.Deliver.Readable.{reads_as}
+use Rattle.dm_mirror.proofs.End.May.{FewAlways, end_may_by}
 use Rattle.dm_mirror.proofs.Ending.{end_is_said_by}
-use Rattle.dm_mirror.proofs.FollowAsks.{asks_turn}
+use Rattle.dm_mirror.proofs.Follow.Asks.{asks_turn}
 use Rattle.dm_mirror.specs.Ran.{RanGoesOn}
 use Rattle.dm_mirror.proofs.Going.{run_goes_on_by}
 use Rattle.dm_mirror.proofs.Single.{ran_goes_on_by}

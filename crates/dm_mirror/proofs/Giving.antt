@@ -24,7 +24,7 @@ use Rattle.dm_world.specs.World.{WorldState}
 use Rattle.dm_mirror.specs.Stands.{History, NodeStands, PairStands, StandsWith, stream_of}
 use Rattle.dm_mirror.proofs.Streams.{Joined, given_length, is_given, joined, pair_stands, put_back, went_out}
 use Rattle.dm_mirror.proofs.Stays.{apart_is, at_here, at_again, at_other, both_false, node_same, nodes_are, pair_here, pair_other, pairs_are}
-use Rattle.dm_mirror.proofs.RouteCore.{CoreStands}
+use Rattle.dm_mirror.proofs.Route.Core.{CoreStands}
 use Rattle.dm_mirror.proofs.Puts.{Senders, ids_same, one_sender, point_put, stands_put, with_put, world_put}
 
 -- a machine with other streams

@@ -26,7 +26,7 @@ use Rattle.dm_mirror.specs.Run.{joined, GoesOn, RunStands}
 use Rattle.dm_mirror.specs.Laws.{StepsStand, RunBegins, RunGoesOn}
 use Rattle.dm_world.specs.Readable.{AreReadBack, gave}
 use Rattle.dm_world.specs.May.{MayStep}
-use Rattle.dm_mirror.proofs.DeliverKeeps.{first_readable}
+use Rattle.dm_mirror.proofs.Deliver.Keeps.{first_readable}
 use Rattle.dm_mirror.proofs.May.{acts_start, acts_step}
 use Rattle.dm_mirror.proofs.Next.{NextFits, machines_stay, next_fits, next_is_said}
 use Rattle.dm_mirror.proofs.Readable.{readable_step}

@@ -14,19 +14,19 @@ use Rattle.dm_kernel.specs.State.{KernelState}
 use Rattle.dm_rule.specs.Phases.{is_between, is_of_source}
 use Rattle.dm_rule.specs.Point.{Point}
 use Rattle.dm_rule.specs.View.{Known, Unknown, Here, Frozen, Incoming, Forward, Ended, Of}
-use Rattle.dm_rulelaws.proofs.OwnTold.{own_sort}
+use Rattle.dm_rulelaws.proofs.Own.Told.{own_sort}
 use Rattle.dm_places.specs.Placed.{Placed}
 use Rattle.dm_mirror.specs.Made.{MadeStands}
 use Rattle.dm_mirror.specs.Own.{about_of, told_of}
 use Rattle.dm_mirror.specs.Tokens.{AllRecords}
-use Rattle.dm_mirror.proofs.ComeAll.{Around, turns_come}
-use Rattle.dm_mirror.proofs.FollowFrames.{Fronts}
-use Rattle.dm_mirror.proofs.FollowTurns.{migrate_apart, update_turn}
-use Rattle.dm_mirror.proofs.LeaveAsks.{hears_migrate}
-use Rattle.dm_mirror.proofs.LeaveFronts.{Hearing}
-use Rattle.dm_mirror.proofs.LeaveGoes.{hears_all_taken}
-use Rattle.dm_mirror.proofs.LeavePieces.{hears_pull_block, hears_pull_state}
-use Rattle.dm_mirror.proofs.LeaveStays.{hears_refuse}
+use Rattle.dm_mirror.proofs.Come.All.{Around, turns_come}
+use Rattle.dm_mirror.proofs.Follow.Frames.{Fronts}
+use Rattle.dm_mirror.proofs.Follow.Turns.{migrate_apart, update_turn}
+use Rattle.dm_mirror.proofs.Leave.Asks.{hears_migrate}
+use Rattle.dm_mirror.proofs.Leave.Fronts.{Hearing}
+use Rattle.dm_mirror.proofs.Leave.Goes.{hears_all_taken}
+use Rattle.dm_mirror.proofs.Leave.Pieces.{hears_pull_block, hears_pull_state}
+use Rattle.dm_mirror.proofs.Leave.Stays.{hears_refuse}
 use Rattle.dm_mirror.proofs.Turning.{TurnsAt}
 
 module _ (b : Boot) (m : ℕ) (pt : Point) (l : Placed) (records : AllRecords) (k : KernelState) (y : Message) (h : Hearing b m pt l records k y) (plain : plain_message y ≡ None) (below : m < pt.kernel.machines) (made : MadeStands pt.kernel) (around : Around b pt l) (whole : FreezesWhole k k.inbox) where

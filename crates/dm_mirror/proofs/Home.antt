@@ -22,7 +22,7 @@ use Rattle.dm_rule.specs.Point.{Point}
 use Rattle.dm_places.specs.Placed.{Placed}
 use Rattle.dm_world.specs.World.{WorldState}
 use Rattle.dm_mirror.specs.Stands.{AreMessages, History, NodeStands}
-use Rattle.dm_mirror.proofs.RouteCore.{CoreStands}
+use Rattle.dm_mirror.proofs.Route.Core.{CoreStands}
 use Rattle.dm_mirror.proofs.Streams.{pair_stays}
 use Rattle.dm_mirror.proofs.Stays.{at_here, at_other, kernel_box, nodes_are, pair_here, pair_other}
 use Rattle.dm_mirror.proofs.Giving.{more_if, one_more}

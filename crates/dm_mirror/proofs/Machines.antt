@@ -15,7 +15,7 @@ use Rattle.dm_rule.specs.Laws.{Leads}
 use Rattle.dm_rule.specs.Parts.{Spelled}
 use Rattle.dm_rule.specs.Point.{Point, first_point}
 use Rattle.dm_rule.specs.Rule.{group_of}
-use Rattle.dm_rulelaws.proofs.BasedConstants.{constant_group}
+use Rattle.dm_rulelaws.proofs.Based.Constants.{constant_group}
 use Rattle.dm_places.specs.Placed.{Placed}
 
 -- there are as many machines as at first

@@ -1,4 +1,11 @@
 -- Where the world stands for a point, each machine may take a turn or a tick, and ask a process to move; and each machine may act, from the start on.
+pub mod Have
+pub mod Front
+pub mod Process
+pub mod Own
+pub mod OwnKernel
+pub mod OwnRows
+pub mod Turns
 use Rattle.std.proofs.Common.{◌≡◌, ℕ, ◌+◌, ◌^◌, ◌<◌, ◌≤◌, ◌==◌, Bool, true, false, List, [], ◌∷◌, length, refl, ap, sym, subst, arith}
 use Rattle.std.specs.Prelude.{if◌then◌else◌, IsSome}
 use Rattle.std.specs.List.{All}
@@ -24,7 +31,7 @@ use Rattle.dm_schedule.specs.declared.Step.TheVariants as step
 use Rattle.dm_line.specs.declared.line.Line.TheVariants as line
 use Rattle.dm_rule.specs.Laws.{Leads}
 use Rattle.dm_rule.specs.Point.{Point, first_point}
-use Rattle.dm_rulelaws.proofs.OwnTold.{OwnTold}
+use Rattle.dm_rulelaws.proofs.Own.Told.{OwnTold}
 use Rattle.dm_rulelaws.proofs.Runs.{Run}
 use Rattle.dm_places.specs.Placed.{Placed}
 use Rattle.dm_kernel.specs.Lawful.{IsLawfulState}
@@ -48,12 +55,12 @@ use Rattle.dm_world.specs.May.{MayDeliver, MayRead, MayStep}
 use Rattle.dm_mirror.specs.Able.{AllMayAct}
 use Rattle.dm_mirror.specs.Made.{MadeStands}
 use Rattle.dm_mirror.specs.Stands.{CountsStand, History, Stands, StandsWith, servers_at}
-use Rattle.dm_rulelaws.proofs.GoesRuns.{RunGoes, RunStarts}
+use Rattle.dm_rulelaws.proofs.Goes.Runs.{RunGoes, RunStarts}
 use Rattle.dm_mirror.proofs.Counts.{counts_few}
-use Rattle.dm_mirror.proofs.CountsFew.{CountsFew}
+use Rattle.dm_mirror.proofs.Counts.Few.{CountsFew}
 use Rattle.dm_mirror.proofs.Machines.{few_machines, machines_are, some_machine}
 use Rattle.dm_mirror.proofs.Made.{made_always}
-use Rattle.dm_mirror.proofs.MayTurns as turns
+use Rattle.dm_mirror.proofs.May.Turns as turns
 
 -- all that stands about the machine
 stand_of : (b : Boot) (w : WorldState) (pt : Point) (l : Placed) (h : History) (m : ℕ) → Run b pt → OwnTold pt → MadeStands pt.kernel → CountsFew pt → StandsWith b w pt l h → CountsStand w pt → m < pt.kernel.machines → turns.Stand b pt l (λ n. (w.nodes n).kernel) m

@@ -22,7 +22,7 @@ use Rattle.dm_rule.specs.Good as rule
 use Rattle.dm_rule.specs.Laws.{IsStep, Leads}
 use Rattle.dm_rule.specs.Point.{Point, first_point}
 use Rattle.dm_rule.specs.Quiet.{has_mail, is_quiet}
-use Rattle.dm_rulelaws.proofs.BasedAlways.{based_always}
+use Rattle.dm_rulelaws.proofs.Based.Always.{based_always}
 use Rattle.dm_places.specs.Placed.{Placed}
 use Rattle.dm_world.specs.World.{WorldState}
 use Rattle.dm_world.specs.Next.{first_unseen}

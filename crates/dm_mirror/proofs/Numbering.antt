@@ -17,8 +17,8 @@ use Rattle.dm_onekernel.specs.Options.{bind}
 use Rattle.dm_onekernel.specs.Start.{first_life, life_at}
 use Rattle.dm_places.specs.PlacedStart.{started, started_at}
 use Rattle.dm_laws.proofs.Equal.{pid_eq-is}
-use Rattle.dm_rulelaws.proofs.FitsRises.{both}
-use Rattle.dm_rulelaws.proofs.FitsStart.{get_some}
+use Rattle.dm_rulelaws.proofs.Fits.Rises.{both}
+use Rattle.dm_rulelaws.proofs.Fits.Start.{get_some}
 
 -- the processes of a list by name
 life_if : (b : Boot) (p : BootProcess) (c : Bool) (o : Option BootProcess) (x : Option Life) → x ≡ bind o (first_life b) → (if c then first_life b p else x) ≡ bind (if c then Some p else o) (first_life b)

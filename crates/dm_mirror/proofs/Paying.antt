@@ -38,7 +38,7 @@ use Rattle.dm_rule.specs.Migrating.{forwards_on}
 use Rattle.dm_message.specs.Kinds.{plain_kind}
 use Rattle.dm_message.specs.declared.kind.MessageKind.{MessageKind}
 use Rattle.dm_message.specs.declared.kind.MessageKind.TheVariants as kind
-use Rattle.dm_mirror.proofs.CountsStill.{is_free}
+use Rattle.dm_mirror.proofs.Counts.Still.{is_free}
 use Rattle.dm_mirror.proofs.Raises.{Within, ran_raises, call_raises, send_raises, wait_raises, out_raises, end_raises, receive_raises, refuse_raises}
 use Rattle.dm_mirror.proofs.RaisesServed.{landed_raise, served_raise, sent_raise, dropped_raises, gone_raises, no_space_raises, served_raises}
 use Rattle.dm_mirror.proofs.RaisesMade.{board_raise, manager_raise, took_raise, took_raises, created_makes}

@@ -11,7 +11,7 @@ use Rattle.dm_rule.specs.Rule.{group_of}
 use Rattle.dm_rule.specs.Spots.{Inbox}
 use Rattle.dm_rule.proofs.Telling.{tells_right_always}
 use Rattle.dm_rulelaws.specs.Fits.{is_server}
-use Rattle.dm_rulelaws.proofs.GoesRuns.{Both}
+use Rattle.dm_rulelaws.proofs.Goes.Runs.{Both}
 use Rattle.dm_rulelaws.proofs.RunsAlways.{run_always}
 use Rattle.dm_places.specs.Following.{GroupNeeds}
 use Rattle.dm_places.proofs.AnyRun.{group_needs, places_follow_by}

@@ -30,7 +30,7 @@ use Rattle.dm_rule.proofs.Lines.{pair_keeps}
 use Rattle.dm_message.specs.declared.MsgId.{MsgId}
 use Rattle.dm_rule.specs.Parts.{Part, Spelled, behind, lines_of, spelled}
 use Rattle.dm_rule.specs.Point.{Point, after}
-use Rattle.dm_rule.proofs.PairsStand.{two_of}
+use Rattle.dm_rule.proofs.Pairs.Stand.{two_of}
 use Rattle.dm_places.specs.Placed.{Placed}
 use Rattle.dm_world.specs.World.{WorldState}
 use Rattle.dm_mirror.specs.Stands.{History, NodeStands, PairStands, StandsWith, load_of, stream_of}

@@ -43,6 +43,7 @@ kept_quiet k taken acked n h g e = by ((taken == n) && (acked == n)) refl
     all : (x y : Bool) → (x && y) ≡ true → y ≡ true
     all true y e = e
     all false y e = let f : y ≡ true = cc in f
+
     by : (t : Bool) → ((taken == n) && (acked == n)) ≡ t → (k == 0) ≡ ((taken == n) && (acked == n))
     by t is = grind (arith, nat_tests)
 
@@ -76,11 +77,11 @@ quiet_same b es w pt valid leads ((l, h, s), counts) =
     let home = λ (a : ℕ). (pairs_stand_always b es pt a (suc a) leads (λ same. absurd (let f : a < a = omega (arith, same) in omega (arith, f)))).1 in
     all_same n (λ a. not (world.has_mail w a) && all_below n (world.all_heard w a)) (λ a. not (has_mail pt.view a) && all_below n (λ c. pair_is_quiet (a == c) (pt.view.pair a c)))
     (λ a small.
-        ap (λ (t : Bool). not t && all_below n (world.all_heard w a)) (mail_same b w pt l h a (omega (arith, small, machines)) s)
-        ∙ ap (λ (t : Bool). not (has_mail pt.view a) && t)
-        (all_same n (world.all_heard w a) (λ c. pair_is_quiet (a == c) (pt.view.pair a c))
-        (λ c also. heard_same b w pt l h a c (a == c) refl (λ same. is_home pt.view.pair a c same (home a))
-        (λ apart. s.pairs a c (omega (arith, small, machines)) (omega (arith, also, machines)) (not_same a c apart)))))
+    ap (λ (t : Bool). not t && all_below n (world.all_heard w a)) (mail_same b w pt l h a (omega (arith, small, machines)) s)
+    ∙ ap (λ (t : Bool). not (has_mail pt.view a) && t)
+    (all_same n (world.all_heard w a) (λ c. pair_is_quiet (a == c) (pt.view.pair a c))
+    (λ c also. heard_same b w pt l h a c (a == c) refl (λ same. is_home pt.view.pair a c same (home a))
+    (λ apart. s.pairs a c (omega (arith, small, machines)) (omega (arith, also, machines)) (not_same a c apart)))))
 
 pub quiet_is_said : QuietIsSaid
 quiet_is_said b es w pt valid leads stands =

@@ -25,7 +25,7 @@ use Rattle.dm_line.specs.declared.line.Line.TheVariants as line
 use Rattle.dm_world.specs.World.{WorldState, Said, Says, acted, delivers, reads, turned, world_step}
 use Rattle.dm_world.specs.May.{MayDeliver, MayRead, MayStep}
 use Rattle.dm_world.specs.Readable.{AreReadBack, IsReadable, gave, gave_bytes, gave_read, gave_some}
-use Rattle.dm_mirror.proofs.DeliverKeeps.{arrival_readable, tick_readable, turn_readable}
+use Rattle.dm_mirror.proofs.Deliver.Keeps.{arrival_readable, tick_readable, turn_readable}
 
 -- a turn, or what the manager tells a process
 acts_readable : (w : WorldState) (e : Step) (m : ℕ) (t : Turned) (a : Acts) (s : Said) → t.state.here ≡ (w.nodes m).kernel.here → node.acts (record (w.nodes m) { kernel = t.state }) t.parts ≡ a → turned w e m (Some a) ≡ Some (Says s)

@@ -31,14 +31,14 @@ use Rattle.dm_rule.specs.Worn.{is_full, worn_in}
 use Rattle.dm_places.specs.Placed.{Placed}
 use Rattle.dm_world.specs.World.{WorldState}
 use Rattle.dm_mirror.specs.Stands.{History, PairStands, StandsWith}
-use Rattle.dm_mirror.proofs.RouteGoes.{RouteGoes, RouteOn, RouteWorn, with_acted}
+use Rattle.dm_mirror.proofs.Route.Goes.{RouteGoes, RouteOn, RouteWorn, with_acted}
 use Rattle.dm_mirror.proofs.Stays.{apart_is}
 use Rattle.dm_mirror.proofs.Puts.{point_put, wire_length, with_put}
 use Rattle.dm_mirror.proofs.Giving.{with_gift, count_given, node_gave, node_went, same_records, stands_gave, stands_went, world_gave}
 use Rattle.dm_mirror.specs.Tokens.{AllRecords}
 use Rattle.dm_mirror.proofs.Turning.{Route, MayPut, message_of, rule_part_of}
-use Rattle.dm_mirror.proofs.RouteCore.{CoreStands, core_more, core_of}
-use Rattle.dm_mirror.proofs.RoutePuts.{after_route, route_more, route_there, stands_routed}
+use Rattle.dm_mirror.proofs.Route.Core.{CoreStands, core_more, core_of}
+use Rattle.dm_mirror.proofs.Route.Puts.{after_route, route_more, route_there, stands_routed}
 use Rattle.dm_mirror.proofs.Putting.{line_put, lines_put, packet_with, part_is, put_end, put_point}
 use Rattle.dm_mirror.proofs.Home.{node_home, stands_home}
 

@@ -15,7 +15,7 @@ use Rattle.dm_rule.specs.View.{View, view_after}
 use Rattle.dm_rule.specs.Worn.{full_pair, worn_in}
 use Rattle.dm_rule.proofs.Hushed.{is_put}
 use Rattle.dm_rule.proofs.Telling.{AllSayable, Sane, sane_line}
-use Rattle.dm_mirror.proofs.RouteParts.{Next, next_of}
+use Rattle.dm_mirror.proofs.Route.Parts.{Next, next_of}
 use Rattle.dm_wire.specs.Sent.{Sent}
 use Rattle.dm_kernel.specs.declared.part.Part.{Part}
 use Rattle.dm_kernel.specs.declared.part.Part.TheVariants as part

@@ -24,7 +24,7 @@ use Rattle.dm_line.specs.Sets.{moved_back}
 use Rattle.dm_rule.specs.Spots.{Spot, Queue, times, standing, StandsOutside, StandsRight}
 use Rattle.dm_rule.specs.View.{View, receiver_of, is_kernels}
 use Rattle.dm_rule.proofs.Standing.{once_at}
-use Rattle.dm_rulelaws.proofs.GoesTurns.{Droppable, IsFor}
+use Rattle.dm_rulelaws.proofs.Goes.Turns.{Droppable, IsFor}
 use Rattle.dm_places.specs.Placed.{Placed, Mirrors}
 use Rattle.dm_places.proofs.Queues.{with_queue}
 use Rattle.dm_kernel.specs.declared.part.Part.TheVariants as part
@@ -33,9 +33,9 @@ use Rattle.dm_mirror.specs.Own.{AllOwnStand}
 use Rattle.dm_mirror.specs.Made.{MadeStands}
 use Rattle.dm_mirror.specs.Stands.{AreMessages, KernelStands}
 use Rattle.dm_mirror.proofs.Turning.{routed, rule_routed, are_still, IsSent}
-use Rattle.dm_mirror.proofs.KernelSets.{Leaves, is_queue_of, off_if, on_if, eq_self, queue_of_others, inbox_stands}
-use Rattle.dm_mirror.proofs.KernelGoes.{LivesHere, goes_stands}
-use Rattle.dm_mirror.proofs.ServeDrops.{AreAlone}
+use Rattle.dm_mirror.proofs.Kernel.Sets.{Leaves, is_queue_of, off_if, on_if, eq_self, queue_of_others, inbox_stands}
+use Rattle.dm_mirror.proofs.Kernel.Goes.{LivesHere, goes_stands}
+use Rattle.dm_mirror.proofs.Serve.Drops.{AreAlone}
 
 -- process p of machine m, as the machine has it, at a point behind the head of a turn
 pub record Served (b : Boot) (m : ℕ) (pt : Point) (l : Placed) (k : KernelState) (p : Pid) (x : Process) : Type 0 where

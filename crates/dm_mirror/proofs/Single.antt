@@ -24,7 +24,7 @@ use Rattle.dm_mirror.specs.Run.{joined, GoesOn, RunStands}
 use Rattle.dm_mirror.specs.Laws.{StepsStand}
 use Rattle.dm_mirror.specs.Ran.{ones, Ran, RanBegins, RanGoes, RanGoesOn, RunIsRan}
 use Rattle.dm_mirror.proofs.Behind.{behind, run_behind}
-use Rattle.dm_mirror.proofs.DeliverKeeps.{first_readable}
+use Rattle.dm_mirror.proofs.Deliver.Keeps.{first_readable}
 use Rattle.dm_mirror.proofs.Going.{leads_last, replays_last, run_last}
 use Rattle.dm_mirror.proofs.Machines.{machines_group}
 use Rattle.dm_mirror.proofs.May.{acts_start, acts_step}

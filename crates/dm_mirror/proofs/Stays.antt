@@ -26,7 +26,7 @@ use Rattle.dm_world.specs.World.{WorldState}
 use Rattle.dm_records.specs.Records.{incoming_of}
 use Rattle.dm_mirror.specs.Stands.{AreMessages, History, KernelStands, KnownStands, NodeStands, PairStands, RoomStands}
 use Rattle.dm_mirror.specs.Tokens.{AllRecords, Carries, TokensStand, destination_of}
-use Rattle.dm_rule.proofs.PairsStand.{two_of}
+use Rattle.dm_rule.proofs.Pairs.Stand.{two_of}
 use Rattle.dm_mirror.proofs.Streams.{Stays, pair_stays}
 
 -- a value that is set

@@ -15,7 +15,7 @@ use Rattle.dm_kernel.specs.State.{KernelState}
 use Rattle.dm_rule.specs.Point.{Point}
 use Rattle.dm_rule.specs.View.{Known, Unknown, Here, Frozen, Incoming, Forward, Ended}
 use Rattle.dm_rulelaws.specs.Found.{is_fixed}
-use Rattle.dm_rulelaws.proofs.OwnTold.{OwnTold}
+use Rattle.dm_rulelaws.proofs.Own.Told.{OwnTold}
 use Rattle.dm_rulelaws.proofs.Runs.{Run}
 use Rattle.dm_places.specs.Placed.{Placed, Mirrors}
 use Rattle.dm_places.proofs.Keeps.{parts}
@@ -23,14 +23,14 @@ use Rattle.dm_mirror.specs.Made.{MadeStands}
 use Rattle.dm_mirror.specs.Own.{AllOwnStand}
 use Rattle.dm_mirror.specs.Stands.{KernelStands}
 use Rattle.dm_mirror.specs.Tokens.{AllRecords, TokensStand}
-use Rattle.dm_mirror.proofs.ComeAll.{Around}
-use Rattle.dm_mirror.proofs.FollowFrames.{Fronts}
-use Rattle.dm_mirror.proofs.FollowFronts.{fronted}
-use Rattle.dm_mirror.proofs.FollowTurns.{apart_turn, front_known}
-use Rattle.dm_mirror.proofs.HandleBag.{BagFor, ForFixed, ForHere, ForEnded, bag_row}
+use Rattle.dm_mirror.proofs.Come.All.{Around}
+use Rattle.dm_mirror.proofs.Follow.Frames.{Fronts}
+use Rattle.dm_mirror.proofs.Follow.Fronts.{fronted}
+use Rattle.dm_mirror.proofs.Follow.Turns.{apart_turn, front_known}
+use Rattle.dm_mirror.proofs.Handle.Bag.{BagFor, ForFixed, ForHere, ForEnded, bag_row}
 use Rattle.dm_mirror.proofs.Heard.{heard_turn}
-use Rattle.dm_mirror.proofs.LeaveFronts.{heard}
-use Rattle.dm_mirror.proofs.RowTurns.{row_turns, serve_turns}
+use Rattle.dm_mirror.proofs.Leave.Fronts.{heard}
+use Rattle.dm_mirror.proofs.Row.Turns.{row_turns, serve_turns}
 use Rattle.dm_mirror.proofs.Turning.{TurnsAt}
 
 -- all that stands about machine m and its kernel

@@ -46,8 +46,8 @@ use Rattle.dm_mirror.specs.Stands.{CountsStand, History, StandsWith}
 use Rattle.dm_mirror.proofs.Turning.{Route, Late, Nothing, Leaves, Turns, late_parts, late_point, late_rule_parts, part_of, rule_part_of}
 use Rattle.dm_mirror.proofs.Stays.{at_again, at_here, at_other}
 use Rattle.dm_mirror.proofs.Puts.{stands_begins}
-use Rattle.dm_mirror.proofs.RouteLate.{late_pair}
-use Rattle.dm_mirror.proofs.RouteList.{AreLawful, IsLawfulLate, Going, RoutesOn, RoutesWorn, late_acting, late_count, late_kernel, routes_go}
+use Rattle.dm_mirror.proofs.Route.Late.{late_pair}
+use Rattle.dm_mirror.proofs.Route.List.{AreLawful, IsLawfulLate, Going, RoutesOn, RoutesWorn, late_acting, late_count, late_kernel, routes_go}
 use Rattle.dm_mirror.proofs.Saying.{acts_say, says_rest, says_sane, spoken_says, worn_behind}
 use Rattle.dm_mirror.proofs.Others.{MadeHere}
 use Rattle.dm_mirror.proofs.Join.{turned_here, turned_records, turned_stands, with_kernel, with_turned}

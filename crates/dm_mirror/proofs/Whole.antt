@@ -8,9 +8,9 @@ use Rattle.dm_schedule.specs.declared.Step.TheVariants as step
 use Rattle.dm_line.specs.declared.line.Line.TheVariants as line
 use Rattle.dm_rule.specs.Point.{Point, moved}
 use Rattle.dm_rule.specs.View.{NothingElse, Target}
-use Rattle.dm_rulelaws.proofs.GoesAlways.{goes_on}
-use Rattle.dm_rulelaws.proofs.GoesRuns.{RunGoes}
-use Rattle.dm_rulelaws.proofs.OwnTold.{OwnTold}
+use Rattle.dm_rulelaws.proofs.Goes.Always.{goes_on}
+use Rattle.dm_rulelaws.proofs.Goes.Runs.{RunGoes}
+use Rattle.dm_rulelaws.proofs.Own.Told.{OwnTold}
 use Rattle.dm_rulelaws.proofs.Runs.{Run}
 use Rattle.dm_places.specs.Placed.{Placed}
 use Rattle.dm_kernel.specs.declared.part.Part.TheVariants as part

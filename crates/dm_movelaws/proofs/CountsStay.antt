@@ -21,7 +21,7 @@ use Rattle.dm_rule.specs.View as view
 use Rattle.dm_movelaws.specs.Counts.{is_owned, gives_to, is_filled, in_next, refilled, CountsStay, CountsKept}
 use Rattle.dm_movelaws.specs.Updates.{Updated}
 use Rattle.dm_movelaws.proofs.After.{group_after}
-use Rattle.dm_movelaws.proofs.UpdatesAlways.{updates_always}
+use Rattle.dm_movelaws.proofs.Updates.Always.{updates_always}
 
 abbrev count_of : Addresses → Holder → ℕ
 count_of a h = (a h).moves

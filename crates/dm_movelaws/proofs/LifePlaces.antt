@@ -23,7 +23,7 @@ use Rattle.dm_rule.specs.Point.{Point}
 use Rattle.dm_rule.specs.View.{View, Known, Unknown, Here, Frozen, Incoming, Forward}
 use Rattle.dm_rule.specs.View as view
 use Rattle.dm_rulelaws.specs.KnownStands.{agrees}
-use Rattle.dm_rulelaws.proofs.BasedRows.{living}
+use Rattle.dm_rulelaws.proofs.Based.Rows.{living}
 use Rattle.dm_rulelaws.proofs.Runs.{Run}
 use Rattle.dm_movelaws.specs.LifeLines.{stands_by, IsPlace}
 

@@ -6,7 +6,7 @@ use Rattle.dm_message.specs.declared.MsgId.{MsgId}
 use Rattle.dm_message.specs.declared.kind.MessageKind.{MessageKind}
 use Rattle.dm_rule.specs.Phases.{Moves, IsIn, told_between}
 use Rattle.dm_rule.specs.View.{View, Told}
-use Rattle.dm_rule.proofs.PhasesStand.{token_is}
+use Rattle.dm_rule.proofs.Phases.Stand.{token_is}
 use Rattle.dm_rulelaws.proofs.RunsAlways.{run_always}
 use Rattle.dm_movelaws.specs.Protocol.{ProtocolMoves}
 

@@ -9,10 +9,10 @@ ghost use Rattle.dm_node.specs.Meets.{Gave, HasStreams, state_of};
 use crate::node::Node;
 use crate::out::Out;
 use crate::route::push;
+use dm_line::line::Line;
 use dm_memory::NoMemory;
 use dm_message::Message;
 use dm_packet::Packet;
-use dm_line::line::Line;
 use dm_stream::Arrived;
 
 /// At most so many messages are taken or let go at once.

@@ -15,8 +15,10 @@ ghost use Rattle.dm_node.specs.State.{NodeState, here};
 
 /// Each packet that a machine sends can be encoded, and goes from this machine to another.
 pub fn events_send_lawfully()
-    ensures turns { (b : Boot) (n : NodeState) (a : Acted) → images_are_valid b.images ≡ true → MayTurn b n → IsLawfulState n.kernel → turn b n ≡ Some (Goes a) → ActsLawfully (here n) a }
-    ensures asks { (n : NodeState) (p : Pid) (machine : ℕ) (a : Acted) → IsMachine machine → MayAskMove n → IsLawfulState n.kernel → asks_move n p machine ≡ Some (Goes a) → ActsLawfully (here n) a }
+    ensures turns { (b : Boot) (n : NodeState) (a : Acted) → images_are_valid b.images ≡ true → MayTurn b n → IsLawfulState n.kernel → turn b n ≡
+        Some (Goes a) → ActsLawfully (here n) a }
+    ensures asks { (n : NodeState) (p : Pid) (machine : ℕ) (a : Acted) → IsMachine machine → MayAskMove n → IsLawfulState n.kernel →
+        asks_move n p machine ≡ Some (Goes a) → ActsLawfully (here n) a }
     ensures ticks { (n : NodeState) → MayAct n → ActsLawfully (here n) (tick n) }
     ensures arrivals { (n : NodeState) (from : ℕ) (carried : Load Message) → MayArrive n from carried → ActsLawfully (here n) (arrives n from carried) }
 {}

@@ -8,9 +8,9 @@ ghost use Rattle.dm_node.specs.Out.{Goes};
 use crate::node::Node;
 use crate::out::Out;
 use crate::stop::Stop;
+use dm_line::line::Line;
 use dm_memory::NoMemory;
 use dm_message::Message;
-use dm_line::line::Line;
 
 impl Node {
     /// Routes a message to the machine that its receiver's address names.
@@ -67,7 +67,8 @@ impl Node {
     fn route_away(&mut self, message: Message, outs: &mut Vec<Out>) -> Result<(), Stop>
         requires streams { HasStreams self.old }
         requires to { message.to.at < 16 }
-        ensures { Answers result self.new outs.old.items outs.new.items (routes_away (state_of self.old) message.to.at message ((state_of self.old).senders message.to.at)) }
+        ensures { Answers result self.new outs.old.items outs.new.items
+            (routes_away (state_of self.old) message.to.at message ((state_of self.old).senders message.to.at)) }
     {
         let to = message.to.at;
         let at_once = self.none_waits(to);

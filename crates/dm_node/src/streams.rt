@@ -117,7 +117,8 @@ pub fn arrive(
     requires in_window { seq < (receiver_of receivers.old from).count + 8 }
     requires numbered { seq < 2 ^ 32 - 1 }
     ensures value { result ≡ arrival (receiver_of receivers.old from) seq message }
-    ensures after { (c : ℕ) → receiver_of receivers.new c ≡ at_machine (receiver_of receivers.old) from (after_arrival (receiver_of receivers.old from) seq message) c }
+    ensures after { (c : ℕ) → receiver_of receivers.new c ≡
+        at_machine (receiver_of receivers.old) from (after_arrival (receiver_of receivers.old from) seq message) c }
     ensures length { length receivers.new ≡ length receivers.old }
 {
     receivers[usize::from(from)].arrive(seq, message)

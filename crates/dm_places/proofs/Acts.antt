@@ -37,9 +37,9 @@ use Rattle.dm_laws.proofs.Steps.{bind-is, when-is}
 use Rattle.dm_rule.specs.View.{View}
 use Rattle.dm_rule.specs.Addresses as addresses
 use Rattle.dm_rule.specs.Addresses.{Addresses, Gets, given, gives, made, sends_what}
-use Rattle.dm_rule.proofs.HomesSlots.{past_call}
-use Rattle.dm_rule.proofs.HomesCalls.{gives_by}
-use Rattle.dm_rule.proofs.HomesSteps.{made_is, gives_same, only_gives_by}
+use Rattle.dm_rule.proofs.Homes.Slots.{past_call}
+use Rattle.dm_rule.proofs.Homes.Calls.{gives_by}
+use Rattle.dm_rule.proofs.Homes.Steps.{made_is, gives_same, only_gives_by}
 use Rattle.dm_places.specs.Placed.{Placed, Mirrors, MirrorsKernel, MirrorsProcess}
 use Rattle.dm_places.specs.PlacedStep.{Acted, acted, acts, after_call, after_done, if_ready, machine_of, ran, running, with_acted, with_machine, with_process, with_sent}
 use Rattle.dm_places.proofs.Keeps.{alive_of, goes_mirrors, ends_mirrors, kernel_process, kernel_sent, places_process, places_sends, this_process}

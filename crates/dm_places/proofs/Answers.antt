@@ -24,7 +24,7 @@ use Rattle.dm_laws.proofs.Equal.{id_eq-same}
 use Rattle.dm_laws.proofs.Steps.{bind-is, when-is}
 use Rattle.dm_rule.specs.View.{View}
 use Rattle.dm_rule.specs.Addresses.{Addresses, answers, given, gives, Receiver, Sender, unmoved}
-use Rattle.dm_rule.proofs.HomesServes.{two, two_process, two_servers, two_off}
+use Rattle.dm_rule.proofs.Homes.Serves.{two, two_process, two_servers, two_off}
 use Rattle.dm_places.specs.Placed.{Placed, Mirrors, MirrorsMessage, enclosed}
 use Rattle.dm_places.specs.PlacedStep.{with_sent, without_message}
 use Rattle.dm_places.proofs.Keeps.{kernel_sent, out_mirrors, parts, places_sent, there_of}

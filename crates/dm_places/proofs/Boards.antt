@@ -31,9 +31,9 @@ use Rattle.dm_switchboard.proofs.Plain.{plain_answer, plain_asks, plain_asked, p
 use Rattle.dm_laws.proofs.Equal.{id_eq-same}
 use Rattle.dm_rule.specs.View.{View}
 use Rattle.dm_rule.specs.Addresses.{Addresses, gets, given, Receiver, Sender, Enclosed, Child, Name, Answer, unmoved, place_named, board_asks, board_finds, board_keeps, board_takes}
-use Rattle.dm_rule.proofs.HomesRows.{SameProcess, SameMessage}
-use Rattle.dm_rule.proofs.HomesServes.{two, two_off}
-use Rattle.dm_rule.proofs.HomesServers.{get_last}
+use Rattle.dm_rule.proofs.Homes.Rows.{SameProcess, SameMessage}
+use Rattle.dm_rule.proofs.Homes.Serves.{two, two_off}
+use Rattle.dm_rule.proofs.Homes.Servers.{get_last}
 use Rattle.dm_places.specs.Placed.{Placed, Mirrors, MirrorsKernel, MirrorsMessage, enclosed}
 use Rattle.dm_places.specs.PlacedStep.{board_took, without_message}
 use Rattle.dm_places.proofs.Keeps.{came_places, kernel_out, kernel_sent, out_mirrors, places_out, process_same}

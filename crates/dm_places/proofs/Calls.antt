@@ -40,9 +40,9 @@ use Rattle.dm_syscall.proofs.PlainCalls.{first_of, slot_at}
 use Rattle.dm_laws.proofs.Equal.{pid_eq-same, id_eq-same}
 use Rattle.dm_rule.specs.View.{View}
 use Rattle.dm_rule.specs.Addresses.{Addresses, Gets, gets, given, Slot, Owner, Receiver, Sender, here, encloses, fills, fills_by, sends_what}
-use Rattle.dm_rule.proofs.HomesSlots.{set_link, emptied_link}
-use Rattle.dm_rule.proofs.HomesRows.{SameProcess, SameMessage, SameServers, encloses_servers, encloses_process, encloses_message, encloses_at}
-use Rattle.dm_rule.proofs.HomesCalls.{gives_by, no_gives, or-left, or-right}
+use Rattle.dm_rule.proofs.Homes.Slots.{set_link, emptied_link}
+use Rattle.dm_rule.proofs.Homes.Rows.{SameProcess, SameMessage, SameServers, encloses_servers, encloses_process, encloses_message, encloses_at}
+use Rattle.dm_rule.proofs.Homes.Calls.{gives_by, no_gives, or-left, or-right}
 use Rattle.dm_places.specs.Placed.{MirrorsProcess, MirrorsMessage, enclosed, owner_at}
 
 -- the process behind its call

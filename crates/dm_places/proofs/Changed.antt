@@ -16,8 +16,8 @@ use Rattle.dm_onekernel.specs.Options.{bind}
 use Rattle.dm_laws.proofs.Equal.{id_eq-is, id_eq-same}
 use Rattle.dm_rule.specs.View.{View}
 use Rattle.dm_rule.specs.Addresses.{Addresses, Receiver, gets, given}
-use Rattle.dm_rule.proofs.HomesRows.{SameMessage, SameProcess, SameServers}
-use Rattle.dm_rule.proofs.HomesServes.{two, two_off, two_process}
+use Rattle.dm_rule.proofs.Homes.Rows.{SameMessage, SameProcess, SameServers}
+use Rattle.dm_rule.proofs.Homes.Serves.{two, two_off, two_process}
 use Rattle.dm_places.specs.Placed.{Placed, Mirrors, MirrorsKernel, MirrorsMessage, MirrorsPlaces}
 use Rattle.dm_places.specs.PlacedStep.{with_message, without_message}
 use Rattle.dm_places.proofs.Keeps.{message_same, places_out, process_same}

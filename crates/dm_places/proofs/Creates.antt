@@ -35,7 +35,7 @@ use Rattle.dm_laws.proofs.Steps.{bind-is, when-is}
 use Rattle.dm_rule.specs.View.{View}
 use Rattle.dm_rule.specs.Addresses as addresses
 use Rattle.dm_rule.specs.Addresses.{Addresses, Gets, Sender, answers, child_links, given, gives, unmoved}
-use Rattle.dm_rule.proofs.HomesServes.{two, child_at, only_child}
+use Rattle.dm_rule.proofs.Homes.Serves.{two, child_at, only_child}
 use Rattle.dm_places.specs.Placed.{Placed, Mirrors, MirrorsMessage, MirrorsProcess, enclosed}
 use Rattle.dm_places.specs.PlacedStep as placed
 use Rattle.dm_places.specs.PlacedStep.{with_child, with_sent, without_message}

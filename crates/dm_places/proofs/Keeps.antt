@@ -22,7 +22,7 @@ use Rattle.dm_laws.proofs.Equal.{pid_eq-is, id_eq-is}
 use Rattle.dm_laws.proofs.Steps.{bind-is}
 use Rattle.dm_rule.specs.View.{View}
 use Rattle.dm_rule.specs.Addresses.{Addresses}
-use Rattle.dm_rule.proofs.HomesRows.{SameProcess, SameMessage, SameServers}
+use Rattle.dm_rule.proofs.Homes.Rows.{SameProcess, SameMessage, SameServers}
 use Rattle.dm_places.specs.Placed.{Placed, Mirrors, MirrorsKernel, MirrorsMessage, MirrorsPlaces, MirrorsProcess}
 use Rattle.dm_places.specs.PlacedStep.{with_message, with_process, with_sent, without_message}
 

@@ -32,9 +32,9 @@ use Rattle.dm_laws.proofs.Equal.{id_eq-same}
 use Rattle.dm_rule.specs.View.{View}
 use Rattle.dm_rule.specs.Addresses.{Addresses, gets, given, Receiver, Sender, Enclosed, Child, Answer, unmoved, encloses, enclosed_from, manager_sends}
 use Rattle.dm_rule.specs.Homes.{ascends}
-use Rattle.dm_rule.proofs.HomesRows.{encloses_servers, encloses_process, encloses_message, encloses_at}
-use Rattle.dm_rule.proofs.HomesServes.{two}
-use Rattle.dm_rule.proofs.HomesManager.{enclosed_at}
+use Rattle.dm_rule.proofs.Homes.Rows.{encloses_servers, encloses_process, encloses_message, encloses_at}
+use Rattle.dm_rule.proofs.Homes.Serves.{two}
+use Rattle.dm_rule.proofs.Homes.Manager.{enclosed_at}
 use Rattle.dm_places.specs.Placed.{Placed, Mirrors, MirrorsKernel, enclosed}
 use Rattle.dm_places.specs.PlacedStep.{manager_took, without_message}
 use Rattle.dm_places.proofs.Keeps.{came_places, kernel_out, kernel_sent, places_out, process_same}

@@ -33,8 +33,8 @@ use Rattle.dm_line.specs.Sets.{at_machine}
 use Rattle.dm_rule.specs.View.{Told, View, is_own, own_id, view_after}
 use Rattle.dm_rule.specs.Addresses.{Addresses, Child, Gets, Receiver, Sender, child_from, child_number, first_gives, given, own_gives, place_of_child, unmoved}
 use Rattle.dm_rule.specs.Point.{Point, moved}
-use Rattle.dm_rule.proofs.HomesRows.{SameMessage, SameProcess, SameServers}
-use Rattle.dm_rule.proofs.HomesServes.{two, two_off, two_process, two_servers}
+use Rattle.dm_rule.proofs.Homes.Rows.{SameMessage, SameProcess, SameServers}
+use Rattle.dm_rule.proofs.Homes.Serves.{two, two_off, two_process, two_servers}
 use Rattle.dm_places.specs.Placed.{Placed, Mirrors, MirrorsMessage, enclosed}
 use Rattle.dm_places.specs.Following.{MirrorsPoint}
 use Rattle.dm_places.specs.PlacedStep.{with_message}

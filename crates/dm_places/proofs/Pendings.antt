@@ -15,7 +15,7 @@ use Rattle.dm_procman.specs.Taking.{child_numbered, pending_numbered, without_pe
 use Rattle.dm_procman.proofs.Plain.{plain_pending_numbered}
 use Rattle.dm_rule.specs.Addresses.{Addresses, gets, given, Child, unmoved}
 use Rattle.dm_rule.specs.Homes.{ascends}
-use Rattle.dm_rule.proofs.HomesServers.{and-both, get_last, numbered_from}
+use Rattle.dm_rule.proofs.Homes.Servers.{and-both, get_last, numbered_from}
 
 pub numbered_below : (ps : List Pending) (from to n : ℕ) (r : Pending) → ascends from (map plain_pending ps) to ≡ true → pending_numbered n ps ≡ Some r → (nat_le from n ≡ true) × (nat_lt n to ≡ true)
 numbered_below ps from to n r e f = numbered_from (map plain_pending ps) from to n (plain_pending r) e (plain_pending_numbered n ps ∙ ap (option_map plain_pending) f)

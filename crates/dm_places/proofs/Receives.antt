@@ -42,8 +42,8 @@ use Rattle.dm_laws.proofs.Steps.{bind-is, when-is}
 use Rattle.dm_rule.specs.View.{View}
 use Rattle.dm_rule.specs.Addresses as addresses
 use Rattle.dm_rule.specs.Addresses.{Addresses, Gets, given, gives, Slot, Enclosed, fills, receives_links, receives_what, slot_after}
-use Rattle.dm_rule.proofs.HomesReceives.{set_at, set_off, is_empty, only_receives}
-use Rattle.dm_rule.proofs.HomesSteps.{OnlySlots}
+use Rattle.dm_rule.proofs.Homes.Receives.{set_at, set_off, is_empty, only_receives}
+use Rattle.dm_rule.proofs.Homes.Steps.{OnlySlots}
 use Rattle.dm_places.specs.Placed.{Placed, Mirrors, MirrorsProcess, enclosed}
 use Rattle.dm_places.specs.PlacedStep as placed
 use Rattle.dm_places.specs.PlacedStep.{with_process, without_message}

@@ -42,7 +42,7 @@ use Rattle.dm_laws.proofs.Steps.{bind-is}
 use Rattle.dm_rule.specs.View.{View}
 use Rattle.dm_rule.specs.Addresses as addresses
 use Rattle.dm_rule.specs.Addresses.{Addresses, Gets, answers, given, gives, here, lands, serves_what, Owner}
-use Rattle.dm_rule.proofs.HomesServes.{two, gone_lands, nothing_lands}
+use Rattle.dm_rule.proofs.Homes.Serves.{two, gone_lands, nothing_lands}
 use Rattle.dm_places.specs.Placed.{Placed, Mirrors, MirrorsMessage, MirrorsProcess, enclosed, owner_at}
 use Rattle.dm_places.specs.PlacedStep as placed
 use Rattle.dm_places.specs.PlacedStep.{after_landing, with_process, with_sent, without_message}

@@ -37,7 +37,7 @@ use Rattle.dm_laws.proofs.Steps.{bind-is}
 use Rattle.dm_rule.specs.View.{View}
 use Rattle.dm_rule.specs.Addresses as addresses
 use Rattle.dm_rule.specs.Addresses.{Addresses, Gets, gets, given, gives, Receiver, Sender, Enclosed, Child, Name, Answer, unmoved, board_takes, manager_answers, manager_sends, manager_takes}
-use Rattle.dm_rule.proofs.HomesRows.{SameProcess, SameMessage}
+use Rattle.dm_rule.proofs.Homes.Rows.{SameProcess, SameMessage}
 use Rattle.dm_places.specs.Placed.{Placed, Mirrors, MirrorsKernel, MirrorsMessage, enclosed}
 use Rattle.dm_places.specs.PlacedStep as placed
 use Rattle.dm_places.specs.PlacedStep.{board_took, manager_took, without_message}

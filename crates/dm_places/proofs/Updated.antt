@@ -39,7 +39,7 @@ use Rattle.dm_rule.specs.View.{About, Told, View, view_after}
 use Rattle.dm_rule.specs.Addresses as addresses
 use Rattle.dm_rule.specs.Addresses.{Addresses, Answer, Child, Holder, Name, Owner, Slot, answer_link, belongs_to, is_pid, leads_to, link_to, name_link, owner_in, owner_of, place_told, slot_of, updated, updated_to}
 use Rattle.dm_rule.specs.Point.{Point, moved}
-use Rattle.dm_rule.proofs.HomesRows.{SameMessage, SameProcess}
+use Rattle.dm_rule.proofs.Homes.Rows.{SameMessage, SameProcess}
 use Rattle.dm_places.specs.Placed.{Placed, Mirrors, MirrorsProcess, owner_at}
 use Rattle.dm_places.specs.Following.{MirrorsPoint}
 use Rattle.dm_places.specs.PlacedStep.{with_process}

@@ -28,7 +28,7 @@ use Rattle.dm_rule.specs.Addresses as addresses
 use Rattle.dm_rule.specs.Addresses.{Addresses, Answer, Child, Holder, Name, Slot, belongs_to, is_pid, leads_to, place_told}
 use Rattle.dm_rule.specs.Homes.{ascends}
 use Rattle.dm_rule.specs.Migrating.{answers_in, behind_among, behind_count, holders_of, numbered, slots_from, slots_in}
-use Rattle.dm_rule.proofs.HomesServers.{and-both}
+use Rattle.dm_rule.proofs.Homes.Servers.{and-both}
 use Rattle.dm_places.specs.Placed.{Placed, Mirrors}
 use Rattle.dm_places.proofs.Updated.{alive_is, answer_leads, behind_led, child_leads, name_leads, slot_leads}
 

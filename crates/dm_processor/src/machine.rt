@@ -77,7 +77,8 @@ fn is_below(value: u32, other: u32) -> bool
 /// Performs an instruction of an operation.
 fn execute<C: Cells>(op: Opcode, operands: Operands, regs: &mut Regs, cells: &mut C) -> Stepped
     requires { names_registers (register_fields op) operands.a operands.b operands.c ≡ true }
-    ensures row { DoesRow result regs.new (C.bytes cells.new) (effect op regs.old (C.bytes cells.old) operands.a operands.b operands.c) regs.old (C.bytes cells.old) }
+    ensures row { DoesRow result regs.new (C.bytes cells.new) (effect op regs.old (C.bytes cells.old) operands.a operands.b operands.c) regs.old
+        (C.bytes cells.old) }
 {
     let Operands { a, b, c } = operands;
     match op {
@@ -109,7 +110,8 @@ fn execute<C: Cells>(op: Opcode, operands: Operands, regs: &mut Regs, cells: &mu
 
 /// Performs an instruction, if it is one.
 fn perform<C: Cells>(code: u8, operands: Operands, regs: &mut Regs, cells: &mut C) -> Stepped
-    ensures row { DoesRow result regs.new (C.bytes cells.new) (operation_row (opcode_of code) regs.old (C.bytes cells.old) operands.a operands.b operands.c) regs.old (C.bytes cells.old) }
+    ensures row { DoesRow result regs.new (C.bytes cells.new)
+        (operation_row (opcode_of code) regs.old (C.bytes cells.old) operands.a operands.b operands.c) regs.old (C.bytes cells.old) }
 {
     match Opcode::from_code(code) {
         Some(op) if fits(op, operands) => execute(op, operands, regs, cells),

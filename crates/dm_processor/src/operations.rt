@@ -94,7 +94,8 @@ pub fn load_word<C: Cells>(regs: &mut Regs, cells: &C, field: u8, at: u64) -> St
 pub fn store_word<C: Cells>(regs: &mut Regs, cells: &mut C, field: u8, at: u64) -> Stepped
     requires register { field < 16 }
     requires place { at < 2 ^ 33 }
-    ensures row { let m = C.bytes cells.old in DoesRow result regs.new (C.bytes cells.new) (word_row m at (Plain (past regs.old) (with_word m at (reg regs.old field)))) regs.old m }
+    ensures row { let m = C.bytes cells.old in DoesRow result regs.new (C.bytes cells.new)
+        (word_row m at (Plain (past regs.old) (with_word m at (reg regs.old field)))) regs.old m }
 {
     match word_address(cells, at) {
         Ok(at) => {
@@ -119,7 +120,8 @@ pub fn load_byte<C: Cells>(regs: &mut Regs, cells: &C, field: u8, at: u64) -> St
 /// Stores the lowest byte of a register.
 pub fn store_byte<C: Cells>(regs: &mut Regs, cells: &mut C, field: u8, at: u64) -> Stepped
     requires { field < 16 }
-    ensures row { let m = C.bytes cells.old in DoesRow result regs.new (C.bytes cells.new) (byte_row m at (Plain (past regs.old) (slice_set m at (reg regs.old field % 256)))) regs.old m }
+    ensures row { let m = C.bytes cells.old in DoesRow result regs.new (C.bytes cells.new)
+        (byte_row m at (Plain (past regs.old) (slice_set m at (reg regs.old field % 256)))) regs.old m }
 {
     match byte_address(cells, at) {
         Ok(at) => {

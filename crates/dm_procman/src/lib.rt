@@ -158,7 +158,8 @@ impl ProcMan {
         requires pending { IsSome (pending_numbered number self.old.pending) }
         requires counts { self.old.sent < 4294967295 }
         requires children { length self.old.children < 4294967295 }
-        ensures exact { IfOk result (λ sent. takes_created self.old number pid (pending_numbered number self.old.pending) ≡ Some (record { manager = self.new; message = sent })) }
+        ensures exact { IfOk result (λ sent. takes_created self.old number pid (pending_numbered number self.old.pending) ≡
+            Some (record { manager = self.new; message = sent })) }
         ensures err { OnErr result (self.new ≡ self.old) }
     {
         self.children.push(Addr {

@@ -44,7 +44,7 @@ use Rattle.dm_rule.specs.Migrating.{migrates}
 use Rattle.dm_rule.specs.Spots.{StandsAsBag, StandsOutside, StandsRight}
 use Rattle.dm_rule.specs.View.{is_kernels}
 use Rattle.dm_rule.proofs.Letters.{letters, letter_of}
-use Rattle.dm_rule.proofs.MovesRows.{migrates_row}
+use Rattle.dm_rule.proofs.Moves.Rows.{migrates_row}
 
 eq_num : (m n : ℕ) → (m == n) ≡ true → m ≡ n
 eq_num m n e = grind (arith, nat_tests)

@@ -47,7 +47,7 @@ use Rattle.dm_rule.proofs.Bags.{BagStep}
 use Rattle.dm_rule.proofs.Turns.{served_keeps, serving_off, created_off, quiet_label, front_label, dropped_off, dropped_told, front_unqueued, all_dropped, ended_off, gone_out}
 use Rattle.dm_rule.proofs.Letters.{letters, letter_of}
 use Rattle.dm_rule.proofs.Said.{fits_as, one_line, line_and_route}
-use Rattle.dm_rule.proofs.MovesRows.{held_row, forwards_row, hears_row, SeesSame}
+use Rattle.dm_rule.proofs.Moves.Rows.{held_row, forwards_row, hears_row, SeesSame}
 use Rattle.dm_message.specs.Kinds.{plain_kind}
 use Rattle.dm_processor.specs.Instructions.{instruction}
 

@@ -1,4 +1,19 @@
 -- The places of all addresses, one kind of holder after the other.
+pub mod Slots
+pub mod Start
+pub mod Rows
+pub mod Calls
+pub mod Steps
+pub mod Receives
+pub mod Serves
+pub mod Servers
+pub mod Manager
+pub mod Labels
+pub mod Lists
+pub mod Lines
+pub mod Parts
+pub mod Groups
+pub mod Turns
 use Rattle.std.proofs.Common.{◌≡◌, ℕ, true, refl, ap, ◌∙◌, sym, subst}
 use Rattle.std.specs.Prelude.{slice_get}
 use Rattle.std.specs.declared.option.Option.{Option}

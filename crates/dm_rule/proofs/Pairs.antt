@@ -1,4 +1,10 @@
 -- The pairs of machines stand, wherever the rule leads.
+pub mod Stand
+pub mod Moves
+pub mod Lines
+pub mod Migrating
+pub mod Turns
+pub mod Comes
 use Rattle.std.proofs.Common.{◌≡◌, ℕ, ◌≤◌, ◌==◌, ◌&&◌, Bool, true, false, List, [], ◌∷◌, refl, ap, ◌∙◌, sym, subst, arith}
 use Rattle.std.specs.Prelude.{◌≢◌, slice_get}
 use Rattle.std.specs.declared.option.Option.TheVariants.{Some}
@@ -16,12 +22,12 @@ use Rattle.dm_rule.specs.Parts.{Part, Says, Spelled, spelled}
 use Rattle.dm_rule.specs.Rule.{outstanding, resends, arrives, outcome, headed, group_of}
 use Rattle.dm_rule.specs.Pairs.{PairStands, HomeStands}
 use Rattle.dm_rule.specs.Laws.{IsStep, Leads, PairsStandAlways}
-use Rattle.dm_rule.proofs.PairsStand.{LoadStands, WireStands-at, set_same, set_other}
-use Rattle.dm_rule.proofs.PairsMoves.{Paired, marked_goes}
-use Rattle.dm_rule.proofs.PairsLines.{bind-is, line_view, AllFit, keeps}
-use Rattle.dm_rule.proofs.PairsTurns.{turns_fit, resends_fit}
-use Rattle.dm_rule.proofs.PairsComes.{arrives_keep}
-use Rattle.dm_rule.proofs.PairsMigrating.{migrates_fit}
+use Rattle.dm_rule.proofs.Pairs.Stand.{LoadStands, WireStands-at, set_same, set_other}
+use Rattle.dm_rule.proofs.Pairs.Moves.{Paired, marked_goes}
+use Rattle.dm_rule.proofs.Pairs.Lines.{bind-is, line_view, AllFit, keeps}
+use Rattle.dm_rule.proofs.Pairs.Turns.{turns_fit, resends_fit}
+use Rattle.dm_rule.proofs.Pairs.Comes.{arrives_keep}
+use Rattle.dm_rule.proofs.Pairs.Migrating.{migrates_fit}
 use Rattle.dm_rule.specs.Migrating.{migrates}
 use Rattle.dm_link.specs.declared.Pid.{Pid}
 

@@ -39,7 +39,7 @@ use Rattle.dm_laws.proofs.Runs.{after_step, start-sound}
 use Rattle.dm_rule.proofs.Letters.{not_kernels}
 use Rattle.dm_rule.proofs.Hushed.{is_put, hushed}
 use Rattle.dm_rule.proofs.States.{put_told_off, numbered_as, numbered_put}
-use Rattle.dm_rule.proofs.MovesStates.{not_first, own_numbered}
+use Rattle.dm_rule.proofs.Moves.States.{not_first, own_numbered}
 use Rattle.dm_line.specs.Sets.{at_machine}
 use Rattle.dm_link.specs.Names.{pid_of}
 use Rattle.dm_message.specs.Ids.{id_of}
@@ -47,9 +47,9 @@ use Rattle.std.specs.Prelude.{slice_get}
 use Rattle.std.proofs.Common.{zero, suc, ◌⊎◌}
 use Rattle.dm_rule.specs.Rule as rule
 use Rattle.dm_rule.specs.Migrating.{migrates}
-use Rattle.dm_rule.proofs.PairsLines.{touches, AllFit}
-use Rattle.dm_rule.proofs.PairsTurns.{turns_fit}
-use Rattle.dm_rule.proofs.PairsMigrating.{migrates_fit}
+use Rattle.dm_rule.proofs.Pairs.Lines.{touches, AllFit}
+use Rattle.dm_rule.proofs.Pairs.Turns.{turns_fit}
+use Rattle.dm_rule.proofs.Pairs.Migrating.{migrates_fit}
 use Rattle.dm_rule.proofs.Groups.{IsNetLine, IsNet, arrives_net, resends_net, group_is}
 
 -- a kernel's own numbers from its count on were never put

@@ -22,7 +22,7 @@ use Rattle.dm_rule.specs.Rule.{group_of, outcome, headed}
 use Rattle.dm_rule.specs.Laws.{Leads}
 use Rattle.dm_rulelaws.specs.Fits.{KernelFits}
 use Rattle.dm_rulelaws.specs.Laws.{FitsAlways}
-use Rattle.dm_rulelaws.proofs.FitsStart.{fits_step, start_fits}
+use Rattle.dm_rulelaws.proofs.Fits.Start.{fits_step, start_fits}
 
 -- one line
 line_replay : (o : Option Label) (ls : List Label) (s t u : OneKernel) → kernel_after s o ≡ Some t → replay t ls ≡ Some u → replay s (with_label o ls) ≡ Some u

@@ -8,12 +8,12 @@ use Rattle.dm_rule.specs.Homes.{ascends}
 use Rattle.dm_rule.specs.Point.{Point}
 use Rattle.dm_rule.specs.Spots.{times}
 use Rattle.dm_rule.specs.View.{Told}
-use Rattle.dm_rule.proofs.PhasesAlways.{Phased}
+use Rattle.dm_rule.proofs.Phases.Always.{Phased}
 use Rattle.dm_rulelaws.specs.Fits.{KernelFits}
 use Rattle.dm_rulelaws.specs.Found.{Found, ListsStand}
 use Rattle.dm_rulelaws.specs.KnownStands.{KnownStands}
 use Rattle.dm_rulelaws.proofs.Queued.{IsQueued}
-use Rattle.dm_rulelaws.proofs.FoundAlways.{FoundBy}
+use Rattle.dm_rulelaws.proofs.Found.Always.{FoundBy}
 
 -- what the kernel without machines and the lines say of processes and of what waits for them
 pub record Based (b : Boot) (pt : Point) : Type 0 where

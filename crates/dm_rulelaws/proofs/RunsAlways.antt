@@ -7,10 +7,10 @@ use Rattle.dm_rule.specs.Laws.{Leads}
 use Rattle.dm_rule.specs.Point.{Point, first_point}
 use Rattle.dm_rulelaws.specs.Laws.{FoundAlways, GoesOnAlways, KnownAlways}
 use Rattle.dm_rulelaws.specs.Order.{ReceivesInOrder}
-use Rattle.dm_rulelaws.proofs.BasedAlways.{based_start, based_group}
-use Rattle.dm_rulelaws.proofs.FoundAlways.{FoundBy, found_start, found_group, found_of}
-use Rattle.dm_rulelaws.proofs.GoesRuns.{Both, RunStarts, RunGoes, both_always, goes_on_by, known_by}
-use Rattle.dm_rulelaws.proofs.OrderAlways.{receives_in_order_by}
+use Rattle.dm_rulelaws.proofs.Based.Always.{based_start, based_group}
+use Rattle.dm_rulelaws.proofs.Found.Always.{FoundBy, found_start, found_group, found_of}
+use Rattle.dm_rulelaws.proofs.Goes.Runs.{Both, RunStarts, RunGoes, both_always, goes_on_by, known_by}
+use Rattle.dm_rulelaws.proofs.Order.Always.{receives_in_order_by}
 use Rattle.dm_rulelaws.proofs.Runs.{Based, Run}
 
 run_by : (b : Boot) (pt : Point) → Based b pt → FoundBy pt → Run b pt

@@ -1,4 +1,8 @@
 -- Each living process has as many link slots as the format gives, and each message of the bag encloses at most four links.
+pub mod Calls
+pub mod Steps
+pub mod Servers
+pub mod Always
 use Rattle.std.proofs.Common.{◌≡◌, ◌≤◌, Bool, length, ap, ◌∙◌, sym, subst, inl, inr}
 use Rattle.std.specs.Prelude.{⊤, if◌then◌else◌}
 use Rattle.std.specs.declared.option.Option.TheVariants.{Some}

@@ -18,7 +18,7 @@ use Rattle.dm_rule.specs.Rule as rule
 use Rattle.dm_rule.specs.Rule.{group_of}
 use Rattle.dm_rule.specs.View.{View, Pair, Sent, view_after, after_head, after_packet, marked, marked_at, gone_after, at_least}
 use Rattle.dm_rule.proofs.Groups.{IsNetLine, group_is}
-use Rattle.dm_rule.proofs.PairsLines.{onward, says_view, transmits_view}
+use Rattle.dm_rule.proofs.Pairs.Lines.{onward, says_view, transmits_view}
 use Rattle.dm_rule.proofs.States.{said}
 use Rattle.dm_runlaws.proofs.Wires.{set_keeps, taken_keeps}
 

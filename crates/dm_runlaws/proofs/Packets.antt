@@ -23,7 +23,7 @@ use Rattle.dm_laws.proofs.Steps.{bind-is}
 use Rattle.dm_rule.specs.Laws.{IsStep}
 use Rattle.dm_rule.specs.Point.{Point, after, after_line}
 use Rattle.dm_rule.specs.View.{View, Pair, Sent, view_after, routed_on, marked, marked_at, gone_after, at_least, actor}
-use Rattle.dm_rule.proofs.PairsLines.{pair_same, line_view}
+use Rattle.dm_rule.proofs.Pairs.Lines.{pair_same, line_view}
 use Rattle.dm_places.specs.Placed.{Placed}
 use Rattle.dm_movelaws.proofs.After.{group_after}
 use Rattle.dm_node.specs.Out.{packet_of}

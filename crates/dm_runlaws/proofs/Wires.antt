@@ -19,7 +19,7 @@ use Rattle.dm_rule.specs.Point.{Point, after, after_line}
 use Rattle.dm_rule.specs.View.{View, Pair, view_after, after_put, marked, routed_on, gone_after, at_least, oldest, with_pair}
 use Rattle.dm_rule.specs.Worn.{is_full, full_pair, worn_in}
 use Rattle.dm_rule.proofs.Hushed.{is_put}
-use Rattle.dm_rule.proofs.PairsLines.{pair_same, taken_pair, line_view}
+use Rattle.dm_rule.proofs.Pairs.Lines.{pair_same, taken_pair, line_view}
 
 -- a pair is set to one with the same value of something
 pub set_keeps : {X : Type 0} (f : Pair → X) (g : ℕ → ℕ → Pair) (a b : ℕ) (p : Pair) (c d : ℕ) → f p ≡ f (g a b) → f (at_pair g a b p c d) ≡ f (g c d)

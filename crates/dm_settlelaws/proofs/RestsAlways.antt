@@ -17,9 +17,9 @@ use Rattle.dm_rule.specs.Rule.{arrives, group_of, outstanding, resends}
 use Rattle.dm_rule.specs.View.{Pair, View, first_view, marked}
 use Rattle.dm_rule.proofs.Groups.{arrives_net, group_is}
 use Rattle.dm_rule.proofs.Pairs.{Pairs, Pairs-group, Pairs-start}
-use Rattle.dm_rule.proofs.PairsLines.{AllFit}
-use Rattle.dm_rule.proofs.PairsMigrating.{migrates_fit}
-use Rattle.dm_rule.proofs.PairsTurns.{resends_fit, turns_fit}
+use Rattle.dm_rule.proofs.Pairs.Lines.{AllFit}
+use Rattle.dm_rule.proofs.Pairs.Migrating.{migrates_fit}
+use Rattle.dm_rule.proofs.Pairs.Turns.{resends_fit, turns_fit}
 use Rattle.dm_settlelaws.specs.Laws.{PairsRestAlways}
 use Rattle.dm_settlelaws.specs.Rests.{PairRests}
 use Rattle.dm_settlelaws.proofs.RestsComes.{arrives_rest, net_pairs}

@@ -15,9 +15,9 @@ use Rattle.dm_rule.specs.Point.{Point}
 use Rattle.dm_rule.specs.Rule.{arrives, comes, data_comes, has, kept_from, let_go, more, numbers_from, repeats, takes, takes_on}
 use Rattle.dm_rule.specs.View.{Pair, Sent, View, at_least, marked, view_after}
 use Rattle.dm_rule.specs.View as view
-use Rattle.dm_rule.proofs.PairsStand.{Apart, KeptStands, set_other, set_same}
-use Rattle.dm_rule.proofs.PairsMoves.{off, off_has, or_cases}
-use Rattle.dm_rule.proofs.PairsLines.{onward, pair_same, says_view, taken_pair, transmits_view}
+use Rattle.dm_rule.proofs.Pairs.Stand.{Apart, KeptStands, set_other, set_same}
+use Rattle.dm_rule.proofs.Pairs.Moves.{off, off_has, or_cases}
+use Rattle.dm_rule.proofs.Pairs.Lines.{onward, pair_same, says_view, taken_pair, transmits_view}
 use Rattle.dm_rule.proofs.Groups.{IsNet, IsNetLine}
 use Rattle.dm_settlelaws.specs.Rests.{PairRests}
 use Rattle.dm_settlelaws.proofs.RestsPairs.{Comes, ack_back, ack_rests, acknowledged, data_back, data_rests, heard_of, repeated, sent_all}

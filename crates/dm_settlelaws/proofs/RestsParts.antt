@@ -18,9 +18,9 @@ use Rattle.dm_rule.specs.Addresses.{Receiver}
 use Rattle.dm_rule.specs.Parts.{Part, Says, Routes, Again, Owns, Transmits, Spelled, goes_out, packet_line, puts, spelled}
 use Rattle.dm_rule.specs.Point.{Point, after}
 use Rattle.dm_rule.specs.View.{Pair, View, gone_after, own_id, routed_on}
-use Rattle.dm_rule.proofs.PairsStand.{set_other, set_same, two_of}
-use Rattle.dm_rule.proofs.PairsMoves.{Paired}
-use Rattle.dm_rule.proofs.PairsLines.{AllFit, AllFit-later, Fits, Onward, bind-is, fitting_goes, one_view, onward, pair_same, says_view, touches, transmits_view, two_views}
+use Rattle.dm_rule.proofs.Pairs.Stand.{set_other, set_same, two_of}
+use Rattle.dm_rule.proofs.Pairs.Moves.{Paired}
+use Rattle.dm_rule.proofs.Pairs.Lines.{AllFit, AllFit-later, Fits, Onward, bind-is, fitting_goes, one_view, onward, pair_same, says_view, touches, transmits_view, two_views}
 use Rattle.dm_settlelaws.specs.Rests.{PairRests}
 use Rattle.dm_settlelaws.proofs.RestsPairs.{out_rests, repeat_back, repeat_rests, repeated, rests_back, route_rests, routed, routed_out}
 

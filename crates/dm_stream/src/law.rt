@@ -29,5 +29,6 @@ pub fn while_it_stands<M>()
 pub fn any_schedule<M>()
     ensures in_order { (numbers : ℕ) (events : List (Event M)) → numbers < 2 ^ 32 → IsInOrder (run events (start numbers)) }
     ensures may_come { (numbers : ℕ) (events : List (Event M)) → numbers < 2 ^ 32 → MayCome (run events (start numbers)) }
-    ensures at_rest { (numbers : ℕ) (events : List (Event M)) → numbers < 2 ^ 32 → IsAtRest (run events (start numbers)) → IsAllThere (run events (start numbers)) }
+    ensures at_rest { (numbers : ℕ) (events : List (Event M)) → numbers < 2 ^ 32 → IsAtRest (run events (start numbers)) →
+        IsAllThere (run events (start numbers)) }
 {}

@@ -54,7 +54,8 @@ pub fn register(names: &mut Names, name: Name, link: Link) -> Result<Reply, NoMe
 
 /// Keeps a link under a name that isn't taken.
 fn register_general(names: &mut Names, name: Name, link: Link) -> Result<Reply, NoMemory>
-    ensures ok { IfOk result (λ r. registers_new (listed names.old.entries) name.items link (link_named name.items (listed names.old.entries)) ≡ record { names = listed names.new.entries; reply = r }) }
+    ensures ok { IfOk result (λ r. registers_new (listed names.old.entries) name.items link (link_named name.items (listed names.old.entries)) ≡
+        record { names = listed names.new.entries; reply = r }) }
     ensures err { OnErr result (names.new.entries ≡ names.old.entries) }
 {
     if names.contains_key(&name) {

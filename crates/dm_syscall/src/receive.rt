@@ -27,8 +27,10 @@ const FIRST_SLOT: usize = 5;
 pub fn complete_receive(process: &mut Process, place: usize) -> Completed
     requires lawful { IsLawfulProcess process.old }
     requires awaited { IsAwaited process.old.status (slice_get process.old.queue place) }
-    ensures exact { completion process.old place process.old.status (slice_get process.old.queue place) ≡ Some (record { completed = result; process = process.new }) }
-    ensures plain { (m : _) → bind (slice_get process.old.queue place) plain_message ≡ Some m → m.to ≡ process.old.pid → process.old.stopped ≡ false → completes_with process.old.pid (plain_process process.old) m ≡ Some (plain_completed result process.new) }
+    ensures exact { completion process.old place process.old.status (slice_get process.old.queue place) ≡
+        Some (record { completed = result; process = process.new }) }
+    ensures plain { (m : _) → bind (slice_get process.old.queue place) plain_message ≡ Some m → m.to ≡ process.old.pid → process.old.stopped ≡ false →
+        completes_with process.old.pid (plain_process process.old) m ≡ Some (plain_completed result process.new) }
     ensures lawful { IsLawfulProcess process.new }
 {
     complete_waiting(process, place)
@@ -38,7 +40,8 @@ pub fn complete_receive(process: &mut Process, place: usize) -> Completed
 fn complete_waiting(process: &mut Process, place: usize) -> Completed
     requires lawful { IsLawfulProcess process.old }
     requires awaited { IsAwaited process.old.status (slice_get process.old.queue place) }
-    ensures { completion process.old place process.old.status (slice_get process.old.queue place) ≡ Some (record { completed = result; process = process.new }) }
+    ensures { completion process.old place process.old.status (slice_get process.old.queue place) ≡
+        Some (record { completed = result; process = process.new }) }
 {
     match process.status {
         Status::Waiting { base, cap, .. } => complete(process, place, base, cap),
@@ -52,7 +55,8 @@ fn complete(process: &mut Process, place: usize, base: u32, cap: u32) -> Complet
     requires awaited { IsAwaited process.old.status (slice_get process.old.queue place) }
     requires fits { base + cap ≤ length process.old.memory }
     requires within { place < length process.old.queue }
-    ensures { (m : _) → slice_get process.old.queue place ≡ Some m → completes process.old place m.id base cap m.what ≡ Some (record { completed = result; process = process.new }) }
+    ensures { (m : _) → slice_get process.old.queue place ≡ Some m → completes process.old place m.id base cap m.what ≡
+        Some (record { completed = result; process = process.new }) }
 {
     let message = process.queue.at(place);
     let id = message.id;
@@ -84,7 +88,8 @@ fn complete(process: &mut Process, place: usize, base: u32, cap: u32) -> Complet
 /// Why a message isn't received.
 #[tactic(auto, using(crate::proofs::Receives::free_plainly))]
 fn receive_refusal(table: &Table, cap: u32, body: &[u8], links: &[Link]) -> Option<Reply>
-    ensures { result ≡ (if nat_lt cap (length body.now) then Some reply.TooLong else if nat_lt (count_by is_none (map plain_slot table.now)) (length (map plain_link links.now)) then Some reply.TableFull else None) }
+    ensures { result ≡ (if nat_lt cap (length body.now) then Some reply.TooLong else if nat_lt (count_by is_none (map plain_slot table.now))
+        (length (map plain_link links.now)) then Some reply.TableFull else None) }
 {
     if (cap as usize) < body.len() {
         Some(Reply::TooLong)

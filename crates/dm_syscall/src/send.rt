@@ -80,7 +80,8 @@ fn listed(process: &Process) -> Body
 
 /// Why the links of these slots aren't enclosed in what goes over the carrier.
 fn slots_refusal(table: &Table, carrier: u32, slots: &[u8]) -> Option<Reply>
-    ensures { result ≡ (if any_empty (map plain_slot table.now) slots.now then Some reply.NoLink else if reply_named_twice (map plain_slot table.now) (carrier ∷ slots.now) then Some reply.BadKind else None) }
+    ensures { result ≡ (if any_empty (map plain_slot table.now) slots.now then Some reply.NoLink else if reply_named_twice (map plain_slot table.now)
+        (carrier ∷ slots.now) then Some reply.BadKind else None) }
 {
     if any_empty(table, slots) {
         Some(Reply::NoLink)

@@ -7,11 +7,11 @@ ghost use Rattle.dm_text.specs.Fits.{DoingFits, EndFits, HidesNothing, IdFits, I
 ghost use Rattle.dm_text.specs.LinesOf.{lines_of, trace_of};
 ghost use Rattle.dm_text.specs.Text.{text_of_ends, text_of_lines};
 
+use dm_line::end_line::{Doing, EndLine};
+use dm_line::line::{Line, Load};
 use dm_link::{Link, Pid};
 use dm_message::MsgId;
 use dm_onekernel::Label;
-use dm_line::end_line::{Doing, EndLine};
-use dm_line::line::{Line, Load};
 use dm_schedule::Step;
 
 /// What is printed says all that the lines say: their text spells them, and no other lines have it; the same with the

@@ -10,12 +10,12 @@ ghost use Rattle.dm_text.specs.Written.{Keeps, word_text};
 use crate::rows::{put_message, put_process_number};
 use crate::word::Word::{Byte, Bytes, Name, Number, Process};
 use crate::word::{Word, put_count, put_line, put_listed, put_numbers, put_words};
+use dm_line::end_line::{Doing, EndLine, Standing};
 use dm_link::{Area, Kind, Link, Pid};
 use dm_memory::NoMemory;
 use dm_message::MsgId;
 use dm_onekernel::Why;
 use dm_process::Direction;
-use dm_line::end_line::{Doing, EndLine, Standing};
 
 /// The word for how a process stands on a machine.
 fn standing_name(standing: Standing) -> &'static str
@@ -168,7 +168,8 @@ fn put_process(
     doing: Doing,
     back: [Word; 2],
 ) -> Result<(), NoMemory>
-    ensures ok { OnOk result (into.new.items ≡ into.old.items ++ spelled (codes "process" ∷ (map word_text front.entry ++ (doing_words doing ++ map word_text back.entry)))) }
+    ensures ok { OnOk result (into.new.items ≡ into.old.items ++ spelled
+        (codes "process" ∷ (map word_text front.entry ++ (doing_words doing ++ map word_text back.entry)))) }
     ensures err { OnErr result (Keeps into.old.items into.new.items) }
 {
     into.extend_from_slice(b"process")?;

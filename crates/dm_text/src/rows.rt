@@ -192,7 +192,8 @@ pub(crate) fn put_routed(
     kind: MessageKind,
     pid: Pid,
 ) -> Result<(), NoMemory>
-    ensures ok { OnOk result (into.new.items ≡ into.old.items ++ spelled (codes "put" ∷ decimal a ∷ decimal b ∷ id_word id ∷ word_of kind ∷ pid_word pid ∷ [])) }
+    ensures ok { OnOk result (into.new.items ≡ into.old.items ++ spelled
+        (codes "put" ∷ decimal a ∷ decimal b ∷ id_word id ∷ word_of kind ∷ pid_word pid ∷ [])) }
     ensures err { OnErr result (Keeps into.old.items into.new.items) }
 {
     put_line(

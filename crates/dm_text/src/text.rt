@@ -12,10 +12,10 @@ use crate::rows::{
 };
 use crate::word::Word::{Byte, Name, Number, Process, Wide};
 use crate::word::put_line;
-use dm_link::Pid;
-use dm_memory::NoMemory;
 use dm_line::end_line::EndLine;
 use dm_line::line::{Line, Load, Stage};
+use dm_link::Pid;
+use dm_memory::NoMemory;
 
 /// The number of a step of a migration.
 fn stage_name(stage: Stage) -> &'static str

@@ -23,7 +23,8 @@ impl World {
         requires world { IsWorld self.now }
         requires may { MayEnd (length self.now.boot.machines) (state_of self.now) }
         ensures { OnOk result (lines.new.items ≡ lines.old.items ++
-            each_machine (λ m. homes_with (state_of self.now) (held_line (state_of self.now) m) (length self.now.boot.machines)) (length self.now.boot.machines)) }
+            each_machine (λ m. homes_with (state_of self.now) (held_line (state_of self.now) m) (length self.now.boot.machines))
+            (length self.now.boot.machines)) }
     {
         for m in 0..self.machines() {
             self.say_holding_on(m, lines)?;

@@ -1,4 +1,4 @@
-use Rattle.dm_movelaws.proofs.TrailStanding.{addresses_lead}
+use Rattle.dm_movelaws.proofs.Trail.Standing.{addresses_lead}
 use Rattle.dm_movelaws.proofs.laws.addresses_lead.Goals as goal
 
 pub returns : goal.returns

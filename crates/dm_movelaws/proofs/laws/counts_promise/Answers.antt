@@ -1,4 +1,4 @@
-use Rattle.dm_movelaws.proofs.ForwardsLinks.{counts_promise}
+use Rattle.dm_movelaws.proofs.Forwards.Links.{counts_promise}
 use Rattle.dm_movelaws.proofs.laws.counts_promise.Goals as goal
 
 pub returns : goal.returns

@@ -1,4 +1,4 @@
-use Rattle.dm_movelaws.proofs.AtRestQueues.{drops_always}
+use Rattle.dm_movelaws.proofs.At.RestQueues.{drops_always}
 use Rattle.dm_movelaws.proofs.laws.drops_always.Goals as goal
 
 pub returns : goal.returns

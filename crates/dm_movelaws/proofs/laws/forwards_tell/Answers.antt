@@ -1,4 +1,4 @@
-use Rattle.dm_movelaws.proofs.ForwardsTold.{forwards_tell}
+use Rattle.dm_movelaws.proofs.Forwards.Told.{forwards_tell}
 use Rattle.dm_movelaws.proofs.laws.forwards_tell.Goals as goal
 
 pub returns : goal.returns

@@ -1,4 +1,4 @@
-use Rattle.dm_movelaws.proofs.ListsAlways.{lists_always}
+use Rattle.dm_movelaws.proofs.Lists.Always.{lists_always}
 use Rattle.dm_movelaws.proofs.laws.lists_always.Goals as goal
 
 pub returns : goal.returns

@@ -1,4 +1,4 @@
-use Rattle.dm_movelaws.proofs.MoversAlways.{movers_have_pieces}
+use Rattle.dm_movelaws.proofs.Movers.Always.{movers_have_pieces}
 use Rattle.dm_movelaws.proofs.laws.movers_have_pieces.Goals as goal
 
 pub returns : goal.returns

@@ -1,4 +1,4 @@
-use Rattle.dm_movelaws.proofs.OpenMoves.{open_moves}
+use Rattle.dm_movelaws.proofs.Open.Moves.{open_moves}
 use Rattle.dm_movelaws.proofs.laws.open_moves.Goals as goal
 
 pub returns : goal.returns

@@ -1,4 +1,4 @@
-use Rattle.dm_movelaws.proofs.OpenStays.{open_stays}
+use Rattle.dm_movelaws.proofs.Open.Stays.{open_stays}
 use Rattle.dm_movelaws.proofs.laws.open_stays.Goals as goal
 
 pub returns : goal.returns

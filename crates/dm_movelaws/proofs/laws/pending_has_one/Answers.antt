@@ -1,4 +1,4 @@
-use Rattle.dm_movelaws.proofs.PendingAlways.{pending_has_one}
+use Rattle.dm_movelaws.proofs.Pending.Always.{pending_has_one}
 use Rattle.dm_movelaws.proofs.laws.pending_has_one.Goals as goal
 
 pub returns : goal.returns

@@ -1,4 +1,4 @@
-use Rattle.dm_movelaws.proofs.PromiseAlways.{promises_always}
+use Rattle.dm_movelaws.proofs.Promise.Always.{promises_always}
 use Rattle.dm_movelaws.proofs.laws.promises_always.Goals as goal
 
 pub returns : goal.returns

@@ -1,4 +1,4 @@
-use Rattle.dm_movelaws.proofs.RealAlways.{real_always}
+use Rattle.dm_movelaws.proofs.Real.Always.{real_always}
 use Rattle.dm_movelaws.proofs.laws.real_always.Goals as goal
 
 pub returns : goal.returns

@@ -1,4 +1,4 @@
-use Rattle.dm_movelaws.proofs.ForwardsTold.{requests_tell}
+use Rattle.dm_movelaws.proofs.Forwards.Told.{requests_tell}
 use Rattle.dm_movelaws.proofs.laws.requests_tell.Goals as goal
 
 pub returns : goal.returns

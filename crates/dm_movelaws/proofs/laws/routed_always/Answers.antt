@@ -1,4 +1,4 @@
-use Rattle.dm_movelaws.proofs.RoutedAlways.{routed_always}
+use Rattle.dm_movelaws.proofs.Routed.Always.{routed_always}
 use Rattle.dm_movelaws.proofs.laws.routed_always.Goals as goal
 
 pub returns : goal.returns

@@ -1,4 +1,4 @@
-use Rattle.dm_movelaws.proofs.TrailStanding.{trails_stand}
+use Rattle.dm_movelaws.proofs.Trail.Standing.{trails_stand}
 use Rattle.dm_movelaws.proofs.laws.trails_stand.Goals as goal
 
 pub returns : goal.returns

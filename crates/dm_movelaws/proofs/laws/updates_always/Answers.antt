@@ -1,4 +1,4 @@
-use Rattle.dm_movelaws.proofs.UpdatesAlways.{updates_always}
+use Rattle.dm_movelaws.proofs.Updates.Always.{updates_always}
 use Rattle.dm_movelaws.proofs.laws.updates_always.Goals as goal
 
 pub returns : goal.returns

@@ -1,4 +1,4 @@
-use Rattle.dm_rule.proofs.HomesTurns.{lead_home_always}
+use Rattle.dm_rule.proofs.Homes.Turns.{lead_home_always}
 use Rattle.dm_rule.proofs.laws.lead_home_always.Goals as goal
 
 pub returns : goal.returns

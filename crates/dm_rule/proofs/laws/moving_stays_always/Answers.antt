@@ -1,4 +1,4 @@
-use Rattle.dm_rule.proofs.ApartGroups.{moving_stays_always}
+use Rattle.dm_rule.proofs.Apart.Groups.{moving_stays_always}
 use Rattle.dm_rule.proofs.laws.moving_stays_always.Goals as goal
 
 pub returns : goal.returns

@@ -1,4 +1,4 @@
-use Rattle.dm_rule.proofs.PhasesAlways.{phases_always}
+use Rattle.dm_rule.proofs.Phases.Always.{phases_always}
 use Rattle.dm_rule.proofs.laws.phases_always.Goals as goal
 
 pub returns : goal.returns

@@ -18,9 +18,10 @@ loop-k-preserved c =
     let n = length w.boot.machines in
     let all = c.machines-k-end.ensures.all in
     let test = c.loop-k-test.true in
-    let takes = sym c.takes_turn.ensures ∙ c.if-takes_turn.false in
-    (λ t. c.loop-k.invariant.0 t ∙ passes_over n (state_of w) c.args.pass c.loop-k.k t (omega (arith, all, test)) takes,
-    stays_on c.args.pass (has_mail (state_of w)) c.args.m c.loop-k.k (c.loop-k.k + 1) takes)
+    let takes = sym c.takes_turn.ensures ∙ c.if-takes_turn.false in (
+      λ t. c.loop-k.invariant.0 t ∙ passes_over n (state_of w) c.args.pass c.loop-k.k t (omega (arith, all, test)) takes,
+      stays_on c.args.pass (has_mail (state_of w)) c.args.m c.loop-k.k (c.loop-k.k + 1) takes,
+    )
 
 pub returns-clause-first : goal.returns-clause-first
 returns-clause-first c t =

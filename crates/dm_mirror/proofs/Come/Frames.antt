@@ -1,0 +1,217 @@
+-- A message about a process that comes to a machine, at the front of its inbox: what is known then.
+use Rattle.std.proofs.Common.{◌≡◌, ℕ, ◌+◌, ◌≤◌, ◌||◌, ◌⊎◌, Bool, true, false, List, ◌∷◌, refl, ap, ◌∙◌, sym, subst, inl, inr, is_some, arith}
+use Rattle.std.specs.Prelude.{if◌then◌else◌, option_map}
+use Rattle.std.specs.declared.option.Option.{Option}
+use Rattle.std.specs.declared.option.Option.TheVariants.{None, Some}
+use Rattle.std.proofs.lemmas.Bool.{false≢true}
+use Rattle.std.proofs.lemmas.Bool.Decides.{nat_tests}
+use Rattle.dm_link.specs.declared.Pid.{Pid}
+use Rattle.dm_link.specs.Names.{pid_eq, pid_of}
+use Rattle.dm_linkupdate.specs.Notice.{kernel_at}
+use Rattle.dm_message.specs.declared.Message.{Message}
+use Rattle.dm_message.specs.declared.MsgId.{MsgId}
+use Rattle.dm_message.specs.declared.kind.MessageKind.{MessageKind}
+use Rattle.dm_message.specs.Ids.{id_of}
+use Rattle.dm_message.specs.Kinds.{kind_of}
+use Rattle.dm_message.specs.Plain.{PlainMessage, plain_message}
+use Rattle.dm_process.specs.declared.process.Process.{Process}
+use Rattle.dm_records.specs.Records.{incoming_of}
+use Rattle.dm_onekernel.specs.declared.boot.Boot.{Boot}
+use Rattle.dm_onekernel.specs.Boot.{manager, switchboard}
+use Rattle.dm_onekernel.specs.Kernel.{Life, Alive, Ended, OneKernel}
+use Rattle.dm_onekernel.specs.Options.{bind}
+use Rattle.dm_onekernel.specs.Plain.{plain_process}
+use Rattle.dm_onekernel.specs.PlainProcess.{PlainProcess}
+use Rattle.dm_onekernel.specs.Step as kernel
+use Rattle.dm_laws.proofs.Entered.{Made}
+use Rattle.dm_laws.proofs.Equal.{id_eq-same}
+use Rattle.dm_rule.specs.Phases.{is_between, is_of_source, Moves, IsIn, receiver_in, sender_in, told_between}
+use Rattle.dm_rule.specs.Point.{Point}
+use Rattle.dm_rule.specs.Spots.{Spot, Inbox, Untaken, StandsOnce, StandsOutside, standing, times}
+use Rattle.dm_rule.specs.View.{Of, Told, is_kernels}
+use Rattle.dm_rule.proofs.Groups.{stands_right}
+use Rattle.dm_rule.proofs.Letters.{not_kernels}
+use Rattle.dm_rule.proofs.Phases.Stand.{token_is, token_at}
+use Rattle.dm_rulelaws.specs.Fits.{is_server}
+use Rattle.dm_rulelaws.proofs.Runs.{Run}
+use Rattle.dm_places.specs.Placed.{Placed, Mirrors}
+use Rattle.dm_kernel.specs.State.{KernelState}
+use Rattle.dm_mirror.specs.Made.{MadeStands}
+use Rattle.dm_mirror.specs.Own.{AllOwnStand, OwnStands, about_of, told_of}
+use Rattle.dm_mirror.specs.Stands.{AreMessages, KernelStands}
+use Rattle.dm_mirror.specs.Tokens.{AllRecords, Carries, TokensStand, destination_of}
+
+-- machine m, with kernel k, has at its inbox's front message y, which the machine that process p leaves sends
+pub record Comes (b : Boot) (m : ℕ) (pt : Point) (l : Placed) (records : AllRecords) (k : KernelState) (y : Message) (p : Pid) : Type 0 where
+  pub run : Run b pt
+  pub made : MadeStands pt.kernel
+  pub mirrors : Mirrors pt.kernel pt.view pt.addresses l
+  pub stands : KernelStands b pt l m k
+  pub own : AllOwnStand pt.view l
+  pub tokens : TokensStand pt.view l records
+  pub mine : records m ≡ k.records
+  pub count : k.sent ≡ pt.view.count m
+  pub there : l.bag y.id ≡ Some y
+  pub plain : plain_message y ≡ None
+  pub between : is_between (kind_of y.what) ≡ true
+  pub of_source : is_of_source (kind_of y.what) ≡ true
+  pub about : about_of y.what ≡ Of p
+  -- the messages behind it
+  pub ids : List MsgId
+  pub box : pt.view.inbox m ≡ y.id ∷ ids
+  pub rest : List Message
+  pub inbox : k.inbox ≡ y ∷ rest
+  pub others : AreMessages l.bag ids rest
+
+-- it is the one message of a migration to this machine
+pub record Arrives (b : Boot) (m : ℕ) (pt : Point) (l : Placed) (k : KernelState) (y : Message) (p : Pid) : Type 0 where
+  -- the machine that the process leaves
+  pub source : ℕ
+  pub told : pt.view.told y.id ≡ Some (told_of y)
+  pub mine : is_kernels y.id ≡ true
+  pub unplain : pt.kernel.bag y.id ≡ None
+  pub first : 1 ≤ standing pt.view y.id (Inbox m)
+  pub phase : IsIn pt.view p (Moves (kind_of y.what) source m (Some y.id))
+  pub to : y.to.pid ≡ pid_of m 0
+  pub from : y.id.from ≡ pid_of source 0
+  pub sender : y.sender ≡ kernel_at y.id.from.home
+  pub process : Process
+  pub there : l.processes p ≡ Some process
+  pub carries : Carries p process (pt.view.asked p) (incoming_of (k.records p)) y.what
+  pub named : process.pid ≡ p
+  pub alive : kernel.alive (pt.kernel.processes p) ≡ Some (plain_process process)
+  pub is_made : is_some (pt.kernel.processes p) ≡ true
+  pub server : is_server p ≡ false
+
+-- messages by name
+pub times_self : (i : MsgId) (is : List MsgId) → times i (i ∷ is) ≡ 1 + times i is
+times_self i is = ap (λ (c : Bool). (if c then 1 else 0) + times i is) (id_eq-same i)
+
+pub front_stands : (pt : Point) (m : ℕ) (i : MsgId) (is : List MsgId) → pt.view.inbox m ≡ i ∷ is → 1 ≤ standing pt.view i (Inbox m)
+front_stands pt m i is box =
+    let e = times_self i is in
+    subst (λ (z : List MsgId). 1 ≤ times i z) (sym box) (omega (arith, e))
+
+-- an own message stands nowhere else
+once_of : (c : Bool) (f : Spot → ℕ) (z : Spot) → c ≡ true → 1 ≤ f z → StandsOutside c f → StandsOnce f
+once_of true f z e least h = elim h [
+  | inl n ↦ absurd (let g : f z ≡ 0 = n z in omega (arith, g, least))
+  | inr o ↦ o
+]
+once_of false f z e least h = absurd (false≢true e)
+
+pub own_once : (b : Boot) (pt : Point) (i : MsgId) (z : Spot) → Run b pt → pt.kernel.bag i ≡ None → is_kernels i ≡ true → 1 ≤ standing pt.view i z → StandsOnce (standing pt.view i)
+own_once b pt i z run none mine least = once_of (is_kernels i) (standing pt.view i) z mine least (stands_right pt i run.based.phased.state None none)
+
+-- a message that was never told of is not in the bag
+pub fresh_own : (b : Boot) (pt : Point) (l : Placed) (i : MsgId) → Run b pt → Mirrors pt.kernel pt.view pt.addresses l → AllOwnStand pt.view l → is_kernels i ≡ true → pt.view.told i ≡ None → l.bag i ≡ None
+fresh_own b pt l i run mirrors own mine untold = by_bag (l.bag i) refl
+  where
+    by_plain : (x : Message) → l.bag i ≡ Some x → (o : Option PlainMessage) → plain_message x ≡ o → ⊥
+    by_plain x there None plain = let e : None ≡ Some (told_of x) = sym untold ∙ (own i x there plain).told in cc
+    by_plain x there (Some v) plain =
+        let sane = run.based.phased.sane in
+        let in_bag : pt.kernel.bag i ≡ Some v = sym (mirrors.plain.bag i) ∙ ap (λ (o : Option Message). bind o plain_message) there ∙ plain in
+        false≢true (sym (not_kernels sane.r sane.e pt.kernel i v in_bag sane.sound) ∙ mine)
+
+    by_bag : (o : Option Message) → l.bag i ≡ o → l.bag i ≡ None
+    by_bag None e = e
+    by_bag (Some x) e = absurd (by_plain x e (plain_message x) refl)
+
+-- the next message of a machine's kernel
+pub next_untold : (b : Boot) (pt : Point) (m : ℕ) → Run b pt → pt.view.told (id_of (pid_of m 0) (pt.view.count m)) ≡ None
+next_untold b pt m run = run.based.phased.state.numbered m (pt.view.count m) (omega arith)
+
+-- a process that is alive is none of the servers
+alive_made : (o : Option Life) (v : PlainProcess) → kernel.alive o ≡ Some v → is_some o ≡ true
+alive_made None v e = cc
+alive_made (Some (Alive x)) v e = refl
+alive_made (Some (Ended y)) v e = refl
+
+no_server : (s : OneKernel) (p : Pid) → Made s → is_some (s.processes p) ≡ true → is_server p ≡ false
+no_server s p h there =
+    let k = h.least p there in
+    let e : pid_eq p switchboard ≡ false = grind (arith, nat_tests) in
+    let d : pid_eq p manager ≡ false = grind (arith, nat_tests) in
+    ap (λ (c : Bool). c || pid_eq p manager) e ∙ d
+
+-- where it stands
+at_inbox : (m from to : ℕ) → (Inbox m ≡ Inbox to) ⊎ (Inbox m ≡ Untaken from to) → m ≡ to
+at_inbox m from to e = elim e [
+  | inl x ↦ cc
+  | inr x ↦ cc
+]
+
+same_about : (p q : Pid) → Of p ≡ Of q → p ≡ q
+same_about p q e = cc
+
+the_told : (t u : Told) → Some t ≡ Some u → t ≡ u
+the_told t u e = cc
+
+the_message : (x z : Message) → Some x ≡ Some z → x ≡ z
+the_message x z e = cc
+
+receiver_source : (k : MessageKind) (s d : ℕ) → is_of_source k ≡ true → receiver_in k s d ≡ d
+receiver_source k s d e = ap (λ (c : Bool). if c then d else s) e
+
+sender_source : (k : MessageKind) (s d : ℕ) → is_of_source k ≡ true → sender_in k s d ≡ s
+sender_source k s d e = ap (λ (c : Bool). if c then s else d) e
+
+-- what is known of it
+record Token (pt : Point) (m : ℕ) (y : Message) (p : Pid) : Type 0 where
+  source : ℕ
+  phase : IsIn pt.view p (Moves (kind_of y.what) source m (Some y.id))
+  to : y.to.pid ≡ pid_of m 0
+  from : y.id.from ≡ pid_of source 0
+
+token_of : (b : Boot) (m : ℕ) (pt : Point) (y : Message) (p : Pid) → Run b pt → is_between (kind_of y.what) ≡ true → is_of_source (kind_of y.what) ≡ true → about_of y.what ≡ Of p → pt.view.told y.id ≡ Some (told_of y) → 1 ≤ standing pt.view y.id (Inbox m)
+    → Token pt m y p
+token_of b m pt y p run between of_source about told first =
+    let v = pt.view in
+    let h = run.based.phased.phases in
+    let (q, j, s, d, of_q, phase) = token_is v h y.id (told_of y) (Inbox m) told between first in
+    let token = token_at v q (h.of q) j s d y.id phase (h.each q) in
+    let t : told_between q j s d ≡ told_of y = the_told (told_between q j s d) (told_of y) (sym token.told ∙ told) in
+    let kind_is : j ≡ kind_of y.what = ap (λ (z : Told). z.kind) t in
+    let same : q ≡ p = same_about q p (sym of_q ∙ about) in
+    let source : is_of_source j ≡ true = ap is_of_source kind_is ∙ of_source in
+    let here : m ≡ d = at_inbox m (sender_in j s d) (receiver_in j s d) (token.ways (Inbox m) first) ∙ receiver_source j s d source in
+    record {
+      source = s;
+      phase = subst (λ (n : ℕ). IsIn v p (Moves (kind_of y.what) s n (Some y.id))) (sym here) (subst (λ (i : MessageKind). IsIn v p (Moves i s d (Some y.id))) kind_is (subst (λ (r : Pid). IsIn v r (Moves j s d (Some y.id))) same (subst (IsIn v q) phase (h.each q))));
+      to = sym (ap (λ (z : Told). z.receiver) t) ∙ ap (λ (n : ℕ). pid_of n 0) (receiver_source j s d source ∙ sym here);
+      from = token.from ∙ ap (λ (n : ℕ). pid_of n 0) (sender_source j s d source);
+    }
+
+destination_is : (m : ℕ) (y : Message) → is_of_source (kind_of y.what) ≡ true → y.to.pid ≡ pid_of m 0 → destination_of y.id (told_of y) ≡ m
+destination_is m y of_source to = ap (λ (c : Bool). if c then y.to.pid.home else y.id.from.home) of_source ∙ ap (λ (q : Pid). q.home) to
+
+pub arrives : (b : Boot) (m : ℕ) (pt : Point) (l : Placed) (records : AllRecords) (k : KernelState) (y : Message) (p : Pid) → Comes b m pt l records k y p → Arrives b m pt l k y p
+arrives b m pt l records k y p c =
+    let stood : OwnStands pt.view y.id y = c.own y.id y c.there c.plain in
+    let first = front_stands pt m y.id c.ids c.box in
+    let t = token_of b m pt y p c.run c.between c.of_source c.about stood.told first in
+    let token = c.tokens p y.id (told_of y) (Inbox m) stood.told c.between c.about first in
+    let same : token.message ≡ y = the_message token.message y (sym token.is ∙ c.there) in
+    let records_is : records (destination_of y.id (told_of y)) p ≡ k.records p = ap (λ (n : ℕ). records n p) (destination_is m y c.of_source t.to) ∙ (λ i. c.mine i p) in
+    let alive : kernel.alive (pt.kernel.processes p) ≡ Some (plain_process token.process) = c.mirrors.plain.processes p ∙ ap (option_map plain_process) token.there in
+    let is_made = alive_made (pt.kernel.processes p) (plain_process token.process) alive in
+    record {
+      source = t.source;
+      told = stood.told;
+      mine = stood.mine;
+      unplain = sym (c.mirrors.plain.bag y.id) ∙ ap (λ (o : Option Message). bind o plain_message) c.there ∙ c.plain;
+      first = first;
+      phase = t.phase;
+      to = t.to;
+      from = t.from;
+      sender = sym (ap (λ (x : Message). x.sender) same) ∙ token.sender;
+      process = token.process;
+      there = token.there;
+      carries = subst (λ (x : Message). Carries p token.process (pt.view.asked p) (incoming_of (k.records p)) x.what) same
+          (subst (λ o. Carries p token.process (pt.view.asked p) (incoming_of o) token.message.what) records_is token.carries);
+      named = (c.mirrors.places.process p token.process token.there).pid;
+      alive = alive;
+      is_made = is_made;
+      server = no_server pt.kernel p c.run.based.phased.sane.sound.made is_made;
+    }

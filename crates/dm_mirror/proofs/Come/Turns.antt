@@ -1,0 +1,301 @@
+-- A turn that handles such a message says a line and answers, or says a line alone; what it leaves as it was.
+use Rattle.std.proofs.Common.{◌≡◌, ◌≢◌, ℕ, ◌+◌, ◌≤◌, ◌==◌, Bool, true, false, List, [], ◌∷◌, map, refl, ap, ◌∙◌, sym, subst, inl, inr, arith}
+use Rattle.std.specs.Prelude.{if◌then◌else◌, slice_get}
+use Rattle.std.specs.declared.option.Option.{Option}
+use Rattle.std.specs.declared.option.Option.TheVariants.{None, Some}
+use Rattle.std.proofs.lemmas.Bool.{cases_Bool, false≢true}
+use Rattle.std.proofs.lemmas.Bool.Decides.{nat_tests}
+use Rattle.dm_link.specs.declared.Addr.{Addr}
+use Rattle.dm_link.specs.declared.Pid.{Pid}
+use Rattle.dm_link.specs.Names.{pid_eq, pid_of, place_of}
+use Rattle.dm_linkupdate.specs.Notice.{kernel_at}
+use Rattle.dm_message.specs.declared.Message.{Message}
+use Rattle.dm_message.specs.declared.MsgId.{MsgId}
+use Rattle.dm_message.specs.declared.What.{What}
+use Rattle.dm_message.specs.Ids.{id_of}
+use Rattle.dm_message.specs.Kinds.{kind_of}
+use Rattle.dm_message.specs.Plain.{plain_what, with_what}
+use Rattle.dm_records.specs.declared.record.Record.TheVariants as record_
+use Rattle.dm_records.specs.Records.{incoming_of}
+use Rattle.dm_onekernel.specs.declared.boot.Boot.{Boot}
+use Rattle.dm_laws.proofs.Equal.{id_eq-same, pid_eq-is}
+use Rattle.dm_schedule.specs.declared.Step.TheVariants as step
+use Rattle.dm_line.specs.declared.line.Line.{Line}
+use Rattle.dm_rule.specs.Addresses.{Addresses, Gets, Receiver, Sender, given, goes_between, own_gives, unmoved}
+use Rattle.dm_rule.specs.Migrating.{to_kernel}
+use Rattle.dm_rule.specs.Parts as rule
+use Rattle.dm_rule.specs.Phases.{is_between, is_of_source}
+use Rattle.dm_rule.specs.Point.{Point, after}
+use Rattle.dm_rule.specs.Rule.{outcome, taken_at}
+use Rattle.dm_line.specs.Sets.{at_machine}
+use Rattle.dm_rule.specs.Spots.{Spot, Queue, Held, Inbox, Untaken, standing, times}
+use Rattle.dm_rule.specs.View.{Known, Unknown, Here, Frozen, Incoming, Forward, Ended, Of, View}
+use Rattle.dm_rule.proofs.Standing.{once_at}
+use Rattle.dm_rulelaws.specs.Fits.{is_server}
+use Rattle.dm_places.specs.Placed.{Placed, enclosed}
+use Rattle.dm_places.proofs.Lines.{mirrors_view}
+use Rattle.dm_kernel.specs.declared.part.Part.TheVariants as part
+use Rattle.dm_kernel.specs.Begun.{room_of}
+use Rattle.dm_kernel.specs.State as machine
+use Rattle.dm_kernel.specs.State.{KernelState, own}
+use Rattle.dm_kernel.specs.Turn.{turn}
+use Rattle.dm_mirror.specs.Own.{about_of, told_of}
+use Rattle.dm_mirror.specs.Stands.{KnownStands, RoomStands}
+use Rattle.dm_mirror.specs.Tokens.{AllRecords, Carries, TokensStand, destination_of}
+use Rattle.dm_mirror.proofs.Come.Frames.{Arrives, Comes, fresh_own, next_untold, own_once, times_self}
+use Rattle.dm_mirror.proofs.Turning.{IsCarried, MayOwn, Nothing, Own, TurnsAt, begun}
+
+-- the view behind the line: the message is handled, and what is known of p here and asked for of it may be new
+abbrev pub come_view : View → ℕ → Pid → List MsgId → (ℕ → Pid → Known) → (Pid → ℕ) → View
+come_view v m p box known asked = record v { acting = m; groups = v.groups + 1; topic = Of p; inbox = at_machine v.inbox m box; known = known; asked = asked }
+
+abbrev pub come_point : Point → View → Point
+come_point pt v = record { kernel = pt.kernel; view = v; addresses = pt.addresses }
+
+-- what is known of a process that stays
+pub known_same : (pt : Point) (v : View) (l : Placed) (p : Pid) (queue held : List MsgId) (k : Known) (r : Option machine.Known) → KnownStands pt l p queue held k r → KnownStands (come_point pt v) l p queue held k r
+known_same pt v l p queue held Unknown None h = tt
+known_same pt v l p queue held Here (Some (record_.Here x)) h = h
+known_same pt v l p queue held (Frozen to) (Some (record_.Frozen d)) h = h
+known_same pt v l p queue held (Incoming from) (Some (record_.Incoming a)) h = h
+known_same pt v l p queue held (Forward at_ moves) (Some (record_.Forward to count)) h = h
+known_same pt v l p queue held Ended (Some (record_.Ended y)) h = h
+known_same pt v l p queue held k r h = absurd h
+
+pub eq_self : (m : ℕ) → (m == m) ≡ true
+eq_self m = grind (arith, nat_tests)
+
+pub eq_off : (m n : ℕ) → n ≢ m → (m == n) ≡ false
+eq_off m n apart = elim (cases_Bool (m == n)) [
+  | inl same ↦ absurd (apart (let e : n ≡ m = grind (arith, nat_tests) in e))
+  | inr off ↦ off
+]
+
+eq_is : (m n : ℕ) → (m == n) ≡ true → m ≡ n
+eq_is m n e = grind (arith, nat_tests)
+
+pub machine_self : {X : Type 0} (f : ℕ → X) (m : ℕ) (x : X) → at_machine f m x m ≡ x
+machine_self f m x = ap (λ (c : Bool). if c then x else f m) (eq_self m)
+
+pub machine_off : {X : Type 0} (f : ℕ → X) (m n : ℕ) (x : X) → n ≢ m → at_machine f m x n ≡ f n
+machine_off f m n x apart = ap (λ (c : Bool). if c then x else f n) (eq_off m n apart)
+
+-- the handled message is gone, and no other has come
+fewer_at : (f : ℕ → List MsgId) (m n : ℕ) (i j : MsgId) (is box : List MsgId) → f m ≡ i ∷ is → box ≡ is → (c : Bool) → (m == n) ≡ c → times j (if c then box else f n) ≤ times j (f n)
+fewer_at f m n i j is box e b true same =
+    let here : m ≡ n = eq_is m n same in
+    let g : f n ≡ i ∷ is = ap f (sym here) ∙ e in
+    subst (λ (xs : List MsgId). times j box ≤ times j xs) (sym g) (subst (λ (xs : List MsgId). times j xs ≤ times j (i ∷ is)) (sym b) (omega arith))
+fewer_at f m n i j is box e b false off = omega arith
+
+pub fewer : (v : View) (m : ℕ) (p : Pid) (is box : List MsgId) (known : ℕ → Pid → Known) (asked : Pid → ℕ) (i j : MsgId) (z : Spot) → v.inbox m ≡ i ∷ is → box ≡ is → standing (come_view v m p box known asked) j z ≤ standing v j z
+fewer v m p is box known asked i j (Queue n q) e b = omega arith
+fewer v m p is box known asked i j (Held n q) e b = omega arith
+fewer v m p is box known asked i j (Inbox n) e b = fewer_at v.inbox m n i j is box e b (m == n) refl
+fewer v m p is box known asked i j (Untaken a d) e b = omega arith
+
+none_behind : (i : MsgId) (is : List MsgId) → times i (i ∷ is) ≡ 1 → times i is ≡ 0
+none_behind i is e = let f = times_self i is in omega (arith, e, f)
+
+gone_at : (v : View) (m n : ℕ) (i : MsgId) (is box : List MsgId) → v.inbox m ≡ i ∷ is → box ≡ is → standing v i (Inbox m) ≡ 1 → ((z : Spot) → z ≢ Inbox m → standing v i z ≡ 0) → (c : Bool) → (m == n) ≡ c → times i (if c then box else v.inbox n) ≡ 0
+gone_at v m n i is box e b one others true same = ap (times i) b ∙ none_behind i is (ap (times i) (sym e) ∙ one)
+gone_at v m n i is box e b one others false off = others (Inbox n) (λ s. let f : n ≡ m = inbox_same n m s in false≢true (sym off ∙ ap (λ (j : ℕ). m == j) f ∙ eq_self m))
+  where
+    inbox_same : (a d : ℕ) → Inbox a ≡ Inbox d → a ≡ d
+    inbox_same a d s = cc
+
+pub gone : (v : View) (m : ℕ) (p : Pid) (is box : List MsgId) (known : ℕ → Pid → Known) (asked : Pid → ℕ) (i : MsgId) (z : Spot) → v.inbox m ≡ i ∷ is → box ≡ is → standing v i (Inbox m) ≡ 1 → ((x : Spot) → x ≢ Inbox m → standing v i x ≡ 0) → standing (come_view v m p box known asked) i z ≡ 0
+gone v m p is box known asked i (Queue n q) e b one others = others (Queue n q) (λ s. cc)
+gone v m p is box known asked i (Held n q) e b one others = others (Held n q) (λ s. cc)
+gone v m p is box known asked i (Inbox n) e b one others = gone_at v m n i is box e b one others (m == n) refl
+gone v m p is box known asked i (Untaken a d) e b one others = others (Untaken a d) (λ s. cc)
+
+-- what the next message of the kernel gets
+gets_receiver : (a : Addresses) (v : View) (id : MsgId) (q : Pid) (gs : List Gets) → gs ≡ goes_between v id q → given a gs (Receiver id) ≡ unmoved q.home
+gets_receiver a v id q gs e = ap (λ (g : List Gets). given a g (Receiver id)) e ∙ ap (λ (c : Bool). if c then unmoved q.home else a (Receiver id)) (id_eq-same id)
+
+gets_sender : (a : Addresses) (v : View) (id : MsgId) (q : Pid) (gs : List Gets) → gs ≡ goes_between v id q → given a gs (Sender id) ≡ unmoved v.acting
+gets_sender a v id q gs e = ap (λ (g : List Gets). given a g (Sender id)) e ∙ ap (λ (c : Bool). if c then unmoved v.acting else a (Sender id)) (id_eq-same id)
+
+-- the answer, and what is as it was
+pub record Answer (b : Boot) (m : ℕ) (pt : Point) (l : Placed) (records : AllRecords) (k : KernelState) (y : Message) (p : Pid) (c : Comes b m pt l records k y p) (a : Arrives b m pt l k y p) : Type 0 where
+  pub line : Line
+  pub what : What
+  pub state : KernelState
+  pub box : List MsgId
+  pub known : ℕ → Pid → Known
+  pub asked : Pid → ℕ
+  pub turn : turn b k ≡ Some (record { state = state; parts = part.Says line ∷ part.Routes (own k y.sender what) ∷ [] })
+  pub outcome : outcome b pt (step.Turn m) ≡ Some (rule.Says line ∷ to_kernel (kind_of what) y.id.from.home ∷ [])
+  pub after : after (begun pt m) (line ∷ []) ≡ Some (come_point pt (come_view pt.view m p box known asked))
+  pub is_box : box ≡ c.ids
+  pub known_off : (n : ℕ) (q : Pid) → pid_eq p q ≡ false → known n q ≡ pt.view.known n q
+  pub known_away : (n : ℕ) (q : Pid) → n ≢ m → known n q ≡ pt.view.known n q
+  pub asked_off : (q : Pid) → pid_eq p q ≡ false → asked q ≡ pt.view.asked q
+  -- the machine's
+  pub here : state.here ≡ k.here
+  pub records_off : (q : Pid) → pid_eq p q ≡ false → state.records q ≡ k.records q
+  pub ring : state.ring ≡ k.ring
+  pub inbox : state.inbox ≡ c.rest
+  pub made : state.made ≡ k.made
+  pub sent : state.sent ≡ k.sent + 1
+  pub servers : state.servers ≡ k.servers
+  pub room : RoomStands state.room (room_of (slice_get b.machines m)) (taken_at (come_point pt (come_view pt.view m p box known asked)) m pt.kernel.machines)
+  pub mine : KnownStands (come_point pt (come_view pt.view m p box known asked)) l p (pt.view.queue m p) (pt.view.held m p) (known m p) (state.records p)
+  -- the answer
+  pub between : is_between (kind_of what) ≡ true
+  pub is_reply : is_of_source (kind_of what) ≡ false
+  pub about : about_of what ≡ Of p
+  pub plain : plain_what what ≡ None
+  pub encloses : enclosed what ≡ []
+  pub gives : (v : View) (id : MsgId) (q : Pid) → own_gives pt.kernel v pt.addresses id q (kind_of what) ≡ goes_between v id q
+  pub carries : Carries p a.process (asked p) (incoming_of (state.records p)) what
+
+-- the records of all machines then
+pub others_known : (records : AllRecords) (m n : ℕ) (s : KernelState) (k : KernelState) (q : Pid) → records m ≡ k.records → s.records q ≡ k.records q → (c : Bool) → (m == n) ≡ c → (if c then s.records else records n) q ≡ records n q
+others_known records m n s k q mine same true e = same ∙ (λ i. sym mine i q) ∙ ap (λ (j : ℕ). records j q) (eq_is m n e)
+others_known records m n s k q mine same false e = refl
+
+-- the token that was handled was the only one of its process, and those of others carry what they carried
+pub tokens_kept : (b : Boot) (m : ℕ) (pt : Point) (l : Placed) (records : AllRecords) (k : KernelState) (y : Message) (p : Pid) (c : Comes b m pt l records k y p) (a : Arrives b m pt l k y p) (box : List MsgId) (known : ℕ → Pid → Known) (asked : Pid → ℕ) (s : KernelState)
+    → box ≡ c.ids → ((q : Pid) → pid_eq p q ≡ false → asked q ≡ pt.view.asked q) → ((q : Pid) → pid_eq p q ≡ false → s.records q ≡ k.records q)
+    → TokensStand (come_view pt.view m p box known asked) l (at_machine records m s.records)
+tokens_kept b m pt l records k y p c a box known asked s is_box asked_off records_off q i t z told between about st =
+    let v = pt.view in
+    let least : 1 ≤ standing v i z = (let f = fewer v m p c.ids box known asked y.id i z c.box is_box in omega (arith, f, st)) in
+    elim (cases_Bool (pid_eq p q)) [
+      | inl same ↦
+          let e : p ≡ q = pid_eq-is p q same in
+          let mine : Some y.id ≡ Some i = a.phase.alone i t z told between (about ∙ ap Of (sym e)) least in
+          let is : y.id ≡ i = cc in
+          let once = own_once b pt y.id (Inbox m) c.run a.unplain a.mine a.first in
+          let one = once_at (standing v y.id) (Inbox m) once a.first in
+          let none : standing (come_view v m p box known asked) i z ≡ 0 = ap (λ (j : MsgId). standing (come_view v m p box known asked) j z) (sym is) ∙ gone v m p c.ids box known asked y.id z c.box is_box one.0 one.1 in
+          absurd (omega (arith, none, st))
+      | inr off ↦
+          let h = c.tokens q i t z told between about least in
+          let n = destination_of i t in
+          let r : at_machine records m s.records n q ≡ records n q = others_known records m n s k q c.mine (records_off q off) (m == n) refl in
+          record {
+            process = h.process;
+            there = h.there;
+            message = h.message;
+            is = h.is;
+            sender = h.sender;
+            carries = subst (λ (o : Option machine.Known). Carries q h.process (asked q) (incoming_of o) h.message.what) (sym r)
+                (subst (λ (j : ℕ). Carries q h.process j (incoming_of (records n q)) h.message.what) (sym (asked_off q off)) h.carries);
+          }
+    ]
+
+known_by : (b : Boot) (m : ℕ) (pt : Point) (l : Placed) (records : AllRecords) (k : KernelState) (y : Message) (p : Pid) (c : Comes b m pt l records k y p) (a : Arrives b m pt l k y p) (h : Answer b m pt l records k y p c a) (q : Pid) → is_server q ≡ false
+    → KnownStands (come_point pt (come_view pt.view m p h.box h.known h.asked)) l q (pt.view.queue m q) (pt.view.held m q) (h.known m q) (h.state.records q)
+known_by b m pt l records k y p c a h q server =
+    let v = come_view pt.view m p h.box h.known h.asked in
+    let next = come_point pt v in
+    elim (cases_Bool (pid_eq p q)) [
+      | inl same ↦ subst (λ (z : Pid). KnownStands next l z (pt.view.queue m z) (pt.view.held m z) (h.known m z) (h.state.records z)) (pid_eq-is p q same) h.mine
+      | inr off ↦
+          subst (KnownStands next l q (pt.view.queue m q) (pt.view.held m q) (h.known m q)) (sym (h.records_off q off))
+          (subst (λ (z : Known). KnownStands next l q (pt.view.queue m q) (pt.view.held m q) z (k.records q)) (sym (h.known_off m q off))
+          (known_same pt v l q (pt.view.queue m q) (pt.view.held m q) (pt.view.known m q) (k.records q) (c.stands.known q server)))
+    ]
+
+server_by : (b : Boot) (m : ℕ) (pt : Point) (l : Placed) (records : AllRecords) (k : KernelState) (y : Message) (p : Pid) (c : Comes b m pt l records k y p) (a : Arrives b m pt l k y p) (h : Answer b m pt l records k y p c a) (q : Pid) → is_server q ≡ true → h.state.records q ≡ None
+server_by b m pt l records k y p c a h q server = elim (cases_Bool (pid_eq p q)) [
+  | inl same ↦ absurd (false≢true (sym a.server ∙ ap is_server (pid_eq-is p q same) ∙ server))
+  | inr off ↦ h.records_off q off ∙ c.stands.no_server q server
+]
+
+-- the next message of the kernel may be put
+may_answer : (b : Boot) (m : ℕ) (pt : Point) (l : Placed) (records : AllRecords) (k : KernelState) (y : Message) (p : Pid) (c : Comes b m pt l records k y p) (a : Arrives b m pt l k y p) (h : Answer b m pt l records k y p c a)
+    → MayOwn (come_point pt (come_view pt.view m p h.box h.known h.asked)) l (at_machine records m h.state.records) (own k y.sender h.what)
+may_answer b m pt l records k y p c a h =
+    let v = come_view pt.view m p h.box h.known h.asked in
+    let x = own k y.sender h.what in
+    let here = c.stands.here in
+    let id : x.id ≡ id_of (pid_of m 0) (pt.view.count m) = λ i. id_of (pid_of (here i) 0) (c.count i) in
+    let untold : pt.view.told x.id ≡ None = ap pt.view.told id ∙ next_untold b pt m c.run in
+    let at_home : unmoved y.sender.pid.home ≡ place_of y.sender = subst (λ (z : Addr). unmoved z.pid.home ≡ place_of z) (sym a.sender) refl in
+    let gives = h.gives v x.id y.sender.pid in
+    let comes : destination_of x.id (told_of x) ≡ m = ap (λ (d : Bool). if d then y.sender.pid.home else k.here) h.is_reply ∙ here in
+    let known : at_machine records m h.state.records (destination_of x.id (told_of x)) p ≡ h.state.records p =
+    ap (λ (n : ℕ). at_machine records m h.state.records n p) comes ∙ (λ i. machine_self records m h.state.records i p) in
+    record {
+      id = id;
+      plain = ap (with_what x) h.plain;
+      encloses = h.encloses;
+      bag = fresh_own b pt l x.id c.run c.mirrors c.own refl untold;
+      untold = untold;
+      receiver = gets_receiver pt.addresses v x.id y.sender.pid _ gives ∙ at_home;
+      sender = gets_sender pt.addresses v x.id y.sender.pid _ gives ∙ ap unmoved (sym here);
+      about = sym h.about;
+      asker = λ e. absurd (false≢true (sym (ap is_between e) ∙ h.between));
+      carried = λ between q about.
+          let e : p ≡ q = of_same p q (sym h.about ∙ about) in
+          subst (λ (z : Pid). IsCarried l (h.asked z) (at_machine records m h.state.records) z x) e (record {
+            process = a.process;
+            there = a.there;
+            sender = refl;
+            carries = subst (λ (o : Option machine.Known). Carries p a.process (h.asked p) (incoming_of o) h.what) (sym known) h.carries;
+          });
+    }
+  where
+    of_same : (i j : Pid) → Of i ≡ Of j → i ≡ j
+    of_same i j e = cc
+
+pub turns_answer : (b : Boot) (m : ℕ) (pt : Point) (l : Placed) (records : AllRecords) (k : KernelState) (y : Message) (p : Pid) (c : Comes b m pt l records k y p) (a : Arrives b m pt l k y p) → Answer b m pt l records k y p c a → TurnsAt b m pt l records k
+turns_answer b m pt l records k y p c a h =
+    let v = come_view pt.view m p h.box h.known h.asked in
+    let next = come_point pt v in
+    let x = own k y.sender h.what in
+    let stands = c.stands in
+    let sender : y.sender ≡ kernel_at y.id.from.home = a.sender in
+    record {
+      state = h.state;
+      says = h.line ∷ [];
+      routes = Own x ∷ [];
+      late = Nothing;
+      turn = h.turn;
+      outcome = h.outcome ∙ ap (λ (z : Addr). Some (rule.Says h.line ∷ rule.Owns (kind_of h.what) z.pid z.at ∷ [])) (sym sender);
+      next = next;
+      after = h.after;
+      placed = l;
+      mirrors = mirrors_view pt.kernel pt.view v pt.addresses l refl c.mirrors;
+      kernel = record {
+        here = h.here ∙ stands.here;
+        known = λ q server. known_by b m pt l records k y p c a h q server;
+        no_server = λ q server. server_by b m pt l records k y p c a h q server;
+        ring = h.ring ∙ stands.ring;
+        inbox = ap (map l.bag) (machine_self pt.view.inbox m h.box ∙ h.is_box) ∙ c.others ∙ ap (map Some) (sym h.inbox);
+        made = h.made ∙ stands.made;
+        room = h.room;
+        servers = h.servers ∙ stands.servers;
+      };
+      sent = λ e. let f = h.sent in omega (arith, e, f);
+      elsewhere = record {
+        acting = refl;
+        groups = refl;
+        pair = λ d e. refl;
+        inbox = λ n off. machine_off pt.view.inbox m n h.box off;
+        ring = λ n off. refl;
+        known = λ n q off. h.known_away n q off;
+        queue = λ n q off. refl;
+        held = λ n q off. refl;
+        count = λ n. refl;
+        told = refl;
+        machines = refl;
+        made = λ n off. refl;
+        process = λ n q off is. refl;
+        ended = λ n q off is. refl;
+        life = λ n q off is. refl;
+        bag = λ i s is least. refl;
+        board = λ off. refl;
+        manager = λ off. refl;
+      };
+      may = (may_answer b m pt l records k y p c a h, tt);
+      late_may = tt;
+      single = omega arith;
+      topic = tt;
+      own = λ i z there plain. let s = c.own i z there plain in record { told = s.told; mine = s.mine; sender = s.sender };
+      tokens = tokens_kept b m pt l records k y p c a h.box h.known h.asked h.state h.is_box h.asked_off h.records_off;
+    }

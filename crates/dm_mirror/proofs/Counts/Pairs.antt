@@ -1,0 +1,298 @@
+-- Only pairs of machines that there are have messages.
+use Rattle.std.proofs.Common.{◌≡◌, ◌≢◌, ◌⊎◌, inl, inr, ℕ, zero, suc, ◌+◌, ◌<◌, ◌≤◌, ◌==◌, ◌&&◌, Bool, true, false, List, [], ◌∷◌, ◌++◌, length, drop, filter, is_some, not, refl, ap, ◌∙◌, sym, subst, arith}
+use Rattle.std.specs.Prelude.{if◌then◌else◌, slice_get}
+use Rattle.std.specs.declared.option.Option.{Option}
+use Rattle.std.specs.declared.option.Option.TheVariants.{None, Some}
+use Rattle.std.proofs.lemmas.Bool.{cases_Bool, false≢true}
+use Rattle.std.proofs.lemmas.Bool.Decides.{nat_tests}
+use Rattle.dm_link.specs.declared.Pid.{Pid}
+use Rattle.dm_message.specs.declared.MsgId.{MsgId}
+use Rattle.dm_message.specs.declared.kind.MessageKind.{MessageKind}
+use Rattle.dm_message.specs.Kinds.{plain_kind}
+use Rattle.dm_message.specs.Plain.{PlainMessage}
+use Rattle.dm_onekernel.specs.declared.boot.Boot.{Boot}
+use Rattle.dm_laws.proofs.Equal.{id_eq-same}
+use Rattle.dm_laws.proofs.Steps.{bind-is}
+use Rattle.dm_schedule.specs.declared.Step.{Step}
+use Rattle.dm_schedule.specs.declared.Step.TheVariants as step
+use Rattle.dm_line.specs.declared.line.Line.{Line}
+use Rattle.dm_line.specs.declared.line.Line.TheVariants as line
+use Rattle.dm_line.specs.declared.line.Load.{Load}
+use Rattle.dm_line.specs.declared.line.Load.TheVariants as load
+use Rattle.dm_rule.specs.Addresses.{Receiver}
+use Rattle.dm_rule.specs.Laws.{IsStep}
+use Rattle.dm_rule.specs.Parts.{Part, Says, Routes, Again, Owns, Transmits, Spelled, goes_out, packet_line, puts, spelled}
+use Rattle.dm_rule.specs.Point.{Point, after, moved}
+use Rattle.dm_rule.specs.Rule as rule
+use Rattle.dm_rule.specs.Rule.{group_of}
+use Rattle.dm_rule.specs.Spots.{Spot, StandsOutside, Untaken, standing, times}
+use Rattle.dm_rule.specs.View.{View, Pair, Told, after_put, at_least, gone_after, is_kernels, marked, oldest, own_id, taken_id, view_after, routed_on, with_pair}
+use Rattle.dm_rule.specs.Migrating.{migrates}
+use Rattle.dm_rule.specs.Homes.{to_of}
+use Rattle.dm_rulelaws.specs.Found.{machine_of}
+use Rattle.dm_rule.proofs.Pairs.{Pairs, pair_stands}
+use Rattle.dm_rule.proofs.Groups.{IsNet, IsNetLine, arrives_net, group_is, resends_net, stands_right}
+use Rattle.dm_rule.proofs.Pairs.Lines.{AllFit, onward, pair_same}
+use Rattle.dm_rule.proofs.Pairs.Migrating.{migrates_fit}
+use Rattle.dm_rule.proofs.Pairs.Turns.{turns_fit}
+use Rattle.dm_rule.proofs.States.{said, says_next, transmits_next}
+use Rattle.dm_rulelaws.proofs.Runs.{Run}
+use Rattle.dm_mirror.proofs.Counts.Acting.{line_acting}
+use Rattle.dm_mirror.proofs.Counts.Own.{PairsWithin}
+use Rattle.dm_mirror.proofs.Totals.{ids_of}
+
+-- a pair that had no message before has it from the acting machine, which it goes to at once, or it isn't taken yet
+pub record Fresh (u : View) (m : ℕ) (v : View) : Type 0 where
+  pub acting : v.acting ≡ m
+  pub new : (a c : ℕ) → 1 ≤ ids_of v a c → (1 ≤ ids_of u a c) ⊎ ((a ≡ m) × ((a ≡ c) ⊎ ((v.pair a c).taken ≡ 0)))
+  -- and a pair that had none has taken none
+  pub none : (a c : ℕ) → ids_of u a c ≡ 0 → a ≢ c → (v.pair a c).taken ≡ 0
+
+fresh_same : (u : View) (m : ℕ) (v w : View) → w.acting ≡ v.acting → w.pair ≡ v.pair → Fresh u m v → Fresh u m w
+fresh_same u m v w acting pair h = record {
+  acting = acting ∙ h.acting;
+  new = subst (λ (f : ℕ → ℕ → Pair). (a c : ℕ) → 1 ≤ length (f a c).ids → (1 ≤ ids_of u a c) ⊎ ((a ≡ m) × ((a ≡ c) ⊎ ((f a c).taken ≡ 0)))) (sym pair) h.new;
+  none = subst (λ (f : ℕ → ℕ → Pair). (a c : ℕ) → ids_of u a c ≡ 0 → a ≢ c → (f a c).taken ≡ 0) (sym pair) h.none;
+}
+
+-- a put, and a packet
+pub same_of : (x y : ℕ) → (x == y) ≡ true → x ≡ y
+same_of x y t = grind (arith, nat_tests)
+
+none_or_some : (n : ℕ) → (n ≡ 0) ⊎ (1 ≤ n)
+none_or_some zero = inl refl
+none_or_some (suc n) = inr (omega arith)
+
+parts : (c d : Bool) → (c && d) ≡ true → (c ≡ true) × (d ≡ true)
+parts true d e = (refl, e)
+parts false d e = absurd (false≢true e)
+
+set_taken : (f : ℕ → ℕ → Pair) (a b : ℕ) (p : Pair) (c d : ℕ) (t : Bool) → ((a == c) && (b == d)) ≡ t → (a ≢ b → p.taken ≡ (f a b).taken) → c ≢ d → (if t then p else f c d).taken ≡ (f c d).taken
+set_taken f a b p c d true e h off =
+    let k = parts (a == c) (b == d) e in
+    let x = same_of a c k.0 in
+    let y = same_of b d k.1 in
+    h (λ same. off (sym x ∙ same ∙ y)) ∙ ap (λ (g : ℕ). (f g b).taken) x ∙ ap (λ (g : ℕ). (f c g).taken) y
+set_taken f a b p c d false e h off = refl
+
+put_taken : (v : View) (a b : ℕ) (i : MsgId) → a ≢ b → (routed_on a b (v.pair a b) i).taken ≡ (v.pair a b).taken
+put_taken v a b i off = by (a == b) refl
+  where
+    by : (c : Bool) → (a == b) ≡ c → (if c then (v.pair a b).taken + 1 else (v.pair a b).taken) ≡ (v.pair a b).taken
+    by true e = absurd (off (same_of a b e))
+    by false e = refl
+
+-- either way a pair's messages came before, or from the acting machine
+fresh_by : (u : View) (m : ℕ) (v w : View) (a : ℕ) → Fresh u m v → w.acting ≡ v.acting → a ≡ m → ((c d : ℕ) → c ≢ d → (w.pair c d).taken ≡ (v.pair c d).taken) → ((c d : ℕ) → c ≢ a → ids_of w c d ≡ ids_of v c d) → Fresh u m w
+fresh_by u m v w a h acting from taken others =
+    let none : (c d : ℕ) → ids_of u c d ≡ 0 → c ≢ d → (w.pair c d).taken ≡ 0 = λ c d z off. taken c d off ∙ h.none c d z off in
+    record {
+      acting = acting ∙ h.acting;
+      new = λ c d some. elim (none_or_some (ids_of u c d)) [
+        | inr had ↦ inl had
+        | inl z ↦ elim (cases_Bool (c == m)) [
+          | inl here ↦ elim (cases_Bool (c == d)) [
+            | inl home ↦ inr (same_of c m here, inl (same_of c d home))
+            | inr off ↦ inr (same_of c m here, inr (none c d z (λ same. false≢true (sym off ∙ (let t : (c == d) ≡ true = grind (arith, nat_tests) in t)))))
+          ]
+          | inr off ↦
+              let apart : c ≢ a = λ same. false≢true (sym off ∙ (let t : (c == m) ≡ true = grind (arith, nat_tests) in t)) in
+              let e = others c d apart in
+              elim (h.new c d (omega (arith, e, some))) [
+                | inl had ↦ inl had
+                | inr way ↦ absurd (apart (way.0 ∙ sym from))
+              ]
+        ]
+      ];
+      none = none;
+    }
+
+set_other : (f : ℕ → ℕ → Pair) (a b : ℕ) (p : Pair) (c d : ℕ) (t : Bool) → (a == c) ≡ t → c ≢ a → (if t && (b == d) then p else f c d).ids ≡ (f c d).ids
+set_other f a b p c d true e off = absurd (off (sym (same_of a c e)))
+set_other f a b p c d false e off = refl
+
+pub fresh_put : (u : View) (m : ℕ) (v : View) (b : ℕ) (i : MsgId) (k : MessageKind) (q : Pid) → Fresh u m v → Fresh u m (after_put v v.acting b i k q)
+fresh_put u m v b i k q h =
+    fresh_by u m v (after_put v v.acting b i k q) v.acting h refl h.acting
+    (λ c d off. set_taken v.pair v.acting b (routed_on v.acting b (v.pair v.acting b) i) c d ((v.acting == c) && (b == d)) refl (λ apart. put_taken v v.acting b i apart) off)
+    (λ c d off. ap (λ (ids : List MsgId). length ids) (set_other v.pair v.acting b (routed_on v.acting b (v.pair v.acting b) i) c d (v.acting == c) refl off))
+
+-- a line that isn't a put leaves what was routed
+pub set_ids : (f : ℕ → ℕ → Pair) (a b : ℕ) (p : Pair) (c d : ℕ) (t : Bool) → ((a == c) && (b == d)) ≡ t → p.ids ≡ (f a b).ids → (if t then p else f c d).ids ≡ (f c d).ids
+set_ids f a b p c d true e h =
+    let k = parts (a == c) (b == d) e in
+    h ∙ ap (λ (g : ℕ). (f g b).ids) (same_of a c k.0) ∙ ap (λ (g : ℕ). (f c g).ids) (same_of b d k.1)
+set_ids f a b p c d false e h = refl
+
+fresh_packet : (u : View) (m : ℕ) (v : View) (a b k : ℕ) (l : Load) → Fresh u m v → Fresh u m (view_after v (line.Packet a b k l))
+fresh_packet u m v a b k l h =
+    let p : Pair = record (v.pair a b) { gone = gone_after l (v.pair a b).gone; wire = (v.pair a b).wire ++ record { load = l; delivered = false } ∷ [] } in
+    fresh_by u m v (view_after v (line.Packet a b k l)) m h refl refl
+    (λ c d off. set_taken v.pair a b p c d ((a == c) && (b == d)) refl (λ apart. refl) off)
+    (λ c d off. ap (λ (ids : List MsgId). length ids) (set_ids v.pair a b p c d ((a == c) && (b == d)) refl refl))
+
+-- parts of a turn
+fresh_rest : (u : View) (m : ℕ) (pt next : Point) (a b k : ℕ) (l : Load) (home out : Bool) → Fresh u m pt.view → after pt (if home then [] else if out then line.Packet a b k l ∷ [] else []) ≡ Some next → Fresh u m next.view
+fresh_rest u m pt next a b k l true out h e = let f : pt ≡ next = cc in subst (λ (q : Point). Fresh u m q.view) f h
+fresh_rest u m pt next a b k l false false h e = let f : pt ≡ next = cc in subst (λ (q : Point). Fresh u m q.view) f h
+fresh_rest u m pt next a b k l false true h e =
+    let f : moved pt (line.Packet a b k l) pt.kernel ≡ next = cc in
+    subst (λ (q : Point). Fresh u m q.view) f (fresh_packet u m pt.view a b k l h)
+
+fresh_puts : (u : View) (m : ℕ) (pt next : Point) (b : ℕ) (i : MsgId) (k : MessageKind) (q : Pid) (ls : List Line) → Some (puts pt.view b i k q) ≡ Some ls → after pt ls ≡ Some next → Fresh u m pt.view → Fresh u m next.view
+fresh_puts u m pt next b i k q ls is e h =
+    let f : puts pt.view b i k q ≡ ls = cc in
+    let a = pt.view.acting in
+    fresh_rest u m (moved pt (line.Put a b i k q) pt.kernel) next a b (length (pt.view.pair a b).wire) (load.Data (length (pt.view.pair a b).ids)) (a == b) (goes_out (pt.view.pair a b)) (fresh_put u m pt.view b i k q h) (ap (after pt) f ∙ e)
+
+fresh_parts : (ps : List Part) (f : ℕ → ℕ → Pair) (u : View) (m : ℕ) (pt : Point) (w : Spelled) → AllFit f ps → spelled pt ps ≡ Some w → Fresh u m pt.view → Fresh u m w.point.view
+fresh_parts [] f u m pt w fits e h = subst (λ (q : Point). Fresh u m q.view) (said pt w e) h
+fresh_parts (Says l ∷ ps) f u m pt w fits e h =
+    let k = says_next pt l ps w e in
+    subst (λ (q : Point). Fresh u m q.view) k.point (fresh_parts ps f u m (moved pt l k.s) k.rest fits.1 k.more (fresh_same u m pt.view (view_after pt.view l) (line_acting pt.view l fits.0) (pair_same pt.view l fits.0) h))
+fresh_parts (Routes i ∷ ps) f u m pt w fits e h =
+    let o = onward pt (Routes i) ps w e in
+    let (x, there, is) = bind-is (pt.kernel.bag i) (λ x. Some (puts pt.view (pt.addresses (Receiver i)).at i (plain_kind x.what) x.to)) o.lines o.lines_are in
+    subst (λ (q : Point). Fresh u m q.view) o.end (fresh_parts ps f u m o.next o.rest fits.1 o.on (fresh_puts u m pt o.next (pt.addresses (Receiver i)).at i (plain_kind x.what) x.to o.lines is o.leads h))
+fresh_parts (Again i b ∷ ps) f u m pt w fits e h =
+    let o = onward pt (Again i b) ps w e in
+    let (t, there, is) = bind-is (pt.view.told i) (λ t. Some (puts pt.view b i t.kind t.receiver)) o.lines o.lines_are in
+    subst (λ (q : Point). Fresh u m q.view) o.end (fresh_parts ps f u m o.next o.rest fits.1 o.on (fresh_puts u m pt o.next b i t.kind t.receiver o.lines is o.leads h))
+fresh_parts (Owns k q b ∷ ps) f u m pt w fits e h =
+    let o = onward pt (Owns k q b) ps w e in
+    subst (λ (r : Point). Fresh u m r.view) o.end (fresh_parts ps f u m o.next o.rest fits.1 o.on (fresh_puts u m pt o.next b (own_id pt.view) k q o.lines o.lines_are o.leads h))
+fresh_parts (Transmits a c l ∷ ps) f u m pt w fits e h =
+    let k = transmits_next pt a c l ps w e in
+    subst (λ (q : Point). Fresh u m q.view) k.point (fresh_parts ps f u m (moved pt (packet_line pt.view a c l) pt.kernel) k.rest fits.1 k.more (fresh_packet u m pt.view a c (length (pt.view.pair a c).wire) l h))
+
+-- nothing was put yet
+fresh_start : (u v : View) (m : ℕ) → v.acting ≡ m → v.pair ≡ u.pair → Pairs u → Fresh u m v
+fresh_start u v m acting pair h = record {
+  acting = acting;
+  new = λ a c some. inl (let e = ap (λ (f : ℕ → ℕ → Pair). length (f a c).ids) pair in omega (arith, some, e));
+  none = λ a c z off.
+      let k = pair_stands u a c off h in
+      let taken = k.taken in let gone = k.gone in
+      ap (λ (f : ℕ → ℕ → Pair). (f a c).taken) pair ∙ (let t : (u.pair a c).taken ≡ 0 = omega (arith, z, taken, gone) in t);
+}
+
+-- so each pair with messages is one of machines that there are
+first_of : (ids : List MsgId) → 1 ≤ length ids → (i : MsgId) × (1 ≤ times i ids)
+first_of [] some = absurd (omega (arith, some))
+first_of (i ∷ is) some = (i, let e : times i (i ∷ is) ≡ 1 + times i is = ap (λ (c : Bool). (if c then 1 else 0) + times i is) (id_eq-same i) in omega (arith, e))
+
+own_by : (c : Bool) (f : Spot → ℕ) (z : Spot) → 1 ≤ f z → StandsOutside c f → c ≡ true
+own_by true f z least h = refl
+own_by false f z least h = absurd (let e : f z ≡ 0 = h z in omega (arith, least, e))
+
+told_is : (o : Option Told) → is_some o ≡ true → (t : Told) × (o ≡ Some t)
+told_is None e = absurd (false≢true e)
+told_is (Some t) e = (t, refl)
+
+address_within : (b : Boot) (pt : Point) (i : MsgId) (z : Spot) (o : Option PlainMessage) → pt.kernel.bag i ≡ o → Run b pt → 1 ≤ standing pt.view i z → (pt.addresses (Receiver i)).at < pt.kernel.machines
+address_within b pt i z (Some x) there run stands = run.found.within (Receiver i) x.to (ap to_of there)
+address_within b pt i z None there run stands =
+    let (t, told) = told_is (pt.view.told i) (run.found.told i z stands) in
+    run.found.own_within i t told (own_by (is_kernels i) (standing pt.view i) z stands (stands_right pt i run.based.phased.state None there))
+
+pub stood_within : (b : Boot) (pt : Point) (i : MsgId) (z : Spot) → Run b pt → 1 ≤ standing pt.view i z → machine_of z < pt.kernel.machines
+stood_within b pt i z run stands =
+    let lt = address_within b pt i z (pt.kernel.bag i) refl run stands in
+    let at_ = run.found.at_ i z stands in
+    omega (arith, lt, at_)
+
+fresh_within : (b : Boot) (u : View) (m n : ℕ) (end : Point) → end.kernel.machines ≡ n → m < n → Run b end → Fresh u m end.view → PairsWithin n u → PairsWithin n end.view
+fresh_within b u m n end machines small run h within = λ a c some.
+    elim (h.new a c some) [
+      | inl had ↦ within a c had
+      | inr way ↦
+          let here = way.0 in
+          let left : a < n = omega (arith, here, small) in
+          elim way.1 [
+            | inl home ↦ (left, omega (arith, left, home))
+            | inr none ↦
+                let (i, first) = first_of (end.view.pair a c).ids some in
+                let stands : 1 ≤ standing end.view i (Untaken a c) = subst (λ (k : ℕ). 1 ≤ times i (drop k (end.view.pair a c).ids)) (sym none) first in
+                let lt = stood_within b end i (Untaken a c) run stands in
+                (left, omega (arith, lt, machines))
+          ]
+    ]
+
+-- what comes over wires routes nothing
+taken_pair : (v : View) (b : ℕ) (o : Option MsgId) → (taken_id v b o).pair ≡ v.pair
+taken_pair v b None = refl
+taken_pair v b (Some i) = refl
+
+pub net_ids : (v : View) (l : Line) → IsNetLine l → (a c : ℕ) → ((view_after v l).pair a c).ids ≡ (v.pair a c).ids
+net_ids v (line.Taken a b n) h c d =
+    let p : Pair = record (v.pair a b) { taken = (v.pair a b).taken + 1; kept = filter (λ k. not (k == n)) (v.pair a b).kept } in
+    ap (λ (f : ℕ → ℕ → Pair). (f c d).ids) (taken_pair (with_pair v a b p) b (oldest (v.pair a b))) ∙ set_ids v.pair a b p c d ((a == c) && (b == d)) refl refl
+net_ids v (line.Early a b n) h c d = set_ids v.pair a b (record (v.pair a b) { kept = n ∷ filter (λ k. not (k == n)) (v.pair a b).kept }) c d ((a == c) && (b == d)) refl refl
+net_ids v (line.Acked a b n) h c d = set_ids v.pair b a (record (v.pair b a) { acked = at_least (v.pair b a).acked n }) c d ((b == c) && (a == d)) refl refl
+net_ids v (line.Old a b n) h c d = refl
+net_ids v line.Nothing h c d = refl
+net_ids v (line.Resent m n) h c d = refl
+net_ids v (line.Head d) h c e = absurd h
+net_ids v (line.Idle m) h c e = absurd h
+net_ids v (line.Label x) h c e = absurd h
+net_ids v (line.Put a b i k q) h c e = absurd h
+net_ids v (line.Packet a b k x) h c e = absurd h
+net_ids v (line.Queued i) h c e = absurd h
+net_ids v (line.Held i) h c e = absurd h
+net_ids v (line.Forwarded i m) h c e = absurd h
+net_ids v (line.Updated i n) h c e = absurd h
+net_ids v (line.Migration s p) h c e = absurd h
+net_ids v (line.SentOn p n) h c e = absurd h
+net_ids v (line.Lacks p s b) h c e = absurd h
+net_ids v (line.Stays p) h c e = absurd h
+net_ids v (line.Here i) h c e = absurd h
+net_ids v (line.NoMove i) h c e = absurd h
+net_ids v (line.Proto i) h c e = absurd h
+net_ids v (line.NoChild p) h c e = absurd h
+net_ids v (line.Pinned p) h c e = absurd h
+
+net_parts : (ps : List Part) (pt : Point) (w : Spelled) → IsNet ps → spelled pt ps ≡ Some w → (a c : ℕ) → (w.point.view.pair a c).ids ≡ (pt.view.pair a c).ids
+net_parts [] pt w h e a c = ap (λ (q : Point). (q.view.pair a c).ids) (sym (said pt w e))
+net_parts (Says l ∷ ps) pt w h e a c =
+    let k = says_next pt l ps w e in
+    ap (λ (q : Point). (q.view.pair a c).ids) (sym k.point) ∙ net_parts ps (moved pt l k.s) k.rest h.1 k.more a c ∙ net_ids pt.view l h.0 a c
+net_parts (Routes i ∷ ps) pt w h e a c = absurd h.0
+net_parts (Again i b ∷ ps) pt w h e a c = absurd h.0
+net_parts (Owns k q b ∷ ps) pt w h e a c = absurd h.0
+net_parts (Transmits x y l ∷ ps) pt w h e a c =
+    let k = transmits_next pt x y l ps w e in
+    let p : Pair = record (pt.view.pair x y) { gone = gone_after l (pt.view.pair x y).gone; wire = (pt.view.pair x y).wire ++ record { load = l; delivered = false } ∷ [] } in
+    ap (λ (q : Point). (q.view.pair a c).ids) (sym k.point) ∙ net_parts ps (moved pt (packet_line pt.view x y l) pt.kernel) k.rest h.1 k.more a c ∙ set_ids pt.view.pair x y p a c ((x == a) && (y == c)) refl refl
+
+ids_within : (n : ℕ) (v w : View) → ((a c : ℕ) → (w.pair a c).ids ≡ (v.pair a c).ids) → PairsWithin n v → PairsWithin n w
+ids_within n v w same h = λ a c some. h a c (let e = ap (λ (ids : List MsgId). length ids) (same a c) in omega (arith, some, e))
+
+-- each group
+pub within_group : (b : Boot) (pt : Point) (d : Step) (w : Spelled) (n : ℕ) → 0 < n → pt.kernel.machines ≡ n → w.point.kernel.machines ≡ n → IsStep n d → group_of b pt d ≡ Some w → Pairs pt.view → Run b w.point → PairsWithin n pt.view → PairsWithin n w.point.view
+within_group b pt (step.Turn m) w n some same after_ fit e pairs run h =
+    let g = group_is b pt (step.Turn m) w e in
+    let start = moved pt (line.Head (step.Turn m)) pt.kernel in
+    let fresh = fresh_parts g.parts pt.view.pair pt.view m start g.rest (turns_fit pt.view.pair b pt m (pt.view.inbox m) g.parts g.is) g.said (fresh_start pt.view start.view m refl refl pairs) in
+    fresh_within b pt.view m n w.point after_ fit run (subst (λ (q : Point). Fresh pt.view m q.view) g.point fresh) h
+within_group b pt (step.Tick m) w n some same after_ fit e pairs run h =
+    let g = group_is b pt (step.Tick m) w e in
+    let qs = Says (line.Resent m (rule.outstanding pt.view m pt.kernel.machines)) ∷ rule.resends pt.view m pt.kernel.machines in
+    let f : qs ≡ g.parts = let k = g.is in cc in
+    let start = moved pt (line.Head (step.Tick m)) pt.kernel in
+    subst (λ (q : Point). PairsWithin n q.view) g.point
+    (ids_within n pt.view g.rest.point.view (λ a c. net_parts qs start g.rest (tt, resends_net pt.view m pt.kernel.machines) (ap (spelled start) f ∙ g.said) a c) h)
+within_group b pt (step.Deliver a c k) w n some same after_ fit e pairs run h =
+    let g = group_is b pt (step.Deliver a c k) w e in
+    let there = slice_get (pt.view.pair a c).wire k in
+    let qs = rule.arrives a c (pt.view.pair a c) (pt.view.pair c a) there in
+    let f : qs ≡ g.parts = let t = g.is in cc in
+    let start = moved pt (line.Head (step.Deliver a c k)) pt.kernel in
+    subst (λ (q : Point). PairsWithin n q.view) g.point
+    (ids_within n pt.view g.rest.point.view
+    (λ x y. net_parts qs start g.rest (arrives_net a c (pt.view.pair a c) (pt.view.pair c a) there) (ap (spelled start) f ∙ g.said) x y ∙ set_ids pt.view.pair a c (marked (pt.view.pair a c) k) x y ((a == x) && (c == y)) refl refl) h)
+within_group b pt (step.Migrate p m) w n some same after_ fit e pairs run h =
+    let g = group_is b pt (step.Migrate p m) w e in
+    let f : migrates pt p ≡ g.parts = let k = g.is in cc in
+    let start = moved pt (line.Head (step.Migrate p m)) pt.kernel in
+    let fresh = fresh_parts (migrates pt p) pt.view.pair pt.view 0 start g.rest (migrates_fit pt.view.pair pt p) (ap (spelled start) f ∙ g.said) (fresh_start pt.view start.view 0 refl refl pairs) in
+    fresh_within b pt.view 0 n w.point after_ some run (subst (λ (q : Point). Fresh pt.view 0 q.view) g.point fresh) h

@@ -1,0 +1,271 @@
+-- What waits for a process was routed: it is no more than all that was.
+use Rattle.std.proofs.Common.{◌≡◌, ◌≢◌, ◌⊎◌, inl, inr, ℕ, zero, suc, ◌+◌, ◌<◌, ◌≤◌, ◌==◌, ◌&&◌, Bool, true, false, List, [], ◌∷◌, ◌++◌, length, length-append, is_some, refl, ap, ◌∙◌, sym, subst, arith}
+use Rattle.std.specs.Prelude.{if◌then◌else◌}
+use Rattle.std.specs.declared.option.Option.{Option}
+use Rattle.std.specs.declared.option.Option.TheVariants.{Some}
+use Rattle.std.proofs.lemmas.Bool.{cases_Bool, false≢true}
+use Rattle.std.proofs.lemmas.Bool.Decides.{nat_tests}
+use Rattle.dm_link.specs.declared.Pid.{Pid}
+use Rattle.dm_message.specs.Ids.{id_eq}
+use Rattle.dm_message.specs.declared.MsgId.{MsgId}
+use Rattle.dm_message.specs.declared.kind.MessageKind.{MessageKind}
+use Rattle.dm_onekernel.specs.declared.boot.Boot.{Boot}
+use Rattle.dm_laws.proofs.Equal.{id_eq-is, id_eq-same}
+use Rattle.dm_schedule.specs.declared.Step.{Step}
+use Rattle.dm_schedule.specs.declared.Step.TheVariants as step
+use Rattle.dm_line.specs.declared.line.Line.{Line}
+use Rattle.dm_line.specs.declared.line.Line.TheVariants as line
+use Rattle.dm_rule.specs.Parts.{Spelled}
+use Rattle.dm_rule.specs.Point.{Point}
+use Rattle.dm_rule.specs.Rule.{group_of}
+use Rattle.dm_rule.specs.Spots.{Held, Queue, standing, times}
+use Rattle.dm_rule.specs.View.{View, Pair, Told, after_put, first_told, first_view, gone_after, marked, routed_on, view_after}
+use Rattle.dm_rule.proofs.Hushed.{hushed, is_put}
+use Rattle.dm_rule.proofs.Pairs.Lines.{pair_same}
+use Rattle.dm_rule.proofs.Standing.{StandsAsBag-elsewhere, StandsAsBag-one, times-append}
+use Rattle.dm_rule.proofs.Letters.{letters}
+use Rattle.dm_rulelaws.proofs.Runs.{Run}
+use Rattle.dm_mirror.proofs.Counts.Own.{PairsWithin, group_keeps}
+use Rattle.dm_mirror.proofs.Counts.Pairs.{net_ids, same_of, set_ids}
+use Rattle.dm_mirror.proofs.Totals.{from_one, ids_of, sum_to, total}
+
+-- whatever was told of was routed
+pub record IsRouted (v : View) (i : MsgId) : Type 0 where
+  pub from : ℕ
+  pub to : ℕ
+  pub there : 1 ≤ times i (v.pair from to).ids
+
+abbrev pub Routed : View → Type 0
+Routed v = (i : MsgId) → is_some (v.told i) ≡ true → IsRouted v i
+
+head_ids : (v : View) (d : Step) (x y : ℕ) → ((view_after v (line.Head d)).pair x y).ids ≡ (v.pair x y).ids
+head_ids v (step.Turn m) x y = refl
+head_ids v (step.Tick m) x y = refl
+head_ids v (step.Deliver a c k) x y = set_ids v.pair a c (marked (v.pair a c) k) x y ((a == x) && (c == y)) refl refl
+head_ids v (step.Migrate p m) x y = refl
+
+line_ids : (v : View) (l : Line) → is_put l ≡ false → (x y : ℕ) → ((view_after v l).pair x y).ids ≡ (v.pair x y).ids
+line_ids v (line.Head d) e x y = head_ids v d x y
+line_ids v (line.Idle m) e x y = ap (λ (f : ℕ → ℕ → Pair). (f x y).ids) (pair_same v (line.Idle m) refl)
+line_ids v (line.Label l) e x y = ap (λ (f : ℕ → ℕ → Pair). (f x y).ids) (pair_same v (line.Label l) refl)
+line_ids v (line.Put a b i k q) e x y = absurd (false≢true (sym e))
+line_ids v (line.Packet a b k l) e x y = set_ids v.pair a b (record (v.pair a b) { gone = gone_after l (v.pair a b).gone; wire = (v.pair a b).wire ++ record { load = l; delivered = false } ∷ [] }) x y ((a == x) && (b == y)) refl refl
+line_ids v (line.Taken a b n) e x y = net_ids v (line.Taken a b n) tt x y
+line_ids v (line.Old a b n) e x y = ap (λ (f : ℕ → ℕ → Pair). (f x y).ids) (pair_same v (line.Old a b n) refl)
+line_ids v (line.Early a b n) e x y = net_ids v (line.Early a b n) tt x y
+line_ids v (line.Acked a b n) e x y = net_ids v (line.Acked a b n) tt x y
+line_ids v line.Nothing e x y = ap (λ (f : ℕ → ℕ → Pair). (f x y).ids) (pair_same v line.Nothing refl)
+line_ids v (line.Resent m n) e x y = ap (λ (f : ℕ → ℕ → Pair). (f x y).ids) (pair_same v (line.Resent m n) refl)
+line_ids v (line.Queued i) e x y = ap (λ (f : ℕ → ℕ → Pair). (f x y).ids) (pair_same v (line.Queued i) refl)
+line_ids v (line.Held i) e x y = ap (λ (f : ℕ → ℕ → Pair). (f x y).ids) (pair_same v (line.Held i) refl)
+line_ids v (line.Forwarded i m) e x y = ap (λ (f : ℕ → ℕ → Pair). (f x y).ids) (pair_same v (line.Forwarded i m) refl)
+line_ids v (line.Updated i n) e x y = ap (λ (f : ℕ → ℕ → Pair). (f x y).ids) (pair_same v (line.Updated i n) refl)
+line_ids v (line.Migration s p) e x y = ap (λ (f : ℕ → ℕ → Pair). (f x y).ids) (pair_same v (line.Migration s p) refl)
+line_ids v (line.SentOn p n) e x y = ap (λ (f : ℕ → ℕ → Pair). (f x y).ids) (pair_same v (line.SentOn p n) refl)
+line_ids v (line.Lacks p s b) e x y = ap (λ (f : ℕ → ℕ → Pair). (f x y).ids) (pair_same v (line.Lacks p s b) refl)
+line_ids v (line.Stays p) e x y = ap (λ (f : ℕ → ℕ → Pair). (f x y).ids) (pair_same v (line.Stays p) refl)
+line_ids v (line.Here i) e x y = ap (λ (f : ℕ → ℕ → Pair). (f x y).ids) (pair_same v (line.Here i) refl)
+line_ids v (line.NoMove i) e x y = ap (λ (f : ℕ → ℕ → Pair). (f x y).ids) (pair_same v (line.NoMove i) refl)
+line_ids v (line.Proto i) e x y = ap (λ (f : ℕ → ℕ → Pair). (f x y).ids) (pair_same v (line.Proto i) refl)
+line_ids v (line.NoChild p) e x y = ap (λ (f : ℕ → ℕ → Pair). (f x y).ids) (pair_same v (line.NoChild p) refl)
+line_ids v (line.Pinned p) e x y = ap (λ (f : ℕ → ℕ → Pair). (f x y).ids) (pair_same v (line.Pinned p) refl)
+
+still_routed : (v : View) (l : Line) → is_put l ≡ false → Routed v → Routed (view_after v l)
+still_routed v l off h = λ i told.
+    let k = h i (sym (ap (λ (f : MsgId → Option Told). is_some (f i)) (hushed v l off).told) ∙ told) in
+    let there = k.there in
+    let same = ap (times i) (line_ids v l off k.from k.to) in
+    record { from = k.from; to = k.to; there = omega (arith, there, same) }
+
+more_times : (j i : MsgId) (ids : List MsgId) → times j ids ≤ times j (ids ++ i ∷ [])
+more_times j i ids = let e = times-append j ids (i ∷ []) in omega (arith, e)
+
+last_times : (i : MsgId) (ids : List MsgId) → 1 ≤ times i (ids ++ i ∷ [])
+last_times i ids = let e = times-append i ids (i ∷ []) in let one : times i (i ∷ []) ≡ 1 = ap (λ (c : Bool). (if c then 1 else 0) + 0) (id_eq-same i) in omega (arith, e, one)
+
+put_more : (f : ℕ → ℕ → Pair) (a b : ℕ) (i j : MsgId) (c d : ℕ) (t : Bool) → ((a == c) && (b == d)) ≡ t → 1 ≤ times j (f c d).ids → 1 ≤ times j (if t then routed_on a b (f a b) i else f c d).ids
+put_more f a b i j c d true e least =
+    let k = parts (a == c) (b == d) e in
+    let same : times j (f a b).ids ≡ times j (f c d).ids = ap (λ (g : ℕ). times j (f g b).ids) (same_of a c k.0) ∙ ap (λ (g : ℕ). times j (f c g).ids) (same_of b d k.1) in
+    let more = more_times j i (f a b).ids in
+    omega (arith, same, more, least)
+  where
+    parts : (c d : Bool) → (c && d) ≡ true → (c ≡ true) × (d ≡ true)
+    parts true d e = (refl, e)
+    parts false d e = absurd (false≢true e)
+put_more f a b i j c d false e least = least
+
+put_there : (f : ℕ → ℕ → Pair) (a b : ℕ) (i : MsgId) → 1 ≤ times i (if (a == a) && (b == b) then routed_on a b (f a b) i else f a b).ids
+put_there f a b i =
+    let here : ((a == a) && (b == b)) ≡ true = grind (arith, nat_tests) in
+    subst (λ (t : Bool). 1 ≤ times i (if t then routed_on a b (f a b) i else f a b).ids) (sym here) (last_times i (f a b).ids)
+
+put_routed : (v : View) (a b : ℕ) (i : MsgId) (k : MessageKind) (q : Pid) → Routed v → Routed (after_put v a b i k q)
+put_routed v a b i k q h = λ j told. elim (cases_Bool (id_eq i j)) [
+  | inl same ↦ record { from = a; to = b; there = subst (λ (g : MsgId). 1 ≤ times g ((after_put v a b i k q).pair a b).ids) (id_eq-is i j same) (put_there v.pair a b i) }
+  | inr off ↦
+      let was : is_some (v.told j) ≡ true = sym (ap (λ (c : Bool). is_some (if c then Some (first_told (v.told i) (record { kind = k; receiver = q; about = v.topic })) else v.told j)) off) ∙ told in
+      let r = h j was in
+      record { from = r.from; to = r.to; there = put_more v.pair a b i j r.from r.to ((a == r.from) && (b == r.to)) refl r.there }
+]
+
+line_routed : (v : View) (l : Line) → Routed v → Routed (view_after v l)
+line_routed v (line.Head d) h = still_routed v (line.Head d) refl h
+line_routed v (line.Idle m) h = still_routed v (line.Idle m) refl h
+line_routed v (line.Label l) h = still_routed v (line.Label l) refl h
+line_routed v (line.Put a b i k q) h = put_routed v a b i k q h
+line_routed v (line.Packet a b k l) h = still_routed v (line.Packet a b k l) refl h
+line_routed v (line.Taken a b n) h = still_routed v (line.Taken a b n) refl h
+line_routed v (line.Old a b n) h = still_routed v (line.Old a b n) refl h
+line_routed v (line.Early a b n) h = still_routed v (line.Early a b n) refl h
+line_routed v (line.Acked a b n) h = still_routed v (line.Acked a b n) refl h
+line_routed v line.Nothing h = still_routed v line.Nothing refl h
+line_routed v (line.Resent m n) h = still_routed v (line.Resent m n) refl h
+line_routed v (line.Queued i) h = still_routed v (line.Queued i) refl h
+line_routed v (line.Held i) h = still_routed v (line.Held i) refl h
+line_routed v (line.Forwarded i m) h = still_routed v (line.Forwarded i m) refl h
+line_routed v (line.Updated i n) h = still_routed v (line.Updated i n) refl h
+line_routed v (line.Migration s p) h = still_routed v (line.Migration s p) refl h
+line_routed v (line.SentOn p n) h = still_routed v (line.SentOn p n) refl h
+line_routed v (line.Lacks p s b) h = still_routed v (line.Lacks p s b) refl h
+line_routed v (line.Stays p) h = still_routed v (line.Stays p) refl h
+line_routed v (line.Here i) h = still_routed v (line.Here i) refl h
+line_routed v (line.NoMove i) h = still_routed v (line.NoMove i) refl h
+line_routed v (line.Proto i) h = still_routed v (line.Proto i) refl h
+line_routed v (line.NoChild p) h = still_routed v (line.NoChild p) refl h
+line_routed v (line.Pinned p) h = still_routed v (line.Pinned p) refl h
+
+pub routed_group : (b : Boot) (pt : Point) (d : Step) (w : Spelled) → group_of b pt d ≡ Some w → Routed pt.view → Routed w.point.view
+routed_group b pt d w e h = group_keeps Routed line_routed b pt d w e h
+
+pub routed_start : (b : Boot) → Routed (first_view b)
+routed_start b = λ i told. absurd (false≢true told)
+
+-- a list whose elements are among another's is no longer
+abbrev remove : MsgId → List MsgId → List MsgId
+remove i [] = []
+remove i (y ∷ ys) = if id_eq i y then ys else y ∷ remove i ys
+
+remove_length : (i : MsgId) (ys : List MsgId) → 1 ≤ times i ys → length ys ≡ length (remove i ys) + 1
+remove_length i [] least = absurd (omega (arith, least))
+remove_length i (y ∷ ys) least = elim (cases_Bool (id_eq i y)) [
+  | inl same ↦ let e = ap (λ (c : Bool). length (if c then ys else y ∷ remove i ys)) same in omega (arith, e)
+  | inr off ↦
+      let e = ap (λ (c : Bool). length (if c then ys else y ∷ remove i ys)) off in
+      let none : times i (y ∷ ys) ≡ 0 + times i ys = ap (λ (c : Bool). (if c then 1 else 0) + times i ys) off in
+      let h = remove_length i ys (omega (arith, none, least)) in
+      omega (arith, e, h)
+]
+
+abbrev one : Bool → ℕ
+one c = if c then 1 else 0
+
+remove_times : (i j : MsgId) (ys : List MsgId) → times j ys ≤ times j (remove i ys) + one (id_eq j i)
+remove_times i j [] = omega arith
+remove_times i j (y ∷ ys) = elim (cases_Bool (id_eq i y)) [
+  | inl same ↦
+      let e : times j (remove i (y ∷ ys)) ≡ times j ys = ap (λ (c : Bool). times j (if c then ys else y ∷ remove i ys)) same in
+      let f : one (id_eq j y) ≡ one (id_eq j i) = ap (λ (g : MsgId). one (id_eq j g)) (sym (id_eq-is i y same)) in
+      omega (arith, e, f)
+  | inr off ↦
+      let e : times j (remove i (y ∷ ys)) ≡ times j (y ∷ remove i ys) = ap (λ (c : Bool). times j (if c then ys else y ∷ remove i ys)) off in
+      let h = remove_times i j ys in
+      omega (arith, e, h)
+]
+
+length_by : (xs ys : List MsgId) → ((i : MsgId) → times i xs ≤ times i ys) → length xs ≤ length ys
+length_by [] ys h = omega arith
+length_by (x ∷ xs) ys h =
+    let first : times x (x ∷ xs) ≡ 1 + times x xs = ap (λ (c : Bool). one c + times x xs) (id_eq-same x) in
+    let most = h x in
+    let e = remove_length x ys (omega (arith, first, most)) in
+    let rest = length_by xs (remove x ys) (λ i. let a = h i in let c = remove_times x i ys in omega (arith, a, c)) in
+    omega (arith, e, rest)
+
+-- all that was routed, in one list
+abbrev list_to : ℕ → (ℕ → List MsgId) → List MsgId
+list_to zero f = []
+list_to (suc n) f = list_to n f ++ f n
+
+list_length : (n : ℕ) (f : ℕ → List MsgId) (g : ℕ → ℕ) → ((k : ℕ) → length (f k) ≡ g k) → length (list_to n f) ≡ sum_to n g
+list_length zero f g h = refl
+list_length (suc n) f g h = let e = length-append (list_to n f) (f n) in let r = list_length n f g h in let k = h n in omega (arith, e, r, k)
+
+list_times : (n : ℕ) (f : ℕ → List MsgId) (i : MsgId) (k : ℕ) → k < n → times i (f k) ≤ times i (list_to n f)
+list_times zero f i k lt = absurd (omega (arith, lt))
+list_times (suc n) f i k lt = elim (cases_Bool (k == n)) [
+  | inl same ↦
+      let e = times-append i (list_to n f) (f n) in
+      let g = ap (λ (j : ℕ). times i (f j)) (same_of k n same) in
+      omega (arith, e, g)
+  | inr off ↦
+      let e = times-append i (list_to n f) (f n) in
+      let h = list_times n f i k (grind (arith, nat_tests)) in
+      omega (arith, e, h)
+]
+
+abbrev from_machine : View → ℕ → ℕ → List MsgId
+from_machine v n a = list_to n (λ c. (v.pair a c).ids)
+
+abbrev all_ids : View → ℕ → List MsgId
+all_ids v n = list_to n (from_machine v n)
+
+all_length : (v : View) (n : ℕ) → length (all_ids v n) ≡ total v n
+all_length v n = list_length n (from_machine v n) (from_one v n) (λ a. list_length n (λ c. (v.pair a c).ids) (ids_of v a) (λ c. refl))
+
+some_times : (i : MsgId) (ids : List MsgId) → 1 ≤ times i ids → 1 ≤ length ids
+some_times i [] least = absurd (omega (arith, least))
+some_times i (x ∷ xs) least = omega arith
+
+routed_in : (v : View) (n : ℕ) (i : MsgId) → PairsWithin n v → IsRouted v i → 1 ≤ times i (all_ids v n)
+routed_in v n i within r =
+    let there = r.there in
+    let at_ = within r.from r.to (some_times i (v.pair r.from r.to).ids there) in
+    let inner = list_times n (λ c. (v.pair r.from c).ids) i r.to at_.1 in
+    let outer = list_times n (from_machine v n) i r.from at_.0 in
+    omega (arith, there, inner, outer)
+
+-- each message of a queue and a held list stands once
+none_or_some : (n : ℕ) → (n ≡ 0) ⊎ (1 ≤ n)
+none_or_some zero = inl refl
+none_or_some (suc n) = inr (omega arith)
+
+queue_held : (m : ℕ) (p : Pid) → Held m p ≢ Queue m p
+queue_held m p e = cc
+
+waits_once : (b : Boot) (pt : Point) (m : ℕ) (p : Pid) (i : MsgId) → Run b pt → times i (pt.view.queue m p) + times i (pt.view.held m p) ≤ 1
+waits_once b pt m p i run =
+    let state = run.based.phased.state in
+    let o = letters state.own pt.kernel.bag i in
+    let f = standing pt.view i in
+    let kept = state.stands.kept i in
+    elim (none_or_some (f (Queue m p))) [
+      | inl z ↦ elim (none_or_some (f (Held m p))) [
+        | inl y ↦ omega (arith, z, y)
+        | inr some ↦ let e = StandsAsBag-one o f (Held m p) some kept in omega (arith, z, e)
+      ]
+      | inr some ↦
+          let e = StandsAsBag-one o f (Queue m p) some kept in
+          let none = StandsAsBag-elsewhere o f (Queue m p) (Held m p) some (queue_held m p) kept in
+          omega (arith, e, none)
+    ]
+
+waits_among : (b : Boot) (pt : Point) (n m : ℕ) (p : Pid) (i : MsgId) → Run b pt → PairsWithin n pt.view → Routed pt.view → times i (pt.view.queue m p) + times i (pt.view.held m p) ≤ times i (all_ids pt.view n)
+waits_among b pt n m p i run within routed =
+    let once = waits_once b pt m p i run in
+    elim (none_or_some (times i (pt.view.queue m p))) [
+      | inl z ↦ elim (none_or_some (times i (pt.view.held m p))) [
+        | inl y ↦ omega (arith, z, y)
+        | inr some ↦ let k = routed_in pt.view n i within (routed i (run.found.told i (Held m p) some)) in omega (arith, z, once, k)
+      ]
+      | inr some ↦ let k = routed_in pt.view n i within (routed i (run.found.told i (Queue m p) some)) in omega (arith, once, k)
+    ]
+
+pub waiting_few : (b : Boot) (pt : Point) (n : ℕ) → Run b pt → PairsWithin n pt.view → Routed pt.view → (m : ℕ) (p : Pid) → length (pt.view.queue m p) + length (pt.view.held m p) ≤ total pt.view n
+waiting_few b pt n run within routed m p =
+    let xs = pt.view.queue m p in
+    let ys = pt.view.held m p in
+    let long = length-append xs ys in
+    let most = length_by (xs ++ ys) (all_ids pt.view n) (λ i. let e = times-append i xs ys in let k = waits_among b pt n m p i run within routed in omega (arith, e, k)) in
+    let all = all_length pt.view n in
+    omega (arith, long, most, all)

@@ -1,0 +1,268 @@
+-- What each event of a stream makes of a pair: the ends of its stream, its wire, and what the lines say of it.
+use Rattle.std.proofs.Common.{◌≡◌, ℕ, zero, suc, ◌+◌, ◌-◌, ◌<◌, max, false, List, [], ◌∷◌, ◌++◌, map, drop, refl, ap, ◌∙◌, sym, subst, arith}
+use Rattle.std.specs.Prelude.{slice_get, option_map}
+use Rattle.std.specs.declared.option.Option.{Option}
+use Rattle.std.specs.declared.option.Option.TheVariants.{None, Some}
+use Rattle.std.proofs.lemmas.Bool.Decides.{nat_tests}
+use Rattle.std.proofs.lemmas.List.{map-append}
+use Rattle.std.proofs.lemmas.Option.{slice_get-map}
+use Rattle.dm_message.specs.declared.Message.{Message}
+use Rattle.dm_message.specs.declared.MsgId.{MsgId}
+use Rattle.dm_packet.specs.declared.Packet.TheVariants as packet
+use Rattle.dm_packet.specs.Packets.{spelling}
+use Rattle.dm_stream.specs.Sending.{due, with_acked, with_sent}
+use Rattle.dm_stream.specs.Receiving.{kept_once, advanced, next}
+use Rattle.dm_stream.specs.Packets.{Packet, Load, Data, Ack, just_put, load_at, marked}
+use Rattle.dm_stream.specs.Stream.{Stream, GoOut, Deliver, TakeKept, Acknowledge, DeliverBack, OtherAck, OtherData, happens, arrives, hears, goes_out}
+use Rattle.dm_stream.proofs.Follows.{MayCome-stands}
+use Rattle.dm_stream.proofs.Lists.{get-drop, drop-more}
+use Rattle.dm_wire.specs.Sent as wire
+use Rattle.dm_wire.specs.Sent.{Sent}
+use Rattle.dm_onekernel.specs.declared.boot.Boot.{Boot}
+use Rattle.dm_line.specs.declared.line.Load.TheVariants as load
+use Rattle.dm_rule.specs.View as view
+use Rattle.dm_rule.specs.View.{Pair, at_least, gone_after}
+use Rattle.dm_rule.specs.Rule.{has}
+use Rattle.dm_places.specs.Placed.{Placed}
+use Rattle.dm_mirror.specs.Stands.{AreMessages, bytes_of, id_of, line_of}
+use Rattle.dm_mirror.proofs.Deliver.Ends.{Ends, PairIs, event_stands, stream_with}
+use Rattle.dm_mirror.proofs.Deliver.Kept.{off, kept_taken, kept_early, after_taken_is, after_old_is, after_early_is, after_next_is}
+
+-- a mark on the wire, as the lines say it and as bytes
+mark_next : (s : view.Sent) (ss : List view.Sent) (k : ℕ) (o : Option view.Sent) → view.marked_at (s ∷ ss) (suc k) o ≡ s ∷ view.marked_at ss k o
+mark_next s ss k None = refl
+mark_next s ss k (Some t) = refl
+
+lines_marked : (xs : List (Packet Message)) (k : ℕ) → map line_of (marked xs k) ≡ view.marked_at (map line_of xs) k (slice_get (map line_of xs) k)
+lines_marked [] k = refl
+lines_marked (x ∷ xs) zero = refl
+lines_marked (x ∷ xs) (suc k) = ap (λ (ss : List view.Sent). line_of x ∷ ss) (lines_marked xs k) ∙ sym (mark_next (line_of x) (map line_of xs) k (slice_get (map line_of xs) k))
+
+bytes_marked : (a c : ℕ) (xs : List (Packet Message)) (k : ℕ) → wire.marked (map (bytes_of a c) xs) k ≡ map (bytes_of a c) (marked xs k)
+bytes_marked a c [] k = refl
+bytes_marked a c (x ∷ xs) zero = refl
+bytes_marked a c (x ∷ xs) (suc k) = ap (λ (ss : List Sent). bytes_of a c x ∷ ss) (bytes_marked a c xs k)
+
+packets_marked : (xs : List (Packet Message)) (ss : List view.Sent) (k : ℕ) → map line_of xs ≡ ss → map line_of (marked xs k) ≡ view.marked_at ss k (slice_get ss k)
+packets_marked xs ss k e = lines_marked xs k ∙ ap (λ (s : List view.Sent). view.marked_at s k (slice_get s k)) e
+
+wire_marked : (a c : ℕ) (w : List Sent) (xs : List (Packet Message)) (k : ℕ) → w ≡ map (bytes_of a c) xs → wire.marked w k ≡ map (bytes_of a c) (marked xs k)
+wire_marked a c w xs k e = ap (λ (s : List Sent). wire.marked s k) e ∙ bytes_marked a c xs k
+
+-- a delivery, by what the packet carries
+delivered : (s : Stream Message) (k : ℕ) (o : Option (Load Message)) → load_at s.out k ≡ o → happens s (Deliver k) ≡ arrives (record s { out = marked s.out k }) o
+delivered s k o e = ap (arrives (record s { out = marked s.out k })) e
+
+delivered_back : (s : Stream Message) (k : ℕ) (o : Option (Load Message)) → load_at s.back k ≡ o → happens s (DeliverBack k) ≡ hears (record s { back = marked s.back k }) o
+delivered_back s k o e = ap (hears (record s { back = marked s.back k })) e
+
+-- the message that is next to be taken
+pub oldest_is : (given : List Message) (ids : List MsgId) (t : ℕ) (m : Message) → map id_of given ≡ ids → slice_get given t ≡ Some m → slice_get ids t ≡ Some m.id
+oldest_is given ids t m e is = ap (λ (xs : List MsgId). slice_get xs t) (sym e) ∙ slice_get-map id_of given t ∙ ap (option_map id_of) is
+
+pub message_is : (bag : MsgId → Option Message) (ids : List MsgId) (given : List Message) (t : ℕ) (i : MsgId) (m : Message) → AreMessages bag (drop t ids) (drop t given) → slice_get ids t ≡ Some i → slice_get given t ≡ Some m → bag i ≡ Some m
+message_is bag ids given t i m h e is =
+    let named : slice_get (drop t ids) 0 ≡ Some i = get-drop t ids 0 t (omega arith) ∙ e in
+    let there : slice_get (drop t given) 0 ≡ Some m = get-drop t given 0 t (omega arith) ∙ is in
+    let left : slice_get (map bag (drop t ids)) 0 ≡ Some (bag i) = slice_get-map bag (drop t ids) 0 ∙ ap (option_map bag) named in
+    let right : slice_get (map Some (drop t given)) 0 ≡ Some (Some m) = slice_get-map Some (drop t given) 0 ∙ ap (option_map Some) there in
+    let same : Some (bag i) ≡ Some (Some m) = sym left ∙ ap (λ (xs : List (Option Message)). slice_get xs 0) h ∙ right in
+    cc
+
+front_off : (bag : MsgId → Option Message) (ids : List MsgId) (ms : List Message) → AreMessages bag ids ms → AreMessages bag (drop 1 ids) (drop 1 ms)
+front_off bag [] [] e = e
+front_off bag [] (m ∷ ms) e = ap (drop 1) e
+front_off bag (i ∷ ids) [] e = ap (drop 1) e
+front_off bag (i ∷ ids) (m ∷ ms) e = ap (drop 1) e
+
+untaken_next : (bag : MsgId → Option Message) (ids : List MsgId) (ms : List Message) (t : ℕ) → AreMessages bag (drop t ids) (drop t ms) → AreMessages bag (drop (t + 1) ids) (drop (t + 1) ms)
+untaken_next bag ids ms t h =
+    let f = front_off bag (drop t ids) (drop t ms) h in
+    subst (λ (xs : List MsgId). AreMessages bag xs (drop (t + 1) ms)) (drop-more t 1 (t + 1) ids refl) (subst (λ (xs : List Message). AreMessages bag (drop 1 (drop t ids)) xs) (drop-more t 1 (t + 1) ms refl) f)
+
+max_is : (m n : ℕ) → max m n ≡ at_least m n
+max_is m n = grind (arith, nat_tests)
+
+pub gone_is : (n gone : ℕ) → n ≡ gone → gone + 1 ≡ gone_after (load.Data n) gone
+gone_is n gone e = grind (arith, nat_tests)
+
+module _ (b : Boot) (l : Placed) (a c : ℕ) (x : Ends) (w : List Sent) (p : Pair) where
+  -- a message comes again: it was taken before
+  pub old_comes : (k n : ℕ) (m : Message) → load_at x.out k ≡ Some (Data n m) → n < x.receiver.count → PairIs b l a c x w p → PairIs b l a c (record x { out = marked x.out k }) (wire.marked w k) (view.marked p k)
+  old_comes k n m e lt h = record {
+    stream = event_stands x (record x { out = marked x.out k }) (Deliver k) (arrives (record (stream_with x) { out = marked x.out k }) (Some (Data n m))) (delivered (stream_with x) k (Some (Data n m)) e) h.stream refl (sym (after_old_is x.receiver n m lt)) refl refl refl;
+    ids = h.ids;
+    untaken = h.untaken;
+    taken = h.taken;
+    gone = h.gone;
+    acked = h.acked;
+    numbers = h.numbers;
+    kept = h.kept;
+    packets = packets_marked x.out p.wire k h.packets;
+    bytes = wire_marked a c w x.out k h.bytes;
+    lawful = h.lawful;
+  }
+
+  -- a message comes early, and is kept
+  pub early_comes : (k n : ℕ) (m : Message) → load_at x.out k ≡ Some (Data n m) → x.receiver.count < n → PairIs b l a c x w p
+      → PairIs b l a c (record x { receiver = record { count = x.receiver.count; kept = kept_once x.receiver.kept (n - x.receiver.count) m }; out = marked x.out k }) (wire.marked w k) (record (view.marked p k) { kept = n ∷ off n p.kept })
+  early_comes k n m e gt h = record {
+    stream = event_stands x (record x { receiver = record { count = x.receiver.count; kept = kept_once x.receiver.kept (n - x.receiver.count) m }; out = marked x.out k }) (Deliver k) (arrives (record (stream_with x) { out = marked x.out k }) (Some (Data n m))) (delivered (stream_with x) k (Some (Data n m)) e) h.stream refl (sym (after_early_is x.receiver n m gt)) refl refl refl;
+    ids = h.ids;
+    untaken = h.untaken;
+    taken = h.taken;
+    gone = h.gone;
+    acked = h.acked;
+    numbers = h.numbers;
+    kept = kept_early x.receiver p.kept n m gt ((MayCome-stands (stream_with x) h.stream).in_window k n m e) h.stream.counted.places h.kept;
+    packets = packets_marked x.out p.wire k h.packets;
+    bytes = wire_marked a c w x.out k h.bytes;
+    lawful = h.lawful;
+  }
+
+  -- the next message comes, and is taken
+  pub taken_comes : (k n : ℕ) (m : Message) → load_at x.out k ≡ Some (Data n m) → n ≡ x.receiver.count → PairIs b l a c x w p
+      → PairIs b l a c (record x { receiver = advanced x.receiver; out = marked x.out k }) (wire.marked w k) (record (view.marked p k) { taken = p.taken + 1; kept = off n p.kept })
+  taken_comes k n m e is h = record {
+    stream = event_stands x (record x { receiver = advanced x.receiver; out = marked x.out k }) (Deliver k) (arrives (record (stream_with x) { out = marked x.out k }) (Some (Data n m))) (delivered (stream_with x) k (Some (Data n m)) e) h.stream refl (sym (after_taken_is x.receiver n m is)) refl refl refl;
+    ids = h.ids;
+    untaken = untaken_next l.bag p.ids x.given p.taken h.untaken;
+    taken = ap (λ (i : ℕ). i + 1) h.taken;
+    gone = h.gone;
+    acked = h.acked;
+    numbers = h.numbers;
+    kept = λ j. kept_taken x.receiver p.kept h.kept j ∙ ap (λ (i : ℕ). has j (off i p.kept)) (sym is);
+    packets = packets_marked x.out p.wire k h.packets;
+    bytes = wire_marked a c w x.out k h.bytes;
+    lawful = h.lawful;
+  }
+
+  -- a message that is kept is taken
+  pub kept_comes : (n : ℕ) (m : Message) → next x.receiver ≡ Some m → n ≡ x.receiver.count → PairIs b l a c x w p
+      → PairIs b l a c (record x { receiver = advanced x.receiver }) w (record p { taken = p.taken + 1; kept = off n p.kept })
+  kept_comes n m e is h = record {
+    stream = event_stands x (record x { receiver = advanced x.receiver }) (TakeKept) (happens (stream_with x) TakeKept) (refl) h.stream refl (sym (after_next_is x.receiver m e)) refl refl refl;
+    ids = h.ids;
+    untaken = untaken_next l.bag p.ids x.given p.taken h.untaken;
+    taken = ap (λ (i : ℕ). i + 1) h.taken;
+    gone = h.gone;
+    acked = h.acked;
+    numbers = h.numbers;
+    kept = λ j. kept_taken x.receiver p.kept h.kept j ∙ ap (λ (i : ℕ). has j (off i p.kept)) (sym is);
+    packets = h.packets;
+    bytes = h.bytes;
+    lawful = h.lawful;
+  }
+
+  -- an acknowledgement for the stream the other way comes
+  pub other_comes : (k n : ℕ) → load_at x.out k ≡ Some (Ack n) → PairIs b l a c x w p → PairIs b l a c (record x { out = marked x.out k }) (wire.marked w k) (view.marked p k)
+  other_comes k n e h = record {
+    stream = event_stands x (record x { out = marked x.out k }) (Deliver k) (arrives (record (stream_with x) { out = marked x.out k }) (Some (Ack n))) (delivered (stream_with x) k (Some (Ack n)) e) h.stream refl refl refl refl refl;
+    ids = h.ids;
+    untaken = h.untaken;
+    taken = h.taken;
+    gone = h.gone;
+    acked = h.acked;
+    numbers = h.numbers;
+    kept = h.kept;
+    packets = packets_marked x.out p.wire k h.packets;
+    bytes = wire_marked a c w x.out k h.bytes;
+    lawful = h.lawful;
+  }
+
+  -- on the wire back a message comes, or an acknowledgement
+  pub back_comes : (k n : ℕ) (m : Message) → load_at x.back k ≡ Some (Data n m) → PairIs b l a c x w p → PairIs b l a c (record x { back = marked x.back k }) w p
+  back_comes k n m e h = record {
+    stream = event_stands x (record x { back = marked x.back k }) (DeliverBack k) (hears (record (stream_with x) { back = marked x.back k }) (Some (Data n m))) (delivered_back (stream_with x) k (Some (Data n m)) e) h.stream refl refl refl refl refl;
+    ids = h.ids;
+    untaken = h.untaken;
+    taken = h.taken;
+    gone = h.gone;
+    acked = h.acked;
+    numbers = h.numbers;
+    kept = h.kept;
+    packets = h.packets;
+    bytes = h.bytes;
+    lawful = h.lawful;
+  }
+
+  pub acked_comes : (k n : ℕ) → load_at x.back k ≡ Some (Ack n) → PairIs b l a c x w p → PairIs b l a c (record x { sender = with_acked x.sender n; back = marked x.back k }) w (record p { acked = at_least p.acked n })
+  acked_comes k n e h = record {
+    stream = event_stands x (record x { sender = with_acked x.sender n; back = marked x.back k }) (DeliverBack k) (hears (record (stream_with x) { back = marked x.back k }) (Some (Ack n))) (delivered_back (stream_with x) k (Some (Ack n)) e) h.stream refl refl refl refl refl;
+    ids = h.ids;
+    untaken = h.untaken;
+    taken = h.taken;
+    gone = h.gone;
+    acked = ap (λ (i : ℕ). max i n) h.acked ∙ max_is p.acked n;
+    numbers = h.numbers;
+    kept = h.kept;
+    packets = h.packets;
+    bytes = h.bytes;
+    lawful = h.lawful;
+  }
+
+  -- the receiver acknowledges what it has taken
+  pub acknowledges : PairIs b l a c x w p → PairIs b l a c (record x { back = x.back ++ just_put (Ack x.receiver.count) ∷ [] }) w p
+  acknowledges h = record {
+    stream = event_stands x (record x { back = x.back ++ just_put (Ack x.receiver.count) ∷ [] }) (Acknowledge) (happens (stream_with x) Acknowledge) (refl) h.stream refl refl refl refl refl;
+    ids = h.ids;
+    untaken = h.untaken;
+    taken = h.taken;
+    gone = h.gone;
+    acked = h.acked;
+    numbers = h.numbers;
+    kept = h.kept;
+    packets = h.packets;
+    bytes = h.bytes;
+    lawful = h.lawful;
+  }
+
+  -- on the wire out, for the stream the other way
+  pub other_acknowledges : (n : ℕ) → PairIs b l a c x w p
+      → PairIs b l a c (record x { out = x.out ++ just_put (Ack n) ∷ [] }) (w ++ wire.just_put (spelling (packet.Ack a c n)) ∷ []) (record p { gone = gone_after (load.Ack n) p.gone; wire = p.wire ++ record { load = load.Ack n; delivered = false } ∷ [] })
+  other_acknowledges n h = record {
+    stream = event_stands x (record x { out = x.out ++ just_put (Ack n) ∷ [] }) (OtherAck n) (happens (stream_with x) (OtherAck n)) (refl) h.stream refl refl refl refl refl;
+    ids = h.ids;
+    untaken = h.untaken;
+    taken = h.taken;
+    gone = h.gone;
+    acked = h.acked;
+    numbers = h.numbers;
+    kept = h.kept;
+    packets = map-append line_of x.out (just_put (Ack n) ∷ []) ∙ ap (λ (s : List view.Sent). s ++ record { load = load.Ack n; delivered = false } ∷ []) h.packets;
+    bytes = ap (λ (s : List Sent). s ++ wire.just_put (spelling (packet.Ack a c n)) ∷ []) h.bytes ∙ sym (map-append (bytes_of a c) x.out (just_put (Ack n) ∷ []));
+    lawful = h.lawful;
+  }
+
+  -- the message that is due goes out
+  pub due_goes : (n : ℕ) (m : Message) → due x.sender ≡ Some (n, m) → n ≡ x.sender.gone → PairIs b l a c x w p
+      → PairIs b l a c (record x { sender = with_sent x.sender; out = x.out ++ just_put (Data n m) ∷ [] }) (w ++ wire.just_put (spelling (packet.Data a c n m)) ∷ []) (record p { gone = gone_after (load.Data n) p.gone; wire = p.wire ++ record { load = load.Data n; delivered = false } ∷ [] })
+  due_goes n m e is h = record {
+    stream = event_stands x (record x { sender = with_sent x.sender; out = x.out ++ just_put (Data n m) ∷ [] }) (GoOut) (goes_out (stream_with x) (Some (n, m))) (ap (goes_out (stream_with x)) e) h.stream refl refl refl refl refl;
+    ids = h.ids;
+    untaken = h.untaken;
+    taken = h.taken;
+    gone = ap (λ (i : ℕ). i + 1) h.gone ∙ gone_is n p.gone (is ∙ h.gone);
+    acked = h.acked;
+    numbers = h.numbers;
+    kept = h.kept;
+    packets = map-append line_of x.out (just_put (Data n m) ∷ []) ∙ ap (λ (s : List view.Sent). s ++ record { load = load.Data n; delivered = false } ∷ []) h.packets;
+    bytes = ap (λ (s : List Sent). s ++ wire.just_put (spelling (packet.Data a c n m)) ∷ []) h.bytes ∙ sym (map-append (bytes_of a c) x.out (just_put (Data n m) ∷ []));
+    lawful = h.lawful;
+  }
+
+  -- one of the stream the other way goes out on the wire back
+  pub other_goes : (n : ℕ) (m : Message) → PairIs b l a c x w p → PairIs b l a c (record x { back = x.back ++ just_put (Data n m) ∷ [] }) w p
+  other_goes n m h = record {
+    stream = event_stands x (record x { back = x.back ++ just_put (Data n m) ∷ [] }) (OtherData n m) (happens (stream_with x) (OtherData n m)) (refl) h.stream refl refl refl refl refl;
+    ids = h.ids;
+    untaken = h.untaken;
+    taken = h.taken;
+    gone = h.gone;
+    acked = h.acked;
+    numbers = h.numbers;
+    kept = h.kept;
+    packets = h.packets;
+    bytes = h.bytes;
+    lawful = h.lawful;
+  }

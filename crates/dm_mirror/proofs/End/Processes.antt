@@ -1,0 +1,278 @@
+-- What is said of each process at the end: the machine that has it says it, or where it has ended, or where it comes to.
+use Rattle.std.proofs.Common.{◌≡◌, ◌≢◌, ◌⊎◌, ℕ, ◌+◌, ◌<◌, ◌==◌, ◌&&◌, ◌||◌, Bool, true, false, is_some, List, refl, ap, ◌∙◌, sym, subst, inl, inr, arith}
+use Rattle.std.specs.Prelude.{option_map}
+use Rattle.std.specs.declared.option.Option.{Option}
+use Rattle.std.specs.declared.option.Option.TheVariants.{None, Some}
+use Rattle.std.proofs.lemmas.Bool.Decides.{nat_tests}
+use Rattle.dm_link.specs.declared.Pid.{Pid}
+use Rattle.dm_link.specs.Names.{pid_of}
+use Rattle.dm_message.specs.declared.kind.MessageKind.TheVariants as kind
+use Rattle.dm_message.specs.Plain.{plain_what, with_what}
+use Rattle.dm_process.specs.declared.process.Process.{Process}
+use Rattle.dm_records.specs.Records.{incoming_of}
+use Rattle.dm_records.specs.declared.record.Record.TheVariants as record_
+use Rattle.dm_migrate.specs.Arrival.{Arrival}
+use Rattle.dm_migrate.specs.Way.{moved}
+use Rattle.dm_migrate.specs.declared.arriving.Wanted.TheVariants.{Nothing}
+use Rattle.dm_onekernel.specs.declared.boot.Boot.{Boot}
+use Rattle.dm_onekernel.specs.declared.label.Why.{Why}
+use Rattle.dm_onekernel.specs.Boot.{first_number}
+use Rattle.dm_onekernel.specs.Kernel.{Life, Alive}
+use Rattle.dm_onekernel.specs.Kernel as one
+use Rattle.dm_onekernel.specs.Plain.{plain_process}
+use Rattle.dm_onekernel.specs.PlainProcess.{PlainProcess}
+use Rattle.dm_onekernel.specs.Step as kernel
+use Rattle.dm_line.specs.declared.end_line.EndLine.{EndLine}
+use Rattle.dm_line.specs.declared.end_line.EndLine.TheVariants as end
+use Rattle.dm_line.specs.declared.end_line.Standing.{Standing}
+use Rattle.dm_line.specs.declared.end_line.Standing.TheVariants as standing
+use Rattle.dm_line.specs.Todo.{or}
+use Rattle.dm_line.specs.Ends.{list_line}
+use Rattle.dm_rule.specs.Ends.{Stood, stood_at, first_with}
+use Rattle.dm_rule.specs.Ends as rule
+use Rattle.dm_rule.specs.Phases.{is_away, is_due}
+use Rattle.dm_rule.specs.Point.{Point}
+use Rattle.dm_rule.specs.View.{Known, Unknown, Incoming, Ended, Told}
+use Rattle.dm_rule.specs.View as view
+use Rattle.dm_rule.proofs.Lines.{not_true}
+use Rattle.dm_rulelaws.specs.Fits.{is_server}
+use Rattle.dm_rulelaws.proofs.Runs.{Run}
+use Rattle.dm_kernel.specs.State as machine
+use Rattle.dm_places.specs.Placed.{Placed}
+use Rattle.dm_world.specs.World.{WorldState}
+use Rattle.dm_world.specs.Ends.{alive_lines, awaited_lines, come_lines, come_whole, first_awaited, first_had, first_says, lines_in, names_of, record_lines, record_queue}
+use Rattle.dm_world.specs.Ends as world
+use Rattle.dm_mirror.specs.Own.{told_of}
+use Rattle.dm_mirror.specs.Stands.{History, KnownStands, StandsWith}
+use Rattle.dm_mirror.specs.Tokens.{Wants}
+use Rattle.dm_mirror.proofs.End.Lines.{alive_same}
+use Rattle.dm_mirror.proofs.End.Lists.{first_at, first_none, names_are}
+use Rattle.dm_mirror.proofs.End.Records.{HasEnded, IsAt, IsComing, away_awaited, away_awaits, carried_own, come_all, has_ended, held_said, is_at, is_coming, restart_wants, silent_has, silent_lines, silent_queue}
+use Rattle.dm_mirror.proofs.End.Where.{ComesTo, HasIt, OverAt, away_silent, is_silent, where_is}
+
+some_same : {X : Type 0} (x y : X) → Some x ≡ Some y → x ≡ y
+some_same x y e = cc
+
+-- a process with a number from the first on is no server
+neither : (c d e : Bool) → d ≡ false → e ≡ false → ((c && d) || (c && e)) ≡ false
+neither true d e f g = ap (λ (x : Bool). x || e) f ∙ g
+neither false d e f g = refl
+
+pub no_server : (home n : ℕ) → is_server (pid_of home (first_number + n)) ≡ false
+no_server home n =
+    let one : ((first_number + n) == 1) ≡ false = grind (arith, nat_tests) in
+    let two : ((first_number + n) == 2) ≡ false = grind (arith, nat_tests) in
+    neither (home == 0) ((first_number + n) == 1) ((first_number + n) == 2) one two
+
+-- a process that is no server, where the world stands for the point
+pub record IsOfHome (b : Boot) (w : WorldState) (pt : Point) (l : Placed) (h : History) (p : Pid) : Type 0 where
+  pub stands : StandsWith b w pt l h
+  pub run : Run b pt
+  pub server : is_server p ≡ false
+
+-- what machine m knows
+abbrev Stood_ : WorldState → Point → Placed → Pid → ℕ → Type 0
+Stood_ w pt l p m = KnownStands pt l p (pt.view.queue m p) (pt.view.held m p) (pt.view.known m p) ((w.nodes m).kernel.records p)
+
+knows_ : (b : Boot) (w : WorldState) (pt : Point) (l : Placed) (h : History) (p : Pid) (m : ℕ) → IsOfHome b w pt l h p → m < pt.kernel.machines → Stood_ w pt l p m
+knows_ b w pt l h p m g below = (g.stands.nodes m below).kernel.known p g.server
+
+-- a machine that says nothing
+silent_machine : (b : Boot) (w : WorldState) (pt : Point) (l : Placed) (h : History) (p : Pid) (m : ℕ) → IsOfHome b w pt l h p → is_silent (pt.view.known m p) ≡ true → m < pt.kernel.machines → record_lines m p ((w.nodes m).kernel.records p) ≡ None
+silent_machine b w pt l h p m g silent below =
+    silent_lines pt l p (pt.view.queue m p) (pt.view.held m p) m (pt.view.known m p) ((w.nodes m).kernel.records p) silent (knows_ b w pt l h p m g below)
+
+no_queue : (b : Boot) (w : WorldState) (pt : Point) (l : Placed) (h : History) (p : Pid) (m : ℕ) → IsOfHome b w pt l h p → is_silent (pt.view.known m p) ≡ true → m < pt.kernel.machines → record_queue p ((w.nodes m).kernel.records p) ≡ None
+no_queue b w pt l h p m g silent below =
+    silent_queue pt l p (pt.view.queue m p) (pt.view.held m p) (pt.view.known m p) ((w.nodes m).kernel.records p) silent (knows_ b w pt l h p m g below)
+
+away_machine : (b : Boot) (w : WorldState) (pt : Point) (l : Placed) (h : History) (p : Pid) (m : ℕ) → IsOfHome b w pt l h p → is_away (pt.view.known m p) ≡ true → m < pt.kernel.machines → awaited_lines m p ((w.nodes m).kernel.records p) ≡ None
+away_machine b w pt l h p m g away below =
+    away_awaited pt l p (pt.view.queue m p) (pt.view.held m p) m (pt.view.known m p) ((w.nodes m).kernel.records p) away (knows_ b w pt l h p m g below)
+
+-- the machine that says the first thing
+had_at : (b : Boot) (w : WorldState) (pt : Point) (l : Placed) (h : History) (p : Pid) (at : ℕ) → IsOfHome b w pt l h p → at < pt.kernel.machines → ((m : ℕ) → m ≢ at → is_silent (pt.view.known m p) ≡ true)
+    → first_had pt.kernel.machines w p ≡ record_lines at p ((w.nodes at).kernel.records p)
+had_at b w pt l h p at g below others =
+    let f : ℕ → Option (List EndLine) = λ m. record_lines m p ((w.nodes m).kernel.records p) in
+    first_at (first_says f) f at pt.kernel.machines refl (λ m. refl) below (λ m less apart. silent_machine b w pt l h p m g (others m apart) less)
+
+queue_by : (b : Boot) (w : WorldState) (pt : Point) (l : Placed) (h : History) (p : Pid) (at : ℕ) → IsOfHome b w pt l h p → at < pt.kernel.machines → ((m : ℕ) → m ≢ at → is_silent (pt.view.known m p) ≡ true)
+    → world.queue_of pt.kernel.machines w p ≡ lines_in (record_queue p ((w.nodes at).kernel.records p))
+queue_by b w pt l h p at g below others =
+    let f : ℕ → Option (List EndLine) = λ m. record_queue p ((w.nodes m).kernel.records p) in
+    ap lines_in (first_at (first_says f) f at pt.kernel.machines refl (λ m. refl) below (λ m less apart. no_queue b w pt l h p m g (others m apart) less))
+
+with_at : (pt : Point) (p : Pid) (at : ℕ) → at < pt.kernel.machines → ((m : ℕ) → m ≢ at → is_silent (pt.view.known m p) ≡ true)
+    → first_with rule.has pt.view p pt.kernel.machines ≡ stood_at at (rule.has (pt.view.known at p))
+with_at pt p at below others =
+    first_at (first_with rule.has pt.view p) (λ m. stood_at m (rule.has (pt.view.known m p))) at pt.kernel.machines refl (λ m. refl) below
+    (λ m less apart. ap (stood_at m) (silent_has (pt.view.known m p) (others m apart)))
+
+-- a machine that knows something is one of them
+has_known : (k : Known) (s : Standing) → rule.has k ≡ Some s → k ≢ Unknown
+has_known k s e is = let f : rule.has Unknown ≡ Some s = sym (ap rule.has is) ∙ e in cc
+
+within_has : (b : Boot) (pt : Point) (p : Pid) (a : HasIt pt.view p) → Run b pt → a.at < pt.kernel.machines
+within_has b pt p a run = run.found.known_within a.at p (has_known (pt.view.known a.at p) a.standing a.known)
+
+within_over : (b : Boot) (pt : Point) (p : Pid) (a : OverAt pt.view p) → Run b pt → a.at < pt.kernel.machines
+within_over b pt p a run = run.found.known_within a.at p (λ is. let f : Ended ≡ Unknown = sym a.known ∙ is in cc)
+
+within_to : (b : Boot) (pt : Point) (p : Pid) (a : ComesTo pt.view p) → Run b pt → a.to < pt.kernel.machines
+within_to b pt p a run = run.found.known_within a.to p (λ is. let f : Incoming a.from ≡ Unknown = sym a.known ∙ is in cc)
+
+-- the plain process is the one of the kernel
+lives : (o : Option Life) (y : PlainProcess) → kernel.alive o ≡ Some y → o ≡ Some (Alive y)
+lives None y e = cc
+lives (Some (Alive z)) y e = ap (λ (x : PlainProcess). Some (Alive x)) (some_same z y e)
+lives (Some (one.Ended z)) y e = cc
+
+alive_of : (b : Boot) (w : WorldState) (pt : Point) (l : Placed) (h : History) (p : Pid) (x : Process) → IsOfHome b w pt l h p → l.processes p ≡ Some x → pt.kernel.processes p ≡ Some (Alive (plain_process x))
+alive_of b w pt l h p x g placed = lives (pt.kernel.processes p) (plain_process x) (g.stands.mirrors.plain.processes p ∙ ap (option_map plain_process) placed)
+
+-- a process that a machine has
+at_machine : (b : Boot) (w : WorldState) (pt : Point) (l : Placed) (h : History) (p : Pid) (a : HasIt pt.view p) → IsOfHome b w pt l h p → IsAt l p (pt.view.queue a.at p) a.at a.standing ((w.nodes a.at).kernel.records p)
+at_machine b w pt l h p a g =
+    is_at pt l p (pt.view.queue a.at p) (pt.view.held a.at p) a.at a.standing (pt.view.known a.at p) ((w.nodes a.at).kernel.records p) a.known (knows_ b w pt l h p a.at g (within_has b pt p a g.run))
+
+has_said : (b : Boot) (w : WorldState) (pt : Point) (l : Placed) (h : History) (p : Pid) (a : HasIt pt.view p) → IsOfHome b w pt l h p → world.process_lines pt.kernel.machines w p ≡ rule.process_lines pt p (pt.kernel.processes p)
+has_said b w pt l h p a g =
+    let below = within_has b pt p a g.run in
+    let i = at_machine b w pt l h p a g in
+    let x = i.process in
+    let places = g.stands.mirrors.places.process p (record x { queue = i.rest }) i.placed in
+    let there : Option Stood = Some (record { at = a.at; standing = a.standing }) in
+    let stood : rule.stood pt.view p pt.kernel.machines ≡ there =
+    ap (λ (o : Option Stood). or o (first_with rule.awaits pt.view p pt.kernel.machines)) (with_at pt p a.at below a.others ∙ ap (stood_at a.at) a.known) in
+    ap (λ (o : Option (List EndLine)). lines_in (or o (first_awaited pt.kernel.machines w p))) (had_at b w pt l h p a.at g below a.others ∙ i.lines)
+    ∙ (alive_same pt.addresses a.at p a.standing x places.slots
+    ∙ (ap (rule.alive_lines pt.addresses p (plain_process x)) (sym stood) ∙ ap (rule.process_lines pt p) (sym (alive_of b w pt l h p (record x { queue = i.rest }) g i.placed))))
+
+has_queue : (b : Boot) (w : WorldState) (pt : Point) (l : Placed) (h : History) (p : Pid) (a : HasIt pt.view p) → IsOfHome b w pt l h p
+    → world.queue_of pt.kernel.machines w p ≡ rule.queue_at pt.view p (first_with rule.has pt.view p pt.kernel.machines)
+has_queue b w pt l h p a g =
+    let below = within_has b pt p a g.run in
+    let i = at_machine b w pt l h p a g in
+    queue_by b w pt l h p a.at g below a.others
+    ∙ (ap lines_in i.queue
+    ∙ (ap (list_line (end.Queue p)) (names_are l.bag (pt.view.queue a.at p) i.process.queue (λ j m there. (g.stands.mirrors.places.message j m there).id) i.waits)
+    ∙ ap (rule.queue_at pt.view p) (sym (with_at pt p a.at below a.others ∙ ap (stood_at a.at) a.known))))
+
+-- a process that has ended
+over_machine : (b : Boot) (w : WorldState) (pt : Point) (l : Placed) (h : History) (p : Pid) (a : OverAt pt.view p) → IsOfHome b w pt l h p → HasEnded pt p ((w.nodes a.at).kernel.records p)
+over_machine b w pt l h p a g =
+    has_ended pt l p (pt.view.queue a.at p) (pt.view.held a.at p) ((w.nodes a.at).kernel.records p)
+    (subst (λ (k : Known). KnownStands pt l p (pt.view.queue a.at p) (pt.view.held a.at p) k ((w.nodes a.at).kernel.records p)) a.known (knows_ b w pt l h p a.at g (within_over b pt p a g.run)))
+
+ended_is : (o : Option Life) (y : Why) → kernel.ended o ≡ Some y → o ≡ Some (one.Ended y)
+ended_is None y e = cc
+ended_is (Some (Alive z)) y e = cc
+ended_is (Some (one.Ended z)) y e = ap (λ (x : Why). Some (one.Ended x)) (some_same z y e)
+
+over_said : (b : Boot) (w : WorldState) (pt : Point) (l : Placed) (h : History) (p : Pid) (a : OverAt pt.view p) → IsOfHome b w pt l h p → world.process_lines pt.kernel.machines w p ≡ rule.process_lines pt p (pt.kernel.processes p)
+over_said b w pt l h p a g =
+    let e = over_machine b w pt l h p a g in
+    ap (λ (o : Option (List EndLine)). lines_in (or o (first_awaited pt.kernel.machines w p))) (had_at b w pt l h p a.at g (within_over b pt p a g.run) a.others ∙ ap (record_lines a.at p) e.is)
+    ∙ ap (rule.process_lines pt p) (sym (ended_is (pt.kernel.processes p) e.why e.due))
+
+over_queue : (b : Boot) (w : WorldState) (pt : Point) (l : Placed) (h : History) (p : Pid) (a : OverAt pt.view p) → IsOfHome b w pt l h p
+    → world.queue_of pt.kernel.machines w p ≡ rule.queue_at pt.view p (first_with rule.has pt.view p pt.kernel.machines)
+over_queue b w pt l h p a g =
+    let below = within_over b pt p a g.run in
+    let e = over_machine b w pt l h p a g in
+    queue_by b w pt l h p a.at g below a.others
+    ∙ (ap (λ (r : Option machine.Known). lines_in (record_queue p r)) e.is
+    ∙ ap (rule.queue_at pt.view p) (sym (with_at pt p a.at below a.others ∙ ap (λ (k : Known). stood_at a.at (rule.has k)) a.known)))
+
+-- a process that comes: nobody has it
+none_has : (pt : Point) (p : Pid) (a : ComesTo pt.view p) (m : ℕ) → is_silent (pt.view.known m p) ≡ true
+none_has pt p a m = by (m == a.to) refl
+  where
+    by : (c : Bool) → (m == a.to) ≡ c → is_silent (pt.view.known m p) ≡ true
+    by true e = let same : a.to ≡ m = grind (arith, nat_tests) in ap (λ (k : ℕ). is_silent (pt.view.known k p)) (sym same) ∙ ap is_silent a.known
+    by false e = away_silent (pt.view.known m p) (a.others m (let apart : m ≢ a.to = grind (arith, nat_tests) in apart))
+
+to_machine : (b : Boot) (w : WorldState) (pt : Point) (l : Placed) (h : History) (p : Pid) (a : ComesTo pt.view p) → IsOfHome b w pt l h p → IsComing l p (pt.view.held a.to p) ((w.nodes a.to).kernel.records p)
+to_machine b w pt l h p a g =
+    is_coming pt l p (pt.view.queue a.to p) (pt.view.held a.to p) a.from ((w.nodes a.to).kernel.records p)
+    (subst (λ (k : Known). KnownStands pt l p (pt.view.queue a.to p) (pt.view.held a.to p) k ((w.nodes a.to).kernel.records p)) a.known (knows_ b w pt l h p a.to g (within_to b pt p a g.run)))
+
+-- all of it has come
+all_come : (b : Boot) (w : WorldState) (pt : Point) (l : Placed) (h : History) (p : Pid) (a : ComesTo pt.view p) (g : IsOfHome b w pt l h p) (c : Arrival) → (w.nodes a.to).kernel.records p ≡ Some (record_.Incoming c) → c.wanted ≡ Nothing
+all_come b w pt l h p a g c is =
+    let told = a.token.told in
+    let t = g.stands.tokens p a.id (record { kind = kind.Restart; receiver = pid_of a.to 0; about = view.Of p }) a.token.spot told refl refl a.token.stands in
+    let m = t.message in
+    let none : plain_what m.what ≡ None = carried_own p t.process (pt.view.asked p) (incoming_of ((w.nodes a.to).kernel.records p)) m.what t.carries in
+    let own = g.stands.own a.id m t.is (ap (with_what m) none) in
+    let same : told_of m ≡ record { kind = kind.Restart; receiver = pid_of a.to 0; about = view.Of p } = some_same (told_of m) (record { kind = kind.Restart; receiver = pid_of a.to 0; about = view.Of p }) (sym own.told ∙ told) in
+    subst (λ (o : Option machine.Known). Wants (incoming_of o) Nothing) is
+    (restart_wants p t.process (pt.view.asked p) (incoming_of ((w.nodes a.to).kernel.records p)) m.what (ap (λ (x : Told). x.kind) same) t.carries)
+
+to_said : (b : Boot) (w : WorldState) (pt : Point) (l : Placed) (h : History) (p : Pid) (a : ComesTo pt.view p) → IsOfHome b w pt l h p → world.process_lines pt.kernel.machines w p ≡ rule.process_lines pt p (pt.kernel.processes p)
+to_said b w pt l h p a g =
+    let below = within_to b pt p a g.run in
+    let n = pt.kernel.machines in
+    let i = to_machine b w pt l h p a g in
+    let c = i.arrival in
+    let x = i.comes.process in
+    let there_ = i.comes.there in
+    let f : ℕ → Option (List EndLine) = λ m. record_lines m p ((w.nodes m).kernel.records p) in
+    let v : ℕ → Option (List EndLine) = λ m. awaited_lines m p ((w.nodes m).kernel.records p) in
+    let had : first_had n w p ≡ None = first_none (first_says f) f n refl (λ m. refl) (λ m less. silent_machine b w pt l h p m g (none_has pt p a m) less) in
+    let awaited : first_awaited n w p ≡ Some (alive_lines a.to p standing.Arriving (moved x)) =
+    first_at (first_says v) v a.to n refl (λ m. refl) below (λ m less apart. away_machine b w pt l h p m g (a.others m apart) less)
+    ∙ (ap (awaited_lines a.to p) i.is ∙ ap (come_lines a.to p) (come_all l p (pt.view.held a.to p) c i.comes (all_come b w pt l h p a g c i.is))) in
+    let places = g.stands.mirrors.places.process p x there_ in
+    let there : Option Stood = Some (record { at = a.to; standing = standing.Arriving }) in
+    let has : first_with rule.has pt.view p n ≡ None =
+    first_none (first_with rule.has pt.view p) (λ m. stood_at m (rule.has (pt.view.known m p))) n refl (λ m. refl) (λ m less. ap (stood_at m) (silent_has (pt.view.known m p) (none_has pt p a m))) in
+    let awaits : first_with rule.awaits pt.view p n ≡ there =
+    first_at (first_with rule.awaits pt.view p) (λ m. stood_at m (rule.awaits (pt.view.known m p))) a.to n refl (λ m. refl) below (λ m less apart. ap (stood_at m) (away_awaits (pt.view.known m p) (a.others m apart)))
+    ∙ ap (λ (k : Known). stood_at a.to (rule.awaits k)) a.known in
+    let stood : rule.stood pt.view p n ≡ there = ap (λ (o : Option Stood). or o (first_with rule.awaits pt.view p n)) has ∙ awaits in
+    ap (λ (o : Option (List EndLine)). lines_in (or o (first_awaited n w p))) had
+    ∙ (ap lines_in awaited
+    ∙ (alive_same pt.addresses a.to p standing.Arriving (moved x) places.slots
+    ∙ (ap (rule.alive_lines pt.addresses p (plain_process x)) (sym stood) ∙ ap (rule.process_lines pt p) (sym (alive_of b w pt l h p x g there_)))))
+
+to_queue : (b : Boot) (w : WorldState) (pt : Point) (l : Placed) (h : History) (p : Pid) (a : ComesTo pt.view p) → IsOfHome b w pt l h p
+    → world.queue_of pt.kernel.machines w p ≡ rule.queue_at pt.view p (first_with rule.has pt.view p pt.kernel.machines)
+to_queue b w pt l h p a g =
+    let n = pt.kernel.machines in
+    let f : ℕ → Option (List EndLine) = λ m. record_queue p ((w.nodes m).kernel.records p) in
+    let has : first_with rule.has pt.view p n ≡ None =
+    first_none (first_with rule.has pt.view p) (λ m. stood_at m (rule.has (pt.view.known m p))) n refl (λ m. refl) (λ m less. ap (stood_at m) (silent_has (pt.view.known m p) (none_has pt p a m))) in
+    ap lines_in (first_none (first_says f) f n refl (λ m. refl) (λ m less. no_queue b w pt l h p m g (none_has pt p a m) less)) ∙ ap (rule.queue_at pt.view p) (sym has)
+
+-- each process that was made is somewhere
+somewhere : (b : Boot) (w : WorldState) (pt : Point) (l : Placed) (h : History) (p : Pid) → IsOfHome b w pt l h p → is_some (pt.kernel.processes p) ≡ true → HasIt pt.view p ⊎ (OverAt pt.view p ⊎ ComesTo pt.view p)
+somewhere b w pt l h p g made =
+    let phases = g.run.based.phased.phases in
+    where_is pt.view p (phases.of p) (phases.each p) (not_true (is_due (phases.of p)) (λ e. let f : None ≡ Some p = phases.put p e in cc)) (g.run.based.known.home p g.server made)
+
+pub process_said : (b : Boot) (w : WorldState) (pt : Point) (l : Placed) (h : History) (p : Pid) → IsOfHome b w pt l h p → is_some (pt.kernel.processes p) ≡ true → world.process_lines pt.kernel.machines w p ≡ rule.process_lines pt p (pt.kernel.processes p)
+process_said b w pt l h p g made = elim (somewhere b w pt l h p g made) [
+  | inl a ↦ has_said b w pt l h p a g
+  | inr c ↦ elim c [
+    | inl a ↦ over_said b w pt l h p a g
+    | inr a ↦ to_said b w pt l h p a g
+  ]
+]
+
+pub queue_said : (b : Boot) (w : WorldState) (pt : Point) (l : Placed) (h : History) (p : Pid) → IsOfHome b w pt l h p → is_some (pt.kernel.processes p) ≡ true
+    → world.queue_of pt.kernel.machines w p ≡ rule.queue_at pt.view p (first_with rule.has pt.view p pt.kernel.machines)
+queue_said b w pt l h p g made = elim (somewhere b w pt l h p g made) [
+  | inl a ↦ has_queue b w pt l h p a g
+  | inr c ↦ elim c [
+    | inl a ↦ over_queue b w pt l h p a g
+    | inr a ↦ to_queue b w pt l h p a g
+  ]
+]
+
+-- what a machine holds for it
+pub holding_said : (b : Boot) (w : WorldState) (pt : Point) (l : Placed) (h : History) (p : Pid) (m : ℕ) → IsOfHome b w pt l h p → m < pt.kernel.machines → world.held_line w m p ≡ list_line (end.Holding m p) (pt.view.held m p)
+holding_said b w pt l h p m g below =
+    ap (list_line (end.Holding m p))
+    (held_said pt l p (pt.view.queue m p) (pt.view.held m p) (pt.view.known m p) ((w.nodes m).kernel.records p) (λ i x there. (g.stands.mirrors.places.message i x there).id) (λ e. g.run.based.lists.held m p e) (knows_ b w pt l h p m g below))

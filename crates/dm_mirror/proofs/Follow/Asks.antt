@@ -1,0 +1,250 @@
+-- A directive to move a process: the manager's message goes to its child, or a line says why none does.
+use Rattle.std.proofs.Common.{◌≡◌, ℕ, ◌+◌, ◌≤◌, ◌==◌, ◌||◌, Bool, true, false, List, [], ◌∷◌, refl, ap, ◌∙◌, sym, subst, inl, inr, arith}
+use Rattle.std.specs.Prelude.{if◌then◌else◌, cond}
+use Rattle.std.specs.declared.option.Option.{Option}
+use Rattle.std.specs.declared.option.Option.TheVariants.{None, Some}
+use Rattle.std.specs.declared.result.Result.TheVariants.{Err}
+use Rattle.std.proofs.lemmas.Bool.{cases_Bool, false≢true}
+use Rattle.std.proofs.lemmas.Bool.Decides.{nat_tests}
+use Rattle.dm_link.specs.declared.Addr.{Addr}
+use Rattle.dm_link.specs.declared.Pid.{Pid}
+use Rattle.dm_link.specs.Names.{pid_eq, pid_of, place_of}
+use Rattle.dm_message.specs.declared.Message.{Message}
+use Rattle.dm_message.specs.declared.MsgId.{MsgId}
+use Rattle.dm_message.specs.declared.What.TheVariants as what
+use Rattle.dm_message.specs.declared.kind.MessageKind.TheVariants as kind
+use Rattle.dm_message.specs.Ids.{id_of}
+use Rattle.dm_records.specs.Records.{incoming_of}
+use Rattle.dm_onekernel.specs.declared.boot.Boot.{Boot}
+use Rattle.dm_onekernel.specs.Boot.{manager, switchboard}
+use Rattle.dm_procman.specs.declared.moving.MoveNo.TheVariants as no
+use Rattle.dm_procman.specs.Making.{address}
+use Rattle.dm_procman.specs.Moving.{child_named, moves_child, tells_to_move}
+use Rattle.dm_schedule.specs.declared.Step.TheVariants as step
+use Rattle.dm_kernel.specs.declared.part.Part.TheVariants as part
+use Rattle.dm_kernel.specs.Asking.{asks_manager, asks_move, told_to_move}
+use Rattle.dm_kernel.specs.State as machine
+use Rattle.dm_kernel.specs.State.{KernelState, Turned, with_sent}
+use Rattle.dm_laws.proofs.Equal.{id_eq-same, pid_eq-is}
+use Rattle.dm_line.specs.declared.line.Line.{Line}
+use Rattle.dm_line.specs.declared.line.Line.TheVariants as line
+use Rattle.dm_rule.specs.Addresses.{Receiver, Sender, child_number, place_of_child, unmoved}
+use Rattle.dm_rule.specs.Migrating.{migrates, migrates_child}
+use Rattle.dm_rule.specs.Parts as rule
+use Rattle.dm_rule.specs.Point.{Point, after, moved}
+use Rattle.dm_line.specs.Sets.{at_machine}
+use Rattle.dm_rule.specs.Spots.{Spot, Queue, Held, Inbox, Untaken, standing}
+use Rattle.dm_rulelaws.proofs.Runs.{Run}
+use Rattle.dm_places.specs.Placed.{Placed, Mirrors}
+use Rattle.dm_places.proofs.Lines.{mirrors_view}
+use Rattle.dm_places.proofs.OwnPuts.{child_place, no_child}
+use Rattle.dm_mirror.specs.Own.{AllOwnStand}
+use Rattle.dm_mirror.specs.Stands.{KernelStands}
+use Rattle.dm_mirror.specs.Tokens.{AllRecords, TokensStand, Wants, destination_of}
+use Rattle.dm_mirror.proofs.Follow.Forwards.{next_free, next_untold}
+use Rattle.dm_mirror.proofs.Follow.Frames.{known_on}
+use Rattle.dm_mirror.proofs.Follow.Rows.{carries_on}
+use Rattle.dm_mirror.proofs.Turning.{Elsewhere, MayOwn, Nothing, Own, Turns}
+
+-- behind the head of the directive
+abbrev pub asked_point : Point → Pid → ℕ → Point
+asked_point pt p to = moved pt (line.Head (step.Migrate p to)) pt.kernel
+
+-- what is known then
+pub record Asks (b : Boot) (pt : Point) (l : Placed) (records : AllRecords) (k : KernelState) : Type 0 where
+  pub run : Run b pt
+  pub mirrors : Mirrors pt.kernel pt.view pt.addresses l
+  pub stands : KernelStands b pt l 0 k
+  pub own : AllOwnStand pt.view l
+  pub tokens : TokensStand pt.view l records
+  pub mine : records 0 ≡ k.records
+  -- the kernel has counted its own messages as the lines have
+  pub counted : k.sent ≡ pt.view.count 0
+
+same_records : (records : AllRecords) (k : KernelState) (n : ℕ) (e : Bool) → records 0 ≡ k.records → (0 == n) ≡ e → (if e then k.records else records n) ≡ records n
+same_records records k n true mine is = let f : 0 ≡ n = grind (arith, nat_tests) in sym mine ∙ ap records f
+same_records records k n false mine is = refl
+
+stood : (pt : Point) (p : Pid) (to : ℕ) (i : MsgId) (z : Spot) → 1 ≤ standing (asked_point pt p to).view i z → 1 ≤ standing pt.view i z
+stood pt p to i (Queue n q) least = least
+stood pt p to i (Held n q) least = least
+stood pt p to i (Inbox n) least = least
+stood pt p to i (Untaken a d) least = least
+
+tokens_asked : (b : Boot) (pt : Point) (l : Placed) (records : AllRecords) (k : KernelState) (c : Asks b pt l records k) (p : Pid) (to : ℕ) → TokensStand (asked_point pt p to).view l (at_machine records 0 k.records)
+tokens_asked b pt l records k c p to q i t z told between about least =
+    let one = c.tokens q i t z told between about (stood pt p to i z least) in
+    let n = destination_of i t in
+    record {
+      process = one.process;
+      there = one.there;
+      message = one.message;
+      is = one.is;
+      sender = one.sender;
+      carries = carries_on q one.process (pt.view.asked q) (incoming_of (records n q)) (incoming_of (at_machine records 0 k.records n q)) one.message.what
+          (λ u w. subst (λ (f : Pid → Option machine.Known). Wants (incoming_of (f q)) u) (sym (same_records records k n (0 == n) c.mine refl)) w) one.carries;
+    }
+
+own_asked : (b : Boot) (pt : Point) (l : Placed) (records : AllRecords) (k : KernelState) (c : Asks b pt l records k) (p : Pid) (to : ℕ) → AllOwnStand (asked_point pt p to).view l
+own_asked b pt l records k c p to i x there plain = let o = c.own i x there plain in record { told = o.told; mine = o.mine; sender = o.sender }
+
+kernel_asked : (b : Boot) (pt : Point) (l : Placed) (records : AllRecords) (k : KernelState) (c : Asks b pt l records k) (p : Pid) (to : ℕ) → KernelStands b (asked_point pt p to) l 0 k
+kernel_asked b pt l records k c p to =
+    let h = c.stands in
+    record {
+      here = h.here;
+      known = λ q server. known_on pt (asked_point pt p to) l l q (pt.view.queue 0 q) (pt.view.held 0 q) (pt.view.known 0 q) (k.records q) refl refl (λ j least. refl) (λ j least. refl) (h.known q server);
+      no_server = h.no_server;
+      ring = h.ring;
+      inbox = h.inbox;
+      made = h.made;
+      room = h.room;
+      servers = h.servers;
+    }
+
+sent_asked : (b : Boot) (pt : Point) (l : Placed) (k : KernelState) → KernelStands b pt l 0 k → KernelStands b pt l 0 (with_sent k)
+sent_asked b pt l k h = record { here = h.here; known = h.known; no_server = h.no_server; ring = h.ring; inbox = h.inbox; made = h.made; room = h.room; servers = h.servers }
+
+elsewhere_asked : (pt : Point) (l : Placed) (p : Pid) (to : ℕ) → Elsewhere 0 (asked_point pt p to) l (asked_point pt p to) l
+elsewhere_asked pt l p to = record {
+  acting = refl;
+  groups = refl;
+  pair = λ a d. refl;
+  inbox = λ n off. refl;
+  ring = λ n off. refl;
+  known = λ n q off. refl;
+  queue = λ n q off. refl;
+  held = λ n q off. refl;
+  count = λ n. refl;
+  told = refl;
+  machines = refl;
+  made = λ n off. refl;
+  process = λ n q off has. refl;
+  ended = λ n q off e. refl;
+  life = λ n q off has. refl;
+  bag = λ i s is least. refl;
+  board = λ off. refl;
+  manager = λ off. refl;
+}
+
+-- a line that changes nothing says why there is no message
+pub asked_line : (b : Boot) (pt : Point) (l : Placed) (records : AllRecords) (k : KernelState) (c : Asks b pt l records k) (p : Pid) (to : ℕ) (said : Line) → asks_move k p to ≡ Some (record { state = k; parts = part.Says said ∷ [] }) → migrates pt p ≡ rule.Says said ∷ []
+    → after (asked_point pt p to) (said ∷ []) ≡ Some (asked_point pt p to) → Turns b 0 (step.Migrate p to) (asks_move k p to) pt (asked_point pt p to) l records k
+asked_line b pt l records k c p to said turn is goes = record {
+  state = k;
+  says = said ∷ [];
+  routes = [];
+  late = Nothing;
+  turn = turn;
+  outcome = ap Some is;
+  next = asked_point pt p to;
+  after = goes;
+  placed = l;
+  mirrors = mirrors_view pt.kernel pt.view (asked_point pt p to).view pt.addresses l refl c.mirrors;
+  kernel = kernel_asked b pt l records k c p to;
+  sent = λ e. e ∙ (let f : pt.view.count 0 ≡ pt.view.count 0 + (0 + 0) = omega arith in f);
+  elsewhere = elsewhere_asked pt l p to;
+  may = tt;
+  late_may = tt;
+  single = omega arith;
+  topic = tt;
+  own = own_asked b pt l records k c p to;
+  tokens = tokens_asked b pt l records k c p to;
+}
+
+-- the child that a name finds bears it
+named_is : (cs : List Addr) (p : Pid) (c : Addr) → child_named p cs ≡ Some c → c.pid ≡ p
+named_is [] p c e = cc
+named_is (d ∷ ds) p c e = elim (cases_Bool (pid_eq d.pid p)) [
+  | inl same ↦
+      let f : Some d ≡ Some c = sym (ap (λ (b : Bool). cond b (Some d) (child_named p ds)) same) ∙ e in
+      let g : d ≡ c = cc in
+      ap (λ (a : Addr). a.pid) (sym g) ∙ pid_eq-is d.pid p same
+  | inr apart ↦ named_is ds p c (sym (ap (λ (b : Bool). cond b (Some d) (child_named p ds)) apart) ∙ e)
+]
+
+-- the message that tells a child to move
+abbrev move_of : KernelState → Addr → ℕ → Message
+move_of k child to = record { id = machine.own_id k; to = child; sender = address; what = what.Migrate to }
+
+move_may : (b : Boot) (pt : Point) (l : Placed) (records all : AllRecords) (k : KernelState) (c : Asks b pt l records k) (p : Pid) (to : ℕ) (child : Addr) → child_named p l.manager.children ≡ Some child → MayOwn (asked_point pt p to) l all (move_of k child to)
+move_may b pt l records all k c p to child found =
+    let named : machine.own_id k ≡ id_of (pid_of 0 0) (pt.view.count 0) = λ i. record { from = pid_of (c.stands.here i) 0; n = c.counted i; answer = false } in
+    let (n, number, place) = child_place pt.kernel pt.view pt.addresses l p child c.mirrors found in
+    let is : child.pid ≡ p = named_is l.manager.children p child found in
+    let i = machine.own_id k in
+    let to_child : place_of_child pt.addresses (child_number pt.kernel child.pid) ≡ place_of child = ap (λ (q : Pid). place_of_child pt.addresses (child_number pt.kernel q)) is ∙ ap (place_of_child pt.addresses) number ∙ place in
+    record {
+      id = named;
+      plain = refl;
+      encloses = refl;
+      bag = ap l.bag named ∙ next_free b 0 pt l c.run c.mirrors c.own;
+      untold = ap pt.view.told named ∙ next_untold b 0 pt c.run;
+      receiver = ap (λ (t : Bool). if t then place_of_child pt.addresses (child_number pt.kernel child.pid) else pt.addresses (Receiver i)) (id_eq-same i) ∙ to_child;
+      sender = ap (λ (t : Bool). if t then unmoved 0 else pt.addresses (Sender i)) (id_eq-same i);
+      about = refl;
+      asker = λ e. refl;
+      carried = λ e q f. absurd (false≢true e);
+    }
+
+asked_child : (b : Boot) (pt : Point) (l : Placed) (records : AllRecords) (k : KernelState) (c : Asks b pt l records k) (p : Pid) (to : ℕ) (child : Addr) → child_named p l.manager.children ≡ Some child → asks_move k p to ≡ Some (record { state = with_sent k; parts = part.Routes (move_of k child to) ∷ [] })
+    → migrates pt p ≡ migrates_child pt.addresses p (child_number pt.kernel p) → Turns b 0 (step.Migrate p to) (asks_move k p to) pt (asked_point pt p to) l records k
+asked_child b pt l records k c p to child found turn is =
+    let (n, number, place) = child_place pt.kernel pt.view pt.addresses l p child c.mirrors found in
+    let who : p ≡ child.pid = sym (named_is l.manager.children p child found) in
+    record {
+      state = with_sent k;
+      says = [];
+      routes = Own (move_of k child to) ∷ [];
+      late = Nothing;
+      turn = turn;
+      outcome = ap Some (is ∙ ap (migrates_child pt.addresses p) number ∙ (λ i. rule.Owns kind.Migrate (who i) (place i).at ∷ []));
+      next = asked_point pt p to;
+      after = refl;
+      placed = l;
+      mirrors = mirrors_view pt.kernel pt.view (asked_point pt p to).view pt.addresses l refl c.mirrors;
+      kernel = sent_asked b (asked_point pt p to) l k (kernel_asked b pt l records k c p to);
+      sent = λ e. (let f : k.sent + 1 ≡ pt.view.count 0 + ((1 + 0) + 0) = omega (arith, e) in f);
+      elsewhere = elsewhere_asked pt l p to;
+      may = (move_may b pt l records (at_machine records 0 (with_sent k).records) k c p to child found, tt);
+      late_may = tt;
+      single = omega arith;
+      topic = tt;
+      own = own_asked b pt l records k c p to;
+      tokens = tokens_asked b pt l records k c p to;
+    }
+
+-- a server doesn't move, nor does what is no child
+asked_server : (b : Boot) (pt : Point) (l : Placed) (records : AllRecords) (k : KernelState) (c : Asks b pt l records k) (p : Pid) (to : ℕ) → (pid_eq p switchboard || pid_eq p manager) ≡ true → asks_move k p to ≡ told_to_move k p (moves_child l.manager.children p to (machine.own_id k))
+    → Turns b 0 (step.Migrate p to) (asks_move k p to) pt (asked_point pt p to) l records k
+asked_server b pt l records k c p to server turn =
+    asked_line b pt l records k c p to (line.Pinned p) (turn ∙ ap (λ (t : Bool). told_to_move k p (if t then Err no.Pinned else tells_to_move (machine.own_id k) to (child_named p l.manager.children))) server)
+    (pinned (pid_eq p switchboard) (pid_eq p manager) server) refl
+  where
+    pinned : (s t : Bool) → (s || t) ≡ true → (if s then rule.Says (line.Pinned p) ∷ [] else if t then rule.Says (line.Pinned p) ∷ [] else migrates_child pt.addresses p (child_number pt.kernel p)) ≡ rule.Says (line.Pinned p) ∷ []
+    pinned true t e = refl
+    pinned false true e = refl
+    pinned false false e = cc
+
+asked_other : (b : Boot) (pt : Point) (l : Placed) (records : AllRecords) (k : KernelState) (c : Asks b pt l records k) (p : Pid) (to : ℕ) (o : Option Addr) → child_named p l.manager.children ≡ o → asks_move k p to ≡ told_to_move k p (tells_to_move (machine.own_id k) to (child_named p l.manager.children))
+    → migrates pt p ≡ migrates_child pt.addresses p (child_number pt.kernel p) → Turns b 0 (step.Migrate p to) (asks_move k p to) pt (asked_point pt p to) l records k
+asked_other b pt l records k c p to None found turn is =
+    asked_line b pt l records k c p to (line.NoChild p) (turn ∙ ap (λ (o : Option Addr). told_to_move k p (tells_to_move (machine.own_id k) to o)) found)
+    (is ∙ ap (migrates_child pt.addresses p) (no_child pt.kernel pt.view pt.addresses l p c.mirrors found)) refl
+asked_other b pt l records k c p to (Some child) found turn is =
+    asked_child b pt l records k c p to child found (turn ∙ ap (λ (o : Option Addr). told_to_move k p (tells_to_move (machine.own_id k) to o)) found) is
+
+pub asks_turn : (b : Boot) (pt : Point) (l : Placed) (records : AllRecords) (k : KernelState) (p : Pid) (to : ℕ) → Asks b pt l records k → Turns b 0 (step.Migrate p to) (asks_move k p to) pt (moved pt (line.Head (step.Migrate p to)) pt.kernel) l records k
+asks_turn b pt l records k p to c =
+    let turn : asks_move k p to ≡ told_to_move k p (moves_child l.manager.children p to (machine.own_id k)) = ap (asks_manager k p to) c.stands.servers in
+    elim (cases_Bool (pid_eq p switchboard || pid_eq p manager)) [
+      | inl server ↦ asked_server b pt l records k c p to server turn
+      | inr other ↦
+          asked_other b pt l records k c p to (child_named p l.manager.children) refl (turn ∙ ap (λ (t : Bool). told_to_move k p (if t then Err no.Pinned else tells_to_move (machine.own_id k) to (child_named p l.manager.children))) other)
+          (neither (pid_eq p switchboard) (pid_eq p manager) other)
+    ]
+  where
+    neither : (s t : Bool) → (s || t) ≡ false → (if s then rule.Says (line.Pinned p) ∷ [] else if t then rule.Says (line.Pinned p) ∷ [] else migrates_child pt.addresses p (child_number pt.kernel p)) ≡ migrates_child pt.addresses p (child_number pt.kernel p)
+    neither true t e = cc
+    neither false true e = cc
+    neither false false e = refl

@@ -1,0 +1,355 @@
+-- A message for a process that has gone on follows it, and its sender may be told.
+use Rattle.std.proofs.Common.{◌≡◌, ◌≢◌, ℕ, ◌+◌, ◌≤◌, Bool, true, false, List, [], ◌∷◌, map, refl, ap, ◌∙◌, sym, subst, is_some, arith}
+use Rattle.std.specs.Prelude.{if◌then◌else◌}
+use Rattle.std.specs.declared.option.Option.{Option}
+use Rattle.std.specs.declared.option.Option.TheVariants.{None, Some}
+use Rattle.std.proofs.lemmas.Bool.{false≢true}
+use Rattle.dm_link.specs.declared.Pid.{Pid}
+use Rattle.dm_link.specs.Names.{pid_of, place_of}
+use Rattle.dm_linkupdate.specs.Notice.{has_update, update_of}
+use Rattle.dm_message.specs.declared.Message.{Message}
+use Rattle.dm_message.specs.declared.MsgId.{MsgId}
+use Rattle.dm_message.specs.declared.What.{What}
+use Rattle.dm_message.specs.declared.What.TheVariants as what
+use Rattle.dm_message.specs.declared.kind.MessageKind.{MessageKind}
+use Rattle.dm_message.specs.declared.kind.MessageKind.TheVariants as kind
+use Rattle.dm_message.specs.Ids.{id_eq, id_of}
+use Rattle.dm_message.specs.Kinds.{kind_of, plain_kind}
+use Rattle.dm_message.specs.Plain as plain_
+use Rattle.dm_message.specs.Plain.{PlainMessage, PlainWhat, plain_message, plain_what, with_what}
+use Rattle.dm_records.specs.declared.record.Record.TheVariants as record_
+use Rattle.dm_records.specs.Records.{incoming_of}
+use Rattle.dm_migrate.specs.Departure.{sent_on}
+use Rattle.dm_onekernel.specs.declared.boot.Boot.{Boot}
+use Rattle.dm_onekernel.specs.Boot.{manager}
+use Rattle.dm_onekernel.specs.Kernel.{OneKernel}
+use Rattle.dm_onekernel.specs.Options.{bind}
+use Rattle.dm_kernel.specs.declared.part.Part.TheVariants as part
+use Rattle.dm_kernel.specs.Following.{forwards_and}
+use Rattle.dm_kernel.specs.State as machine
+use Rattle.dm_kernel.specs.State.{KernelState, Turned, with_sent}
+use Rattle.dm_laws.proofs.Equal.{id_eq-same, id_eq-swap}
+use Rattle.dm_line.specs.declared.line.Line.TheVariants as line
+use Rattle.dm_rule.specs.Addresses.{Addresses, Receiver, Sender, is_told_back, unmoved}
+use Rattle.dm_rule.specs.Migrating.{forwards_on, process_told}
+use Rattle.dm_rule.specs.Parts as rule
+use Rattle.dm_rule.specs.Point.{Point, moved}
+use Rattle.dm_rule.specs.Rule.{process_handles}
+use Rattle.dm_line.specs.Sets.{at_machine}
+use Rattle.dm_rule.specs.Spots.{Spot, Queue, Held, StandsOnce, standing}
+use Rattle.dm_rule.specs.View.{About, Known, Forward, Told, forward_about, forwarded_for, handled, own_id, receiver_of}
+use Rattle.dm_rule.specs.View as view
+use Rattle.dm_rule.proofs.Groups.{stands_right}
+use Rattle.dm_rulelaws.specs.Fits.{WhatFits}
+use Rattle.dm_rulelaws.specs.Found.{is_fixed}
+use Rattle.dm_rulelaws.proofs.Own.Told.{own_sort}
+use Rattle.dm_rulelaws.proofs.Runs.{Run}
+use Rattle.dm_places.specs.Placed.{Placed, Mirrors}
+use Rattle.dm_places.specs.PlacedStep.{with_message}
+use Rattle.dm_places.proofs.Changed.{free_off, plain_sent_on}
+use Rattle.dm_places.proofs.Followed.{forwarded_mirrors, moves_forwarded, update_gets}
+use Rattle.dm_places.proofs.Keeps.{parts}
+use Rattle.dm_places.proofs.Lines.{mirrors_view}
+use Rattle.dm_mirror.specs.Own.{AllOwnStand, OwnStands}
+use Rattle.dm_mirror.specs.Stands.{KnownStands}
+use Rattle.dm_mirror.specs.Tokens.{AllRecords, Wants}
+use Rattle.dm_mirror.proofs.Follow.Frames.{Fronts, apart_at, held_apart, known_on, queue_apart}
+use Rattle.dm_mirror.proofs.Follow.Fronts.{IsProcess, front_still, is_process_of, plain_kinds, plain_there}
+use Rattle.dm_mirror.proofs.Follow.Receivers.{machine_process, rule_process}
+use Rattle.dm_mirror.proofs.Follow.Rows.{handled_point, handled_view, turns_follow}
+use Rattle.dm_mirror.proofs.Turning.{AllMayPut, MayOwn, MayPut, On, Own, Route, TurnsAt, begun, owns, part_of, rule_part_of}
+
+-- the rule tells back what the machines do: no message tells the manager to move a process
+told_back : (k : MessageKind) → k ≢ kind.Move → is_told_back k ≡ has_update k
+told_back kind.User none = refl
+told_back kind.Stop none = refl
+told_back kind.Resume none = refl
+told_back kind.Kill none = refl
+told_back kind.Read none = refl
+told_back kind.Write none = refl
+told_back kind.Block none = refl
+told_back kind.Written none = refl
+told_back kind.Gone none = refl
+told_back kind.Create none = refl
+told_back kind.Created none = refl
+told_back kind.NoRoom none = refl
+told_back kind.Migrate none = refl
+told_back kind.Update none = refl
+told_back kind.Ask none = refl
+told_back kind.Refuse none = refl
+told_back kind.PullState none = refl
+told_back kind.State none = refl
+told_back kind.PullBlock none = refl
+told_back kind.Memory none = refl
+told_back kind.AllTaken none = refl
+told_back kind.Restart none = refl
+told_back kind.Move none = absurd (none refl)
+told_back kind.Moved none = refl
+told_back kind.CallOff none = refl
+told_back kind.Bury none = refl
+
+fits_no_move : (s : OneKernel) (i : MsgId) (x : PlainMessage) (w : PlainWhat) → WhatFits s i x w → plain_kind w ≢ kind.Move
+fits_no_move s i x (plain_.User code channel body links) h e = cc
+fits_no_move s i x plain_.Stop h e = cc
+fits_no_move s i x plain_.Resume h e = cc
+fits_no_move s i x plain_.Kill h e = cc
+fits_no_move s i x (plain_.Read base len) h e = cc
+fits_no_move s i x (plain_.Write base bytes) h e = cc
+fits_no_move s i x (plain_.Block bytes) h e = cc
+fits_no_move s i x plain_.Written h e = cc
+fits_no_move s i x plain_.Gone h e = cc
+fits_no_move s i x (plain_.Create image links) h e = cc
+fits_no_move s i x (plain_.Created pid) h e = cc
+fits_no_move s i x plain_.NoRoom h e = cc
+fits_no_move s i x (plain_.Move machine) h e = absurd h
+fits_no_move s i x (plain_.Moved outcome) h e = cc
+
+no_move_by : (b : Boot) (m : ℕ) (pt : Point) (l : Placed) (records : AllRecords) (k : KernelState) (y : Message) (c : Fronts b m pt l records k y) (o : Option PlainMessage) → plain_message y ≡ o → kind_of y.what ≢ kind.Move
+no_move_by b m pt l records k y c None plain e =
+    let own = c.own y.id y c.there plain in
+    let sort = c.own_told.own y.id c.told c.told_is own.mine in
+    false≢true (sym (ap (λ (t : MessageKind). own_sort t c.told.receiver c.told.about) (c.kind ∙ e)) ∙ sort)
+no_move_by b m pt l records k y c (Some x) plain e =
+    let bag : pt.kernel.bag y.id ≡ Some x = plain_there b m pt l records k y c ∙ plain in
+    fits_no_move pt.kernel y.id x x.what (c.run.based.fits.messages y.id x bag) (plain_kinds y.what x.what (parts y x plain).what ∙ e)
+
+no_move : (b : Boot) (m : ℕ) (pt : Point) (l : Placed) (records : AllRecords) (k : KernelState) (y : Message) (c : Fronts b m pt l records k y) → kind_of y.what ≢ kind.Move
+no_move b m pt l records k y c = no_move_by b m pt l records k y c (plain_message y) refl
+
+-- of the kernels' own messages only requests to move a process are told back
+own_back : (w : What) → plain_what w ≡ None → has_update (kind_of w) ≡ true → kind_of w ≡ kind.Migrate
+own_back (what.Migrate machine) e back = refl
+own_back (what.Update about) e back = absurd (false≢true back)
+own_back (what.Ask pid blocks moves size asker) e back = absurd (false≢true back)
+own_back (what.Refuse pid slots blocks) e back = absurd (false≢true back)
+own_back (what.PullState pid chunk) e back = absurd (false≢true back)
+own_back (what.State pid chunk last bytes) e back = absurd (false≢true back)
+own_back (what.PullBlock pid block) e back = absurd (false≢true back)
+own_back (what.Memory pid block bytes) e back = absurd (false≢true back)
+own_back (what.AllTaken pid) e back = absurd (false≢true back)
+own_back (what.Restart pid) e back = absurd (false≢true back)
+own_back (what.CallOff pid) e back = absurd (false≢true back)
+own_back (what.Bury pid) e back = absurd (false≢true back)
+own_back (what.User code channel body links) e back = cc
+own_back what.Stop e back = cc
+own_back what.Resume e back = cc
+own_back what.Kill e back = cc
+own_back (what.Read base len) e back = cc
+own_back (what.Write base bytes) e back = cc
+own_back (what.Block bytes) e back = cc
+own_back what.Written e back = cc
+own_back what.Gone e back = cc
+own_back (what.Create image links) e back = cc
+own_back (what.Created pid) e back = cc
+own_back what.NoRoom e back = cc
+own_back (what.Move machine) e back = cc
+own_back (what.Moved outcome) e back = cc
+
+-- the name of the kernel's next message is free
+once_told : (i : MsgId) (f : Spot → ℕ) (o : Option Told) → StandsOnce f → ((z : Spot) → 1 ≤ f z → is_some o ≡ true) → o ≡ None → ⊥
+once_told i f o once told none =
+    let (spot, one, others) = once in
+    false≢true (sym (ap is_some none) ∙ told spot (omega (arith, one)))
+
+pub next_untold : (b : Boot) (m : ℕ) (pt : Point) → Run b pt → pt.view.told (id_of (pid_of m 0) (pt.view.count m)) ≡ None
+next_untold b m pt run = run.based.phased.state.numbered m (pt.view.count m) (omega arith)
+
+free_by : (b : Boot) (pt : Point) (l : Placed) (i : MsgId) (o : Option Message) → Run b pt → Mirrors pt.kernel pt.view pt.addresses l → AllOwnStand pt.view l → l.bag i ≡ o → pt.view.told i ≡ None → o ≡ None
+free_by b pt l i None run mirrors own is none = refl
+free_by b pt l i (Some x) run mirrors own is none = absurd (bad (plain_message x) refl)
+  where
+    bad : (p : Option PlainMessage) → plain_message x ≡ p → ⊥
+    bad None plain = let f : None ≡ Some _ = sym none ∙ (own i x is plain).told in cc
+    bad (Some w) plain =
+        let bag : pt.kernel.bag i ≡ Some w = sym (mirrors.plain.bag i) ∙ ap (λ (z : Option Message). bind z plain_message) is ∙ plain in
+        once_told i (standing pt.view i) (pt.view.told i) (stands_right pt i run.based.phased.state (Some w) bag) (λ z least. run.found.told i z least) none
+
+pub next_free : (b : Boot) (m : ℕ) (pt : Point) (l : Placed) → Run b pt → Mirrors pt.kernel pt.view pt.addresses l → AllOwnStand pt.view l → l.bag (id_of (pid_of m 0) (pt.view.count m)) ≡ None
+next_free b m pt l run mirrors own = let i = id_of (pid_of m 0) (pt.view.count m) in free_by b pt l i (l.bag i) run mirrors own refl (next_untold b m pt run)
+
+own_untold : (b : Boot) (m : ℕ) (pt : Point) (l : Placed) (records : AllRecords) (k : KernelState) (y : Message) (c : Fronts b m pt l records k y) → pt.view.told (own_id (begun pt m).view) ≡ None
+own_untold b m pt l records k y c = next_untold b m pt c.run
+
+own_free : (b : Boot) (m : ℕ) (pt : Point) (l : Placed) (records : AllRecords) (k : KernelState) (y : Message) (c : Fronts b m pt l records k y) → l.bag (own_id (begun pt m).view) ≡ None
+own_free b m pt l records k y c = next_free b m pt l c.run c.mirrors c.own
+
+-- both name it alike
+own_named : (b : Boot) (m : ℕ) (pt : Point) (l : Placed) (records : AllRecords) (k : KernelState) (y : Message) (c : Fronts b m pt l records k y) → machine.own_id k ≡ own_id (begun pt m).view
+own_named b m pt l records k y c = λ i. record { from = pid_of (c.stands.here i) 0; n = c.counted i; answer = false }
+
+-- what the machine knows
+forward_of : (pt : Point) (l : Placed) (p : Pid) (queue held_ : List MsgId) (at moves : ℕ) (r : Option machine.Known) → KnownStands pt l p queue held_ (Forward at moves) r → r ≡ Some (record_.Forward at moves)
+forward_of pt l p queue held_ at moves (Some (record_.Forward to count)) h = λ i. Some (record_.Forward (h.0 i) (h.1 i))
+forward_of pt l p queue held_ at moves r h = absurd h
+
+-- where the line leads
+abbrev forwarded : Point → ℕ → Message → ℕ → Point
+forwarded pt m y at = moved (begun pt m) (line.Forwarded y.id at) pt.kernel
+
+-- the sender, as the rule names it
+sender_is : (b : Boot) (m : ℕ) (pt : Point) (l : Placed) (records : AllRecords) (k : KernelState) (y : Message) (c : Fronts b m pt l records k y) → plain_what y.what ≡ None → has_update (kind_of y.what) ≡ true → manager ≡ y.sender.pid
+sender_is b m pt l records k y c none back = sym ((c.own y.id y c.there (ap (with_what y) none)).sender (own_back y.what none back))
+
+none_of : (y : Message) → plain_message y ≡ None → plain_what y.what ≡ None
+none_of y e = none_by y (plain_what y.what) e
+  where
+    none_by : (y : Message) (o : Option PlainWhat) → with_what y o ≡ None → o ≡ None
+    none_by y None e = refl
+    none_by y (Some w) e = cc
+
+-- what goes on, and what tells its sender
+abbrev routes_of : Message → MsgId → ℕ → ℕ → ℕ → Bool → List Route
+routes_of y id here at moves true = On (sent_on at moves y) ∷ Own (update_of y id here at moves) ∷ []
+routes_of y id here at moves false = On (sent_on at moves y) ∷ []
+
+abbrev sent_by : KernelState → Bool → KernelState
+sent_by s true = with_sent s
+sent_by s false = s
+
+machine_forwards : (s : KernelState) (y : Message) (at moves : ℕ) (back : Bool) → forwards_and s y at moves back ≡ Some (record { state = sent_by s back; parts = part.Says (line.Forwarded y.id at) ∷ map part_of (routes_of y (machine.own_id s) s.here at moves back) })
+machine_forwards s y at moves true = refl
+machine_forwards s y at moves false = refl
+
+rule_forwards : (a : Addresses) (y : Message) (k : MessageKind) (sender : Pid) (id : MsgId) (here at moves : ℕ) (back : Bool) → is_told_back k ≡ back → (back ≡ true → sender ≡ y.sender.pid) → a (Sender y.id) ≡ place_of y.sender
+    → forwards_on a y.id k sender at ≡ rule.Says (line.Forwarded y.id at) ∷ map rule_part_of (routes_of y id here at moves back)
+rule_forwards a y k sender id here at moves true is who place =
+    ap (λ (t : Bool). rule.Says (line.Forwarded y.id at) ∷ rule.Again y.id at ∷ (if t then rule.Owns kind.Update sender (a (Sender y.id)).at ∷ [] else [])) is
+    ∙ (λ i. rule.Says (line.Forwarded y.id at) ∷ rule.Again y.id at ∷ rule.Owns kind.Update (who refl i) (place i).at ∷ [])
+rule_forwards a y k sender id here at moves false is who place =
+    ap (λ (t : Bool). rule.Says (line.Forwarded y.id at) ∷ rule.Again y.id at ∷ (if t then rule.Owns kind.Update sender (a (Sender y.id)).at ∷ [] else [])) is
+
+outcome_forwards : (b : Boot) (m : ℕ) (pt : Point) (l : Placed) (records : AllRecords) (k : KernelState) (y : Message) (c : Fronts b m pt l records k y) (id : MsgId) (here at moves : ℕ) (back : Bool) (z : Option PlainMessage) → plain_message y ≡ z → has_update (kind_of y.what) ≡ back
+    → ((x : PlainMessage) → z ≡ Some x → process_handles pt m y.id x (Forward at moves) ≡ Some (rule.Says (line.Forwarded y.id at) ∷ map rule_part_of (routes_of y id here at moves back)))
+    × (z ≡ None → process_told pt m y.id c.told (Forward at moves) ≡ Some (rule.Says (line.Forwarded y.id at) ∷ map rule_part_of (routes_of y id here at moves back)))
+outcome_forwards b m pt l records k y c id here at moves back z plain has =
+    let place = (c.mirrors.places.message y.id y c.there).sender in
+    let none = no_move b m pt l records k y c in (
+      λ x is. (let w = parts y x (plain ∙ is) in
+          ap Some (rule_forwards pt.addresses y (plain_kind x.what) x.sender id here at moves back (told_back (plain_kind x.what) (λ f. none (sym (plain_kinds y.what x.what w.what) ∙ f)) ∙ ap has_update (plain_kinds y.what x.what w.what) ∙ has) (λ e. sym w.sender) place)),
+      λ own. ap Some (rule_forwards pt.addresses y c.told.kind manager id here at moves back (told_back c.told.kind (λ f. none (sym c.kind ∙ f)) ∙ ap has_update c.kind ∙ has) (λ e. sender_is b m pt l records k y c (none_of y (plain ∙ own)) (has ∙ e)) place),
+    )
+
+-- the update may be put
+update_may : (b : Boot) (m : ℕ) (pt : Point) (l : Placed) (records all : AllRecords) (k : KernelState) (y : Message) (c : Fronts b m pt l records k y) (at moves : ℕ) → pt.view.known m y.to.pid ≡ Forward at moves → has_update (kind_of y.what) ≡ true
+    → MayOwn (handled_point pt m y.id pt.view.held (view.Place y.to.pid at moves) (forwarded pt m y at).addresses) (with_message l y.id (Some (sent_on at moves y))) all (update_of y (machine.own_id k) k.here at moves)
+update_may b m pt l records all k y c at moves knows has =
+    let start = mirrors_view pt.kernel pt.view (begun pt m).view pt.addresses l refl c.mirrors in
+    let own = own_id (begun pt m).view in
+    let named = own_named b m pt l records k y c in
+    let free = own_free b m pt l records k y c in
+    let none = no_move b m pt l records k y c in
+    let places = update_gets (begun pt m) l y.id y c.told at at moves start c.there c.told_is (ap (pt.view.known m) c.receiver ∙ knows) free (told_back c.told.kind (λ f. none (sym c.kind ∙ f)) ∙ ap has_update c.kind ∙ has) in
+    let off : id_eq y.id own ≡ false = id_eq-swap y.id own ∙ free_off l own y.id y free c.there in
+    record {
+      id = named;
+      plain = refl;
+      encloses = refl;
+      bag = ap (with_message l y.id (Some (sent_on at moves y))).bag named ∙ ap (λ (t : Bool). if t then Some (sent_on at moves y) else l.bag own) off ∙ free;
+      untold = ap pt.view.told named ∙ own_untold b m pt l records k y c;
+      receiver = ap (λ (i : MsgId). (forwarded pt m y at).addresses (Receiver i)) named ∙ places.0;
+      sender = ap (λ (i : MsgId). (forwarded pt m y at).addresses (Sender i)) named ∙ places.1 ∙ ap unmoved (sym c.stands.here);
+      about = refl;
+      asker = λ e. cc;
+      carried = λ e p is. absurd (false≢true e);
+    }
+
+-- the message that goes on may be put
+on_may : (b : Boot) (m : ℕ) (pt : Point) (l : Placed) (records all : AllRecords) (k : KernelState) (y : Message) (c : Fronts b m pt l records k y) (at moves : ℕ) → IsProcess y.to.pid
+    → MayPut (handled_point pt m y.id pt.view.held (view.Place y.to.pid at moves) (forwarded pt m y at).addresses) (with_message l y.id (Some (sent_on at moves y))) all (On (sent_on at moves y))
+on_may b m pt l records all k y c at moves is =
+    (ap (λ (t : Bool). if t then Some (sent_on at moves y) else l.bag y.id) (id_eq-same y.id), (c.told, c.told_is, c.kind, c.receiver), front_still b m pt l records k y c is.number)
+
+all_may : (b : Boot) (m : ℕ) (pt : Point) (l : Placed) (records all : AllRecords) (k : KernelState) (y : Message) (c : Fronts b m pt l records k y) (at moves : ℕ) (back : Bool) → IsProcess y.to.pid → pt.view.known m y.to.pid ≡ Forward at moves → has_update (kind_of y.what) ≡ back
+    → AllMayPut (handled_point pt m y.id pt.view.held (view.Place y.to.pid at moves) (forwarded pt m y at).addresses) (with_message l y.id (Some (sent_on at moves y))) all (routes_of y (machine.own_id k) k.here at moves back)
+all_may b m pt l records all k y c at moves true is knows has = (on_may b m pt l records all k y c at moves is, (update_may b m pt l records all k y c at moves knows has, tt))
+all_may b m pt l records all k y c at moves false is knows has = (on_may b m pt l records all k y c at moves is, tt)
+
+record Sent (k s : KernelState) (routes : List Route) : Type 0 where
+  here : s.here ≡ k.here
+  records : s.records ≡ k.records
+  ring : s.ring ≡ k.ring
+  made : s.made ≡ k.made
+  room : s.room ≡ k.room
+  servers : s.servers ≡ k.servers
+  sent : s.sent ≡ k.sent + owns routes
+
+sent_is : (k : KernelState) (rest : List Message) (y : Message) (id : MsgId) (here at moves : ℕ) (back : Bool) → Sent k (sent_by (record k { inbox = rest }) back) (routes_of y id here at moves back)
+sent_is k rest y id here at moves true = record { here = refl; records = refl; ring = refl; made = refl; room = refl; servers = refl; sent = (let e : k.sent + 1 ≡ k.sent + (0 + (1 + 0)) = omega arith in e) }
+sent_is k rest y id here at moves false = record { here = refl; records = refl; ring = refl; made = refl; room = refl; servers = refl; sent = (let e : k.sent ≡ k.sent + (0 + 0) = omega arith in e) }
+
+inbox_is : (k : KernelState) (rest : List Message) (back : Bool) → (sent_by (record k { inbox = rest }) back).inbox ≡ rest
+inbox_is k rest true = refl
+inbox_is k rest false = refl
+
+gone_on : (l : Placed) (y z : Message) (at moves : ℕ) → (with_message l y.id (Some (sent_on at moves y))).bag y.id ≡ Some z → sent_on at moves y ≡ z
+gone_on l y z at moves e =
+    let f : Some (sent_on at moves y) ≡ Some z = sym (ap (λ (t : Bool). if t then Some (sent_on at moves y) else l.bag y.id) (id_eq-same y.id)) ∙ e in
+    cc
+
+own_most : (y : Message) (id : MsgId) (here at moves : ℕ) (back : Bool) → owns (routes_of y id here at moves back) ≤ 1
+own_most y id here at moves true = omega arith
+own_most y id here at moves false = omega arith
+
+forward_row : (b : Boot) (m : ℕ) (pt : Point) (l : Placed) (records : AllRecords) (k : KernelState) (y : Message) (c : Fronts b m pt l records k y) (at moves : ℕ) (back : Bool) → IsProcess y.to.pid → pt.view.known m y.to.pid ≡ Forward at moves → has_update (kind_of y.what) ≡ back → TurnsAt b m pt l records k
+forward_row b m pt l records k y c at moves back is knows has =
+    let p = y.to.pid in
+    let s = record k { inbox = c.rest } in
+    let state = sent_by s back in
+    let routes = routes_of y (machine.own_id k) k.here at moves back in
+    let topic = view.Place p at moves in
+    let next = forwarded pt m y at in
+    let placed = with_message l y.id (Some (sent_on at moves y)) in
+    let r = forward_of pt l p (pt.view.queue m p) (pt.view.held m p) at moves (k.records p) (subst (λ (j : Known). KnownStands pt l p (pt.view.queue m p) (pt.view.held m p) j (k.records p)) knows (c.stands.known p is.server)) in
+    let out = outcome_forwards b m pt l records k y c (machine.own_id k) k.here at moves back (plain_message y) refl has in
+    let start = mirrors_view pt.kernel pt.view (begun pt m).view pt.addresses l refl c.mirrors in
+    let gone = forwarded_mirrors (begun pt m) l y.id y c.told at at moves start c.there c.told_is (ap (pt.view.known m) c.receiver ∙ knows) (own_free b m pt l records k y c) in
+    let same = sent_is k c.rest y (machine.own_id k) k.here at moves back in
+    let bag_off = λ (j : MsgId) (off : id_eq y.id j ≡ false). ap (λ (t : Bool). if t then Some (sent_on at moves y) else l.bag j) off in
+    turns_follow b m pt l records k y c (record {
+      state = state;
+      said = line.Forwarded y.id at;
+      routes = routes;
+      held = pt.view.held;
+      topic = topic;
+      addresses = next.addresses;
+      placed = placed;
+      process = p;
+      turn = machine_process b s y (Some (record_.Forward at moves)) (Some (record { state = state; parts = part.Says (line.Forwarded y.id at) ∷ map part_of routes })) is r (ap (forwards_and s y at moves) has ∙ machine_forwards s y at moves back);
+      outcome = rule_process b m pt l records k y c (Forward at moves) (Some (rule.Says (line.Forwarded y.id at) ∷ map rule_part_of routes)) (plain_message y) is knows refl out.0 out.1;
+      after = ap (λ (o : Option Pid). Some (record { kernel = pt.kernel; view = forwarded_for (handled (begun pt m).view y.id) o; addresses = next.addresses })) (ap receiver_of c.told_is ∙ ap Some c.receiver)
+          ∙ ap (λ (j : Known). Some (handled_point pt m y.id pt.view.held (forward_about p j) next.addresses)) knows;
+      mirrors = mirrors_view pt.kernel next.view (handled_view pt m y.id pt.view.held topic) next.addresses placed (sym (moves_forwarded (handled (begun pt m).view y.id) (receiver_of (pt.view.told y.id)))) gone;
+      held_off = λ n q off. refl;
+      held_others = λ q off. refl;
+      held_from = λ n q i off. refl;
+      processes = λ q off. refl;
+      elsewhere = λ n off has_. refl;
+      moving = λ i t z told between about least. refl;
+      bag = bag_off;
+      own_front = λ z e plain. (let w = gone_on l y z at moves e in
+          let o = c.own y.id y c.there (sym (plain_sent_on at moves y) ∙ ap plain_message w ∙ plain) in
+          let u : OwnStands pt.view y.id (sent_on at moves y) = record { told = o.told; mine = o.mine; sender = o.sender } in
+          subst (OwnStands pt.view y.id) w u);
+      board = λ off. refl;
+      manager = λ off. refl;
+      here = same.here;
+      records_ = λ q off. ap (λ (f : Pid → Option machine.Known). f q) same.records;
+      ring = same.ring;
+      inbox = inbox_is k c.rest back;
+      made = same.made;
+      room = same.room;
+      servers = same.servers ∙ c.stands.servers;
+      sent = same.sent;
+      single = own_most y (machine.own_id k) k.here at moves back;
+      keeps = λ server. ap (λ (f : Pid → Option machine.Known). f p) same.records;
+      known = λ server. subst (KnownStands (handled_point pt m y.id pt.view.held topic next.addresses) placed p (pt.view.queue m p) (pt.view.held m p) (pt.view.known m p)) (ap (λ (f : Pid → Option machine.Known). f p) (sym same.records))
+          (known_on pt (handled_point pt m y.id pt.view.held topic next.addresses) l placed p (pt.view.queue m p) (pt.view.held m p) (pt.view.known m p) (k.records p) refl refl
+          (λ j least. bag_off j (apart_at b m pt l records k y c (Queue m p) j (queue_apart m m p) least)) (λ j least. bag_off j (apart_at b m pt l records k y c (Held m p) j (held_apart m m p) least)) (c.stands.known p server));
+      wants = λ u h. subst (λ (f : Pid → Option machine.Known). Wants (incoming_of (f p)) u) (sym same.records) h;
+      still = front_still b m pt l records k y c is.number;
+      may = all_may b m pt l records (at_machine records m state.records) k y c at moves back is knows has;
+    })
+
+-- where the process has gone on
+pub forwards_turn : (b : Boot) (m : ℕ) (pt : Point) (l : Placed) (records : AllRecords) (k : KernelState) (y : Message) (c : Fronts b m pt l records k y) (at moves : ℕ) → is_fixed y.to.pid ≡ false → pt.view.known m y.to.pid ≡ Forward at moves → TurnsAt b m pt l records k
+forwards_turn b m pt l records k y c at moves fixed knows = forward_row b m pt l records k y c at moves (has_update (kind_of y.what)) (is_process_of y.to.pid fixed) knows refl

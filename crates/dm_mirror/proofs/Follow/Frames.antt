@@ -1,0 +1,163 @@
+-- The kernel of a machine still stands where the message at its front is held, goes on or makes links follow.
+use Rattle.std.proofs.Common.{◌≡◌, ◌≢◌, ℕ, ◌+◌, ◌≤◌, ◌<◌, ◌==◌, Bool, true, false, List, [], ◌∷◌, map, refl, ap, ◌∙◌, sym, subst, inl, inr, arith}
+use Rattle.std.specs.Prelude.{if◌then◌else◌}
+use Rattle.std.specs.declared.option.Option.{Option}
+use Rattle.std.specs.declared.option.Option.TheVariants.{None, Some}
+use Rattle.std.proofs.lemmas.Bool.{cases_Bool, false≢true}
+use Rattle.std.proofs.lemmas.Bool.Decides.{nat_tests}
+use Rattle.dm_link.specs.declared.Pid.{Pid}
+use Rattle.dm_message.specs.declared.MsgId.{MsgId}
+use Rattle.dm_message.specs.declared.Message.{Message}
+use Rattle.dm_message.specs.Ids.{id_eq}
+use Rattle.dm_message.specs.Kinds.{kind_of}
+use Rattle.dm_message.specs.Plain.{PlainMessage}
+use Rattle.dm_records.specs.declared.record.Record.TheVariants as record_
+use Rattle.dm_onekernel.specs.declared.boot.Boot.{Boot}
+use Rattle.dm_onekernel.specs.Step as kernel
+use Rattle.dm_kernel.specs.State as machine
+use Rattle.dm_kernel.specs.State.{KernelState}
+use Rattle.dm_laws.proofs.Equal.{id_eq-is, id_eq-same}
+use Rattle.dm_rule.specs.Point.{Point}
+use Rattle.dm_line.specs.Sets.{at_machine, without_front}
+use Rattle.dm_rule.specs.Spots.{Spot, Queue, Held, Inbox, Untaken, times, standing, StandsOnce, StandsOutside, StandsRight}
+use Rattle.dm_rule.specs.View.{Known, Unknown, Here, Frozen, Incoming, Forward, Ended, Told, is_kernels}
+use Rattle.dm_rule.proofs.Groups.{stands_right}
+use Rattle.dm_rule.proofs.Standing.{once_at}
+use Rattle.dm_rulelaws.proofs.Own.Told.{OwnTold}
+use Rattle.dm_rulelaws.proofs.Runs.{Run}
+use Rattle.dm_places.specs.Placed.{Placed, Mirrors}
+use Rattle.dm_mirror.specs.Own.{AllOwnStand}
+use Rattle.dm_mirror.specs.Stands.{AreMessages, KnownStands, KernelStands}
+use Rattle.dm_mirror.specs.Tokens.{AllRecords, TokensStand}
+
+-- messages by name
+pub times_self : (i : MsgId) (is : List MsgId) → 1 ≤ times i (i ∷ is)
+times_self i is = let e : times i (i ∷ is) ≡ 1 + times i is = ap (λ (c : Bool). (if c then 1 else 0) + times i is) (id_eq-same i) in omega (arith, e)
+
+pub times_more : (i j : MsgId) (is : List MsgId) → times i is ≤ times i (j ∷ is)
+times_more i j is = omega arith
+
+pub map_same : (f g : MsgId → Option Message) (ids : List MsgId) → ((j : MsgId) → 1 ≤ times j ids → g j ≡ f j) → map g ids ≡ map f ids
+map_same f g [] same = refl
+map_same f g (j ∷ js) same =
+    let first : g j ≡ f j = same j (times_self j js) in
+    let rest : map g js ≡ map f js = map_same f g js (λ n least. same n (let more = times_more n j js in omega (arith, least, more))) in
+    λ i. first i ∷ rest i
+
+-- what is known of a process that stays
+pub known_on : (pt next : Point) (l placed : Placed) (p : Pid) (queue held : List MsgId) (k : Known) (r : Option machine.Known) → placed.processes p ≡ l.processes p → next.kernel.processes p ≡ pt.kernel.processes p
+    → ((j : MsgId) → 1 ≤ times j queue → placed.bag j ≡ l.bag j) → ((j : MsgId) → 1 ≤ times j held → placed.bag j ≡ l.bag j) → KnownStands pt l p queue held k r → KnownStands next placed p queue held k r
+known_on pt next l placed p queue held Unknown None same life bag back h = tt
+known_on pt next l placed p queue held Here (Some (record_.Here x)) same life bag back h = ((h.0.0, same ∙ h.0.1), map_same l.bag placed.bag queue bag ∙ h.1)
+known_on pt next l placed p queue held (Frozen to) (Some (record_.Frozen d)) same life bag back h = record {
+  to = h.to;
+  asker = h.asker;
+  here = ((h.here.0.0, same ∙ h.here.0.1), map_same l.bag placed.bag queue bag ∙ h.here.1);
+  held = map_same l.bag placed.bag held back ∙ h.held;
+  whole = h.whole;
+}
+known_on pt next l placed p queue held (Incoming from) (Some (record_.Incoming a)) same life bag back h = record {
+  process = h.process;
+  there = same ∙ h.there;
+  whole = h.whole;
+  pieces = h.pieces;
+  held = map_same l.bag placed.bag held back ∙ h.held;
+}
+known_on pt next l placed p queue held (Forward at moves) (Some (record_.Forward to count)) same life bag back h = h
+known_on pt next l placed p queue held Ended (Some (record_.Ended y)) same life bag back h = ap kernel.ended life ∙ h
+known_on pt next l placed p queue held k r same life bag back h = absurd h
+
+-- a message that stands somewhere stands there once, and nowhere else
+outside_once : (c : Bool) (f : Spot → ℕ) (x : Spot) → StandsOutside c f → 1 ≤ f x → StandsOnce f
+outside_once true f x h least = elim h [
+  | inl none ↦ absurd (let z : f x ≡ 0 = none x in omega (arith, least, z))
+  | inr once ↦ once
+]
+outside_once false f x h least = absurd (let z : f x ≡ 0 = h x in omega (arith, least, z))
+
+right_once : (i : MsgId) (o : Option PlainMessage) (f : Spot → ℕ) (x : Spot) → StandsRight i o f → 1 ≤ f x → StandsOnce f
+right_once i None f x h least = outside_once (is_kernels i) f x h least
+right_once i (Some m) f x h least = h
+
+pub stands_once : (b : Boot) (pt : Point) (i : MsgId) (x : Spot) → Run b pt → 1 ≤ standing pt.view i x → (standing pt.view i x ≡ 1) × ((y : Spot) → y ≢ x → standing pt.view i y ≡ 0)
+stands_once b pt i x run least =
+    once_at (standing pt.view i) x (right_once i (pt.kernel.bag i) (standing pt.view i) x (stands_right pt i run.based.phased.state (pt.kernel.bag i) refl) least) least
+
+-- machine m has message y at its front, and was told so
+pub record Fronts (b : Boot) (m : ℕ) (pt : Point) (l : Placed) (records : AllRecords) (k : KernelState) (y : Message) : Type 0 where
+  pub below : m < pt.kernel.machines
+  pub run : Run b pt
+  pub own_told : OwnTold pt
+  pub mirrors : Mirrors pt.kernel pt.view pt.addresses l
+  pub stands : KernelStands b pt l m k
+  pub own : AllOwnStand pt.view l
+  pub tokens : TokensStand pt.view l records
+  pub mine : records m ≡ k.records
+  -- the kernel has counted its own messages as the lines have
+  pub counted : k.sent ≡ pt.view.count m
+  pub there : l.bag y.id ≡ Some y
+  -- the messages behind it
+  pub ids : List MsgId
+  pub box : pt.view.inbox m ≡ y.id ∷ ids
+  pub rest : List Message
+  pub inbox : k.inbox ≡ y ∷ rest
+  pub others : AreMessages l.bag ids rest
+  pub told : Told
+  pub told_is : pt.view.told y.id ≡ Some told
+  pub kind : told.kind ≡ kind_of y.what
+  pub receiver : told.receiver ≡ y.to.pid
+
+pub at_front : (b : Boot) (m : ℕ) (pt : Point) (l : Placed) (records : AllRecords) (k : KernelState) (y : Message) (c : Fronts b m pt l records k y) → 1 ≤ standing pt.view y.id (Inbox m)
+at_front b m pt l records k y c = subst (λ (z : List MsgId). 1 ≤ times y.id z) (sym c.box) (times_self y.id c.ids)
+
+not_it : (i j : MsgId) (f : MsgId → ℕ) → f i ≡ 0 → 1 ≤ f j → id_eq i j ≡ false
+not_it i j f none least = elim (cases_Bool (id_eq i j)) [
+  | inl same ↦ absurd (let e : f i ≡ f j = ap f (id_eq-is i j same) in omega (arith, none, least, e))
+  | inr off ↦ off
+]
+
+pub apart_at : (b : Boot) (m : ℕ) (pt : Point) (l : Placed) (records : AllRecords) (k : KernelState) (y : Message) (c : Fronts b m pt l records k y) (s : Spot) (j : MsgId) → s ≢ Inbox m → 1 ≤ standing pt.view j s → id_eq y.id j ≡ false
+apart_at b m pt l records k y c s j off least =
+    not_it y.id j (λ (i : MsgId). standing pt.view i s) ((stands_once b pt y.id (Inbox m) c.run (at_front b m pt l records k y c)).1 s off) least
+
+pub apart_behind : (b : Boot) (m : ℕ) (pt : Point) (l : Placed) (records : AllRecords) (k : KernelState) (y : Message) (c : Fronts b m pt l records k y) (j : MsgId) → 1 ≤ times j c.ids → id_eq y.id j ≡ false
+apart_behind b m pt l records k y c j least =
+    let one : standing pt.view y.id (Inbox m) ≡ 1 = (stands_once b pt y.id (Inbox m) c.run (at_front b m pt l records k y c)).0 in
+    let is : times y.id (y.id ∷ c.ids) ≡ 1 = ap (times y.id) (sym c.box) ∙ one in
+    let self : times y.id (y.id ∷ c.ids) ≡ 1 + times y.id c.ids = ap (λ (d : Bool). (if d then 1 else 0) + times y.id c.ids) (id_eq-same y.id) in
+    not_it y.id j (λ (i : MsgId). times i c.ids) (omega (arith, is, self)) least
+
+-- spots that aren't this inbox
+pub is_inbox : Spot → Bool
+is_inbox (Inbox m) = true
+is_inbox (Queue m p) = false
+is_inbox (Held m p) = false
+is_inbox (Untaken a b) = false
+
+pub queue_apart : (m n : ℕ) (p : Pid) → Queue n p ≢ Inbox m
+unfolding is_inbox
+queue_apart m n p e = false≢true (ap is_inbox e)
+
+pub held_apart : (m n : ℕ) (p : Pid) → Held n p ≢ Inbox m
+unfolding is_inbox
+held_apart m n p e = false≢true (ap is_inbox e)
+
+-- the inbox behind its front
+pub front_gone : (i : MsgId) (is xs : List MsgId) → xs ≡ i ∷ is → without_front i xs ≡ is
+front_gone i is xs e = ap (without_front i) e ∙ ap (λ (c : Bool). if c then is else i ∷ is) (id_eq-same i)
+
+-- what machine m has, at m and elsewhere
+pub eq_off : (m n : ℕ) → n ≢ m → (m == n) ≡ false
+eq_off m n apart = elim (cases_Bool (m == n)) [
+  | inl same ↦ absurd (apart (let e : n ≡ m = grind (arith, nat_tests) in e))
+  | inr off ↦ off
+]
+
+pub eq_self : (m : ℕ) → (m == m) ≡ true
+eq_self m = grind (arith, nat_tests)
+
+pub machine_self : {X : Type 0} (f : ℕ → X) (m : ℕ) (x : X) → at_machine f m x m ≡ x
+machine_self f m x = ap (λ (c : Bool). if c then x else f m) (eq_self m)
+
+pub machine_off : {X : Type 0} (f : ℕ → X) (m n : ℕ) (x : X) → n ≢ m → at_machine f m x n ≡ f n
+machine_off f m n x apart = ap (λ (c : Bool). if c then x else f n) (eq_off m n apart)

@@ -1,0 +1,127 @@
+-- A user message for a process that is here: it is queued.
+use Rattle.std.proofs.Common.{◌≡◌, ℕ, Bool, List, [], ◌∷◌, ◌++◌, map, refl, ap, ◌∙◌, sym}
+use Rattle.std.specs.Prelude.{if◌then◌else◌}
+use Rattle.std.specs.declared.option.Option.{Option}
+use Rattle.std.specs.declared.option.Option.TheVariants.{None, Some}
+use Rattle.std.proofs.lemmas.Bool.{false≢true}
+use Rattle.dm_link.specs.declared.Pid.{Pid}
+use Rattle.dm_link.specs.Plain.{PlainLink}
+use Rattle.dm_message.specs.declared.MsgId.{MsgId}
+use Rattle.dm_message.specs.declared.Message.{Message}
+use Rattle.dm_message.specs.Plain as said
+use Rattle.dm_records.specs.declared.record.Record.TheVariants as record_
+use Rattle.dm_onekernel.specs.declared.boot.Boot.{Boot}
+use Rattle.dm_laws.proofs.Equal.{pid_eq-same}
+use Rattle.dm_line.specs.declared.line.Line.TheVariants as line
+use Rattle.dm_rule.specs.Parts.{Says}
+use Rattle.dm_rule.specs.Point.{Point}
+use Rattle.dm_rule.specs.Rule.{Room}
+use Rattle.dm_line.specs.Sets.{at_record, without_front}
+use Rattle.dm_rule.specs.View as view
+use Rattle.dm_rule.specs.View.{Known, View, handled}
+use Rattle.dm_rulelaws.proofs.Goes.Front.{begun, told_receiver}
+use Rattle.dm_places.specs.Placed.{Placed}
+use Rattle.dm_places.proofs.Lines.{mirrors_view}
+use Rattle.dm_places.proofs.Serves.{plainly}
+use Rattle.dm_places.proofs.Whats.{user_what}
+use Rattle.dm_kernel.specs.declared.part.Part.TheVariants as part
+use Rattle.dm_kernel.specs.Handle.{here_handles, queued}
+use Rattle.dm_kernel.specs.State.{KernelState, turned, with_here}
+use Rattle.dm_mirror.specs.Stands.{AreMessages}
+use Rattle.dm_mirror.proofs.Handle.Frames.{machine_off, machine_self, record_off, record_others, record_self, stands_set}
+use Rattle.dm_mirror.proofs.Handle.Here.{IsHere, here_known, here_outcome, here_turn}
+use Rattle.dm_mirror.proofs.Handle.Receivers.{not_server}
+use Rattle.dm_mirror.proofs.Handle.Rows.{Moves, here_left, front_gone}
+use Rattle.dm_mirror.proofs.Handle.Taking.{Taking, outcome_is, turn_is}
+use Rattle.dm_mirror.proofs.Rooms.{taken_same}
+use Rattle.dm_mirror.proofs.Turning.{Row}
+
+-- one more message
+pub last_message : (bag : MsgId → Option Message) (ids : List MsgId) (ms : List Message) (i : MsgId) (y : Message) → AreMessages bag ids ms → bag i ≡ Some y → AreMessages bag (ids ++ i ∷ []) (ms ++ y ∷ [])
+last_message bag [] [] i y h e = ap (λ (o : Option Message). o ∷ []) e
+last_message bag (j ∷ js) (z ∷ zs) i y h e =
+    let first : bag j ≡ Some z = cc in
+    let rest : map bag js ≡ map Some zs = cc in
+    let more = last_message bag js zs i y rest e in
+    λ n. first n ∷ more n
+last_message bag [] (z ∷ zs) i y h e = cc
+last_message bag (j ∷ js) [] i y h e = cc
+
+-- the view's queue
+pub told_is : (b : Boot) (m : ℕ) (pt : Point) (l : Placed) (k : KernelState) (y : Message) (w : said.PlainWhat) (c : Taking b m pt l k y w) → view.receiver_of (pt.view.told y.id) ≡ Some y.to.pid
+told_is b m pt l k y w c = ap view.receiver_of c.front.told_is ∙ ap Some (told_receiver b m pt y.id (plainly y w) c.front)
+
+pub user_row : (b : Boot) (m : ℕ) (pt : Point) (l : Placed) (k : KernelState) (y : Message) (code channel : ℕ) (bytes : List ℕ) (ls : List PlainLink) (c : Taking b m pt l k y (said.User code channel bytes ls)) → IsHere b m pt l k y.to.pid → Row b m pt l k
+user_row b m pt l k y code channel bytes ls c h =
+    let w = said.User code channel bytes ls in
+    let p = y.to.pid in
+    let i = y.id in
+    let v = handled (begun pt m).view i in
+    let u : View = view.queued_for v i (Some p) in
+    let next : Point = record { kernel = pt.kernel; view = u; addresses = pt.addresses } in
+    let k0 = record k { inbox = c.rest } in
+    let is = (user_what y.what code channel bytes ls c.says).is in
+    let z = queued h.x y in
+    let xs = pt.view.queue m p ++ i ∷ [] in
+    let taken = taken_same pt next m refl (λ n. refl) (λ q. refl) in
+    record {
+      state = with_here k0 p z;
+      says = line.Queued i ∷ [];
+      route = None;
+      turn = turn_is b m pt l k y w c (turned (with_here k0 p z) (part.Says (line.Queued i) ∷ [])) (here_turn b m pt l k y w c h (turned (with_here k0 p z) (part.Says (line.Queued i) ∷ [])) (ap (here_handles k0 y h.x) is));
+      outcome = outcome_is b m pt l k y w c (Some (Says (line.Queued i) ∷ [])) (here_outcome b m pt l k y w h (Some (Says (line.Queued i) ∷ [])) refl);
+      next = next;
+      after = ap (λ (o : Option Pid). Some (record { kernel = pt.kernel; view = view.queued_for v i o; addresses = pt.addresses })) (told_is b m pt l k y w c);
+      placed = l;
+      mirrors = mirrors_view pt.kernel pt.view u pt.addresses l refl c.mirrors;
+      kernel = stands_set b pt next l l m k (with_here k0 p z) p
+          (record {
+            here = refl;
+            records = λ q off. ap (λ (d : Bool). if d then Some (record_.Here z) else k.records q) off;
+            queue = λ q off. record_others pt.view.queue m p q xs off;
+            held = λ q off. refl;
+            known = λ q off. refl;
+            processes = λ q off. refl;
+            lives = λ q off. refl;
+            bag = λ q j off least. refl;
+            holds = λ q j off least. refl;
+            mine = λ off. here_known next l p (at_record pt.view.queue m p xs m p) (pt.view.held m p) z h.queue ((with_here k0 p z).records p) (pt.view.known m p) (ap (λ (d : Bool). if d then Some (record_.Here z) else k.records p) (pid_eq-same p)) h.known h.placed
+                (ap (map l.bag) (record_self pt.view.queue m p xs (pid_eq-same p)) ∙ last_message l.bag (pt.view.queue m p) h.x.queue i y h.waits c.there);
+            keeps = λ server. absurd (false≢true (sym (not_server p h.process) ∙ server));
+          }) c.stands
+          c.stands.ring
+          (ap (map l.bag) (machine_self pt.view.inbox m (without_front i (pt.view.inbox m)) ∙ front_gone i c.ids (pt.view.inbox m) c.box) ∙ c.others)
+          c.stands.made
+          (record {
+            slots = c.stands.room.slots;
+            blocks = c.stands.room.blocks;
+            taken_slots = c.stands.room.taken_slots ∙ ap (λ (r : Room). r.slots) (sym taken);
+            taken_blocks = c.stands.room.taken_blocks ∙ ap (λ (r : Room). r.blocks) (sym taken);
+          }) c.stands.servers;
+      elsewhere = record {
+        acting = refl;
+        groups = refl;
+        pair = λ a d. refl;
+        inbox = λ n off. machine_off pt.view.inbox m n (without_front i (pt.view.inbox m)) off;
+        ring = λ n off. refl;
+        known = λ n q off. refl;
+        queue = λ n q off. record_off pt.view.queue m n p q xs off;
+        held = λ n q off. refl;
+        count = λ n. refl;
+        told = refl;
+        machines = refl;
+        made = λ n off. refl;
+        process = λ n q off has. refl;
+        ended = λ n q off over. refl;
+        life = λ n q off has. refl;
+        bag = λ j s off least. refl;
+        board = λ off. refl;
+        manager = λ off. refl;
+      };
+      sent = tt;
+      still = refl;
+      count = refl;
+      moving = λ q is. (refl, ap (λ (d : Bool). if d then Some (record_.Here z) else k.records q) (here_left pt m p q c.run.based.phased.phases h.known (Moves is)));
+      own = λ j a none there. there;
+      own_back = λ j a none there. there;
+    }

@@ -1,0 +1,308 @@
+-- A row of a turn that says one label, by which one process may go on, and sends at most one message.
+use Rattle.std.proofs.Common.{◌≡◌, ◌≢◌, ℕ, ◌≤◌, ◌==◌, Bool, true, false, not, List, [], ◌∷◌, map, refl, ap, ◌∙◌, sym, subst, inl, inr, is_some, arith}
+use Rattle.std.specs.Prelude.{if◌then◌else◌}
+use Rattle.std.specs.declared.option.Option.{Option}
+use Rattle.std.specs.declared.option.Option.TheVariants.{None, Some}
+use Rattle.std.proofs.lemmas.Bool.{cases_Bool, false≢true}
+use Rattle.dm_link.specs.declared.Pid.{Pid}
+use Rattle.dm_link.specs.Names.{pid_eq}
+use Rattle.dm_message.specs.declared.MsgId.{MsgId}
+use Rattle.dm_message.specs.declared.Message.{Message}
+use Rattle.dm_message.specs.Ids.{id_eq}
+use Rattle.dm_message.specs.Plain.{PlainWhat, plain_message}
+use Rattle.dm_onekernel.specs.declared.boot.Boot.{Boot}
+use Rattle.dm_onekernel.specs.declared.label.Label.{Label}
+use Rattle.dm_onekernel.specs.Kernel.{Life, OneKernel}
+use Rattle.dm_onekernel.specs.Options.{bind}
+use Rattle.dm_onekernel.specs.Step as kernel
+use Rattle.dm_laws.proofs.Equal.{id_eq-is, pid_eq-is}
+use Rattle.dm_line.specs.declared.line.Line.TheVariants as line
+use Rattle.dm_rule.specs.Addresses.{addresses_after}
+use Rattle.dm_rule.specs.Point.{Point, after, moved}
+use Rattle.dm_rule.specs.Rule as rule
+use Rattle.dm_room.specs.Room.{Taken}
+use Rattle.dm_rule.specs.Rule.{Room, blocks_of, taken_at, taken_by, takes_room}
+use Rattle.dm_line.specs.Sets.{without_front}
+use Rattle.dm_rule.specs.Spots.{Spot, Queue, Held, Inbox, Untaken, times, standing}
+use Rattle.dm_rule.specs.View.{View, Known, Unknown, Here, Frozen, Incoming, Forward, Ended, after_label, handled, is_kernels}
+use Rattle.dm_rule.specs.Phases.{Phase, Rests, is_away, is_here, knows}
+use Rattle.dm_rule.proofs.Phases.Rests.{rests_here}
+use Rattle.dm_rule.proofs.Phases.Stand.{InPhases}
+use Rattle.dm_rulelaws.specs.Fits.{is_server}
+use Rattle.dm_rulelaws.proofs.Goes.Front.{begun}
+use Rattle.dm_places.specs.Laws.{StepNeeds}
+use Rattle.dm_places.specs.Placed.{Placed, Mirrors}
+use Rattle.dm_places.specs.PlacedStep.{placed_step, with_sent, without_message}
+use Rattle.dm_places.proofs.Lines.{mirrors_view, moves_label}
+use Rattle.dm_places.proofs.Serves.{plainly}
+use Rattle.dm_places.proofs.Steps.{placed_follows}
+use Rattle.dm_kernel.specs.Handle.{handles}
+use Rattle.dm_kernel.specs.State as machine
+use Rattle.dm_kernel.specs.State.{KernelState}
+use Rattle.dm_laws.proofs.Equal.{id_eq-same}
+use Rattle.dm_mirror.specs.Stands.{KnownStands, servers_at}
+use Rattle.dm_mirror.proofs.Handle.Frames.{times_more, map_same, stands_set, eq_off, eq_self, machine_self, machine_off}
+use Rattle.dm_mirror.proofs.Handle.Taking.{Taking, turn_is, outcome_is, plainly_says, sane_of, apart_at, apart_behind, fresh_at, sent_other, bag_kept, queue_apart, held_apart, sent_there}
+use Rattle.dm_mirror.proofs.Rooms.{taken_same}
+use Rattle.dm_mirror.proofs.Turning.{is_elsewhere, has_process, is_moving, routed, rule_routed, IsSent, Row}
+
+-- where the head of the turn, a label and another view lead
+abbrev pub seen_point : Point → ℕ → Label → OneKernel → View → Point
+seen_point pt m e s v = record { kernel = s; view = v; addresses = addresses_after pt.kernel (begun pt m).view pt.addresses (line.Label e) }
+
+-- the message is handled
+abbrev pub handled_point : Point → ℕ → MsgId → Label → OneKernel → Point
+handled_point pt m i e s = seen_point pt m e s (handled (begun pt m).view i)
+
+pub after_one : (pt : Point) (m : ℕ) (e : Label) (s : OneKernel) (v : View) → kernel.step pt.kernel e ≡ Some s → after_label (begun pt m).view e ≡ v → after (begun pt m) (line.Label e ∷ []) ≡ Some (seen_point pt m e s v)
+after_one pt m e s v step is =
+    ap (λ (o : Option OneKernel). bind (bind o (λ (z : OneKernel). Some (moved (begun pt m) (line.Label e) z))) (λ (n : Point). after n [])) step ∙ ap (λ (u : View). Some (seen_point pt m e s u)) is
+
+pub mirrors_one : (pt : Point) (m : ℕ) (e : Label) (s : OneKernel) (v : View) (l placed : Placed) → kernel.step pt.kernel e ≡ Some s → after_label (begun pt m).view e ≡ v → StepNeeds pt.kernel (begun pt m).view e
+    → placed_step m pt.kernel.format pt.kernel.images l e ≡ Some placed → Mirrors pt.kernel pt.view pt.addresses l → Mirrors s v (addresses_after pt.kernel (begun pt m).view pt.addresses (line.Label e)) placed
+mirrors_one pt m e s v l placed step is needs placed_is h =
+    let start = mirrors_view pt.kernel pt.view (begun pt m).view pt.addresses l refl h in
+    let (on, found, mirrors) = placed_follows pt.kernel s (begun pt m).view pt.addresses l m e start refl needs step in
+    let same : on ≡ placed = let f : Some on ≡ Some placed = sym found ∙ placed_is in cc in
+    let a = addresses_after pt.kernel (begun pt m).view pt.addresses (line.Label e) in
+    subst (Mirrors s v a) same (mirrors_view s (begun pt m).view v a on (ap (λ (u : View). u.moves) (sym is) ∙ moves_label (begun pt m).view e) mirrors)
+
+-- the head of a turn moves no message
+pub standing_begun : (pt : Point) (m : ℕ) (i : MsgId) (s : Spot) → standing (begun pt m).view i s ≡ standing pt.view i s
+standing_begun pt m i (Queue n p) = refl
+standing_begun pt m i (Held n p) = refl
+standing_begun pt m i (Inbox n) = refl
+standing_begun pt m i (Untaken a c) = refl
+
+pub elsewhere_apart : (m : ℕ) (s : Spot) → is_elsewhere m s ≡ true → s ≢ Inbox m
+elsewhere_apart m s is e = false≢true (sym (ap not (eq_self m)) ∙ ap (is_elsewhere m) (sym e) ∙ is)
+
+-- a process that a turn on machine m leaves as it is: another machine has it, holds it back, expects it or saw it end, or it leaves
+-- or comes on machine m
+pub data IsLeft (m : ℕ) (pt : Point) (q : Pid) : Type 0 where
+  Elsewhere : (n : ℕ) → (apart : n ≢ m) → (has : has_process (pt.view.known n q) ≡ true) → IsLeft m pt q
+  Over : (n : ℕ) → (apart : n ≢ m) → (ended : pt.view.known n q ≡ Ended) → IsLeft m pt q
+  Moves : (moving : is_moving (pt.view.known m q) ≡ true) → IsLeft m pt q
+
+has_none : (k : Known) → is_away k ≡ true → has_process k ≡ true → ⊥
+has_none Unknown away has = false≢true has
+has_none Here away has = false≢true away
+has_none (Frozen to) away has = false≢true away
+has_none (Incoming from) away has = false≢true away
+has_none (Forward at moves) away has = false≢true has
+has_none Ended away has = false≢true has
+
+-- a process that is here is known nowhere else
+away_elsewhere : (pt : Point) (m n : ℕ) (p : Pid) → InPhases pt.view → pt.view.known m p ≡ Here → n ≢ m → is_away (pt.view.known n p) ≡ true
+away_elsewhere pt m n p h here apart =
+    let phase = h.of p in
+    let known = (h.each p).known in
+    let rests : phase ≡ Rests m = rests_here phase m (sym (ap (knows phase m) here) ∙ known m) in
+    let there : knows (Rests m) n (pt.view.known n p) ≡ true = sym (ap (λ (f : Phase). knows f n (pt.view.known n p)) rests) ∙ known n in
+    sym (ap (λ (c : Bool). if c then is_here (pt.view.known n p) else is_away (pt.view.known n p)) (eq_off m n apart)) ∙ there
+
+here_not : (pt : Point) (m : ℕ) (p : Pid) → InPhases pt.view → pt.view.known m p ≡ Here → IsLeft m pt p → ⊥
+here_not pt m p h here (Elsewhere n apart has) = has_none (pt.view.known n p) (away_elsewhere pt m n p h here apart) has
+here_not pt m p h here (Over n apart ended) = false≢true (sym (ap is_away ended) ∙ away_elsewhere pt m n p h here apart)
+here_not pt m p h here (Moves moving) = false≢true (sym (ap is_moving here) ∙ moving)
+
+other_than : (p q : Pid) → (p ≡ q → ⊥) → pid_eq p q ≡ false
+other_than p q off = elim (cases_Bool (pid_eq p q)) [
+  | inl same ↦ absurd (off (pid_eq-is p q same))
+  | inr apart ↦ apart
+]
+
+-- so it is none of these
+pub here_left : (pt : Point) (m : ℕ) (p q : Pid) → InPhases pt.view → pt.view.known m p ≡ Here → IsLeft m pt q → pid_eq p q ≡ false
+here_left pt m p q h here is = other_than p q (λ e. here_not pt m p h here (subst (IsLeft m pt) (sym e) is))
+
+-- nor is a process that nobody knows
+unknown_not : (pt : Point) (m : ℕ) (p : Pid) → ((n : ℕ) → pt.view.known n p ≡ Unknown) → IsLeft m pt p → ⊥
+unknown_not pt m p h (Elsewhere n apart has) = false≢true (sym (ap has_process (h n)) ∙ has)
+unknown_not pt m p h (Over n apart ended) = false≢true (ap is_away (sym ended ∙ h n))
+unknown_not pt m p h (Moves moving) = false≢true (sym (ap is_moving (h m)) ∙ moving)
+
+pub unknown_left : (pt : Point) (m : ℕ) (p q : Pid) → ((n : ℕ) → pt.view.known n p ≡ Unknown) → IsLeft m pt q → pid_eq p q ≡ false
+unknown_left pt m p q h is = other_than p q (λ e. unknown_not pt m p h (subst (IsLeft m pt) (sym e) is))
+
+-- the inbox behind its front
+pub front_gone : (i : MsgId) (is xs : List MsgId) → xs ≡ i ∷ is → without_front i xs ≡ is
+front_gone i is xs e = ap (without_front i) e ∙ ap (λ (c : Bool). if c then is else i ∷ is) (id_eq-same i)
+
+pub record Labelled (b : Boot) (m : ℕ) (pt : Point) (l : Placed) (k : KernelState) (y : Message) (w : PlainWhat) (c : Taking b m pt l k y w) : Type 0 where
+  pub label : Label
+  pub next : OneKernel
+  pub placed : Placed
+  pub state : KernelState
+  pub route : Option Message
+  -- the process that may go on
+  pub process : Pid
+  pub step : kernel.step pt.kernel label ≡ Some next
+  pub view : after_label (begun pt m).view label ≡ handled (begun pt m).view y.id
+  pub needs : StepNeeds pt.kernel (begun pt m).view label
+  pub placed_is : placed_step m pt.kernel.format pt.kernel.images l label ≡ Some placed
+  pub turn : handles b (record k { inbox = c.rest }) y ≡ Some (record { state = state; parts = machine.says label ∷ routed route })
+  pub outcome : rule.handles b pt m y.id (plainly y w) ≡ Some (rule.says label ∷ rule_routed route)
+  -- the kernel without machines
+  pub machines : next.machines ≡ pt.kernel.machines
+  pub made : (n : ℕ) → next.made n ≡ pt.kernel.made n
+  pub lives : (q : Pid) → pid_eq process q ≡ false → next.processes q ≡ pt.kernel.processes q
+  pub blocks : blocks_of (kernel.alive (next.processes process)) ≡ blocks_of (kernel.alive (pt.kernel.processes process))
+  -- the one with places
+  pub processes : (q : Pid) → pid_eq process q ≡ false → placed.processes q ≡ l.processes q
+  pub bag : (j : MsgId) → placed.bag j ≡ (with_sent (without_message l y.id) route).bag j
+  pub board : m ≢ 0 → placed.board ≡ l.board
+  pub manager : m ≢ 0 → placed.manager ≡ l.manager
+  pub fresh : (a : Message) → route ≡ Some a → pt.kernel.bag a.id ≡ None
+  pub plain : (a : Message) → route ≡ Some a → is_some (plain_message a) ≡ true
+  -- the machine's
+  pub here : state.here ≡ k.here
+  pub records : (q : Pid) → pid_eq process q ≡ false → state.records q ≡ k.records q
+  pub ring : state.ring ≡ k.ring
+  pub inbox : state.inbox ≡ c.rest
+  pub count : state.made ≡ k.made
+  pub sent : state.sent ≡ k.sent
+  pub room : state.room ≡ k.room
+  pub servers : state.servers ≡ servers_at placed m
+  pub keeps : is_server process ≡ true → state.records process ≡ k.records process
+  pub mine : is_server process ≡ false → ((j : MsgId) → 1 ≤ times j (pt.view.queue m process) → placed.bag j ≡ l.bag j) → ((j : MsgId) → 1 ≤ times j (pt.view.held m process) → placed.bag j ≡ l.bag j)
+      → KnownStands (handled_point pt m y.id label next) placed process (pt.view.queue m process) (pt.view.held m process) (pt.view.known m process) (state.records process)
+  -- the others stay
+  pub left : (q : Pid) → IsLeft m pt q → (placed.processes q ≡ l.processes q) × (next.processes q ≡ pt.kernel.processes q) × (state.records q ≡ k.records q)
+
+-- a message that stands elsewhere in the bag stays
+pub kept_at : (b : Boot) (m : ℕ) (pt : Point) (l : Placed) (k : KernelState) (y : Message) (w : PlainWhat) (c : Taking b m pt l k y w) (n : Placed) (o : Option Message) → ((j : MsgId) → n.bag j ≡ (with_sent (without_message l y.id) o).bag j)
+    → ((a : Message) → o ≡ Some a → (pt.kernel.bag a.id ≡ None) × (is_kernels a.id ≡ false)) → (s : Spot) (j : MsgId) → s ≢ Inbox m → 1 ≤ standing pt.view j s → n.bag j ≡ l.bag j
+kept_at b m pt l k y w c n o bag fresh s j off least =
+    bag j ∙ bag_kept l y.id o j (apart_at b m pt l k y w c s j off least) (λ a is. fresh_at b pt s a.id j c.run (fresh a is).0 (fresh a is).1 least)
+
+pub kept_behind : (b : Boot) (m : ℕ) (pt : Point) (l : Placed) (k : KernelState) (y : Message) (w : PlainWhat) (c : Taking b m pt l k y w) (n : Placed) (o : Option Message) → ((j : MsgId) → n.bag j ≡ (with_sent (without_message l y.id) o).bag j)
+    → ((a : Message) → o ≡ Some a → (pt.kernel.bag a.id ≡ None) × (is_kernels a.id ≡ false)) → (j : MsgId) → 1 ≤ times j c.ids → n.bag j ≡ l.bag j
+kept_behind b m pt l k y w c n o bag fresh j least =
+    let more = times_more j y.id c.ids in
+    let there : 1 ≤ standing pt.view j (Inbox m) = subst (λ (z : List MsgId). 1 ≤ times j z) (sym c.box) (omega (arith, least, more)) in
+    bag j ∙ bag_kept l y.id o j (apart_behind b m pt l k y w c j least) (λ a is. fresh_at b pt (Inbox m) a.id j c.run (fresh a is).0 (fresh a is).1 there)
+
+-- kernels' own messages stay
+pub own_kept : (b : Boot) (m : ℕ) (pt : Point) (l : Placed) (k : KernelState) (y : Message) (w : PlainWhat) (c : Taking b m pt l k y w) (n : Placed) (o : Option Message) → ((j : MsgId) → n.bag j ≡ (with_sent (without_message l y.id) o).bag j)
+    → ((a : Message) → o ≡ Some a → is_kernels a.id ≡ false) → (j : MsgId) (x : Message) → plain_message x ≡ None → l.bag j ≡ Some x → n.bag j ≡ Some x
+own_kept b m pt l k y w c n o bag other j x none there =
+    let front : id_eq y.id j ≡ false = apart (id_eq y.id j) refl in
+    bag j ∙ bag_kept l y.id o j front (λ a is. sent_apart a is (id_eq a.id j) refl) ∙ there
+  where
+    apart : (d : Bool) → id_eq y.id j ≡ d → d ≡ false
+    apart false e = refl
+    apart true e =
+        let same : l.bag y.id ≡ l.bag j = ap l.bag (id_eq-is y.id j e) in
+        let f : Some y ≡ Some x = sym c.there ∙ same ∙ there in
+        let g : y ≡ x = cc in
+        let z : Some (plainly y w) ≡ None = sym (plainly_says b m pt l k y w c) ∙ ap plain_message g ∙ none in
+        cc
+
+    sent_apart : (a : Message) → o ≡ Some a → (d : Bool) → id_eq a.id j ≡ d → d ≡ false
+    sent_apart a is false e = refl
+    sent_apart a is true e = absurd (false≢true (sym (other a is) ∙ ap is_kernels (id_eq-is a.id j e) ∙ (c.own j x there none).mine))
+
+-- what was in the bag without a message, or with another one
+pub out_back : (d : Bool) (o : Option Message) (x : Message) → (if d then None else o) ≡ Some x → o ≡ Some x
+out_back true o x e = cc
+out_back false o x e = e
+
+put_back : (d : Bool) (a : Message) (o : Option Message) (x : Message) → is_some (plain_message a) ≡ true → plain_message x ≡ None → (if d then Some a else o) ≡ Some x → o ≡ Some x
+put_back true a o x plain none e = absurd (let f : a ≡ x = cc in false≢true (sym (ap is_some (ap plain_message f ∙ none)) ∙ plain))
+put_back false a o x plain none e = e
+
+own_at : (l : Placed) (i : MsgId) (o : Option Message) (j : MsgId) (x : Message) → ((a : Message) → o ≡ Some a → is_some (plain_message a) ≡ true) → plain_message x ≡ None → (with_sent (without_message l i) o).bag j ≡ Some x → l.bag j ≡ Some x
+own_at l i None j x plain none there = out_back (id_eq i j) (l.bag j) x there
+own_at l i (Some a) j x plain none there = out_back (id_eq i j) (l.bag j) x (put_back (id_eq a.id j) a (if id_eq i j then None else l.bag j) x (plain a refl) none there)
+
+pub own_back : (l n : Placed) (i : MsgId) (o : Option Message) → ((j : MsgId) → n.bag j ≡ (with_sent (without_message l i) o).bag j) → ((a : Message) → o ≡ Some a → is_some (plain_message a) ≡ true)
+    → (j : MsgId) (x : Message) → plain_message x ≡ None → n.bag j ≡ Some x → l.bag j ≡ Some x
+own_back l n i o bag plain j x none there = own_at l i o j x plain none (sym (bag j) ∙ there)
+
+-- what the processes take of the room stays
+same_taken : (b : Boot) (m : ℕ) (pt : Point) (l : Placed) (k : KernelState) (y : Message) (w : PlainWhat) (c : Taking b m pt l k y w) (h : Labelled b m pt l k y w c) (q : Pid) → taken_by (handled_point pt m y.id h.label h.next) m q ≡ taken_by pt m q
+same_taken b m pt l k y w c h q =
+    let same : blocks_of (kernel.alive (h.next.processes q)) ≡ blocks_of (kernel.alive (pt.kernel.processes q)) = elim (cases_Bool (pid_eq h.process q)) [
+      | inl is ↦ subst (λ (p : Pid). blocks_of (kernel.alive (h.next.processes p)) ≡ blocks_of (kernel.alive (pt.kernel.processes p))) (pid_eq-is h.process q is) h.blocks
+      | inr off ↦ ap (λ (o : Option Life). blocks_of (kernel.alive o)) (h.lives q off)
+    ] in
+    ap (λ (n : ℕ). record { slots = takes_room (pt.view.known m q); blocks = if takes_room (pt.view.known m q) == 0 then 0 else n }) same
+
+pub turns_row : (b : Boot) (m : ℕ) (pt : Point) (l : Placed) (k : KernelState) (y : Message) (w : PlainWhat) (c : Taking b m pt l k y w) → Labelled b m pt l k y w c → Row b m pt l k
+turns_row b m pt l k y w c h =
+    let v = handled (begun pt m).view y.id in
+    let next = handled_point pt m y.id h.label h.next in
+    let stands = c.stands in
+    let taken = taken_same pt next m h.machines h.made (same_taken b m pt l k y w c h) in
+    let mirrors = mirrors_one pt m h.label h.next v l h.placed h.step h.view h.needs h.placed_is c.mirrors in
+    let sent = sent_at h.placed l y.id h.route h.bag h.plain in
+    let other : (a : Message) → h.route ≡ Some a → is_kernels a.id ≡ false = λ a is. sent_other pt h.label h.next h.placed a h.step mirrors.plain (subst (IsSent h.placed) is sent).0 (h.plain a is) (sane_of b m pt l k y w c) in
+    let fresh : (a : Message) → h.route ≡ Some a → (pt.kernel.bag a.id ≡ None) × (is_kernels a.id ≡ false) = λ a is. (h.fresh a is, other a is) in
+    let kept : (s : Spot) (j : MsgId) → s ≢ Inbox m → 1 ≤ standing pt.view j s → h.placed.bag j ≡ l.bag j = kept_at b m pt l k y w c h.placed h.route h.bag fresh in
+    let behind : (j : MsgId) → 1 ≤ times j c.ids → h.placed.bag j ≡ l.bag j = kept_behind b m pt l k y w c h.placed h.route h.bag fresh in
+    record {
+      state = h.state;
+      says = line.Label h.label ∷ [];
+      route = h.route;
+      turn = turn_is b m pt l k y w c (Some (record { state = h.state; parts = machine.says h.label ∷ routed h.route })) h.turn;
+      outcome = outcome_is b m pt l k y w c (Some (rule.says h.label ∷ rule_routed h.route)) h.outcome;
+      next = next;
+      after = after_one pt m h.label h.next v h.step h.view;
+      placed = h.placed;
+      mirrors = mirrors;
+      kernel = stands_set b pt next l h.placed m k h.state h.process
+          (record {
+            here = h.here;
+            records = h.records;
+            queue = λ q e. refl;
+            held = λ q e. refl;
+            known = λ q e. refl;
+            processes = h.processes;
+            lives = h.lives;
+            bag = λ q j e least. kept (Queue m q) j (queue_apart m m q) least;
+            holds = λ q j e least. kept (Held m q) j (held_apart m m q) least;
+            mine = λ off. h.mine off (λ j least. kept (Queue m h.process) j (queue_apart m m h.process) least) (λ j least. kept (Held m h.process) j (held_apart m m h.process) least);
+            keeps = h.keeps;
+          }) stands
+          (h.ring ∙ stands.ring)
+          (ap (map h.placed.bag) (machine_self pt.view.inbox m (without_front y.id (pt.view.inbox m)) ∙ front_gone y.id c.ids (pt.view.inbox m) c.box)
+          ∙ map_same l.bag h.placed.bag c.ids behind ∙ c.others ∙ ap (map Some) (sym h.inbox))
+          (h.count ∙ stands.made ∙ sym (h.made m))
+          (record {
+            slots = ap (λ (t : Taken). t.slots) h.room ∙ stands.room.slots;
+            blocks = ap (λ (t : Taken). t.blocks) h.room ∙ stands.room.blocks;
+            taken_slots = ap (λ (t : Taken). t.taken_slots) h.room ∙ stands.room.taken_slots ∙ ap (λ (r : Room). r.slots) (sym taken);
+            taken_blocks = ap (λ (t : Taken). t.taken_blocks) h.room ∙ stands.room.taken_blocks ∙ ap (λ (r : Room). r.blocks) (sym taken);
+          }) h.servers;
+      elsewhere = record {
+        acting = refl;
+        groups = refl;
+        pair = λ a d. refl;
+        inbox = λ n off. machine_off pt.view.inbox m n (without_front y.id (pt.view.inbox m)) off;
+        ring = λ n off. refl;
+        known = λ n p off. refl;
+        queue = λ n p off. refl;
+        held = λ n p off. refl;
+        count = λ n. refl;
+        told = refl;
+        machines = h.machines;
+        made = λ n off. h.made n;
+        process = λ n q off has. (h.left q (Elsewhere n off has)).0;
+        ended = λ n q off over. (h.left q (Over n off over)).1;
+        life = λ n q off has. (h.left q (Elsewhere n off has)).1;
+        bag = λ i s is least. kept s i (elsewhere_apart m s is) (subst (λ (n : ℕ). 1 ≤ n) (standing_begun pt m i s) least);
+        board = h.board;
+        manager = h.manager;
+      };
+      sent = sent;
+      still = refl;
+      count = h.sent;
+      moving = λ q is. let stays = h.left q (Moves is) in (stays.0, stays.2);
+      own = own_kept b m pt l k y w c h.placed h.route h.bag other;
+      own_back = own_back l h.placed y.id h.route h.bag h.plain;
+    }
+  where
+    sent_at : (n l : Placed) (i : MsgId) (o : Option Message) → ((j : MsgId) → n.bag j ≡ (with_sent (without_message l i) o).bag j) → ((a : Message) → o ≡ Some a → is_some (plain_message a) ≡ true) → IsSent n o
+    sent_at n l i None same plain = tt
+    sent_at n l i (Some a) same plain = (same a.id ∙ sent_there (without_message l i) a, plain a refl)

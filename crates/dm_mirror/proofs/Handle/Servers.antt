@@ -1,0 +1,320 @@
+-- Messages that a server takes, and what it sends.
+use Rattle.std.proofs.Common.{◌≡◌, ℕ, ◌+◌, ◌==◌, ◌||◌, Bool, true, false, List, [], ◌∷◌, ◌++◌, length, refl, ap, ◌∙◌, sym, subst, is_some, nat_lt, arith}
+use Rattle.std.specs.Prelude.{if◌then◌else◌, option_map}
+use Rattle.std.specs.declared.option.Option.{Option}
+use Rattle.std.specs.declared.option.Option.TheVariants.{None, Some}
+use Rattle.std.proofs.lemmas.Bool.{false≢true}
+use Rattle.std.proofs.lemmas.Bool.Decides.{nat_tests}
+use Rattle.dm_link.specs.declared.Pid.{Pid}
+use Rattle.dm_link.specs.Names.{pid_eq}
+use Rattle.dm_link.specs.Plain.{PlainLink}
+use Rattle.dm_message.specs.declared.MsgId.{MsgId}
+use Rattle.dm_message.specs.declared.Message.{Message}
+use Rattle.dm_message.specs.Ids.{id_eq}
+use Rattle.dm_message.specs.Plain as said
+use Rattle.dm_message.specs.Plain.{PlainMessage, PlainWhat, plain_message, plain_what, with_what}
+use Rattle.dm_onekernel.specs.declared.boot.Boot.{Boot}
+use Rattle.dm_onekernel.specs.declared.label.Label.TheVariants as label
+use Rattle.dm_onekernel.specs.Boot.{switchboard, manager}
+use Rattle.dm_onekernel.specs.Kernel as kernels
+use Rattle.dm_onekernel.specs.Kernel.{Life, Manager, OneKernel, Switchboard}
+use Rattle.dm_onekernel.specs.Manager as one
+use Rattle.dm_onekernel.specs.Options.{bind}
+use Rattle.dm_onekernel.specs.Service as service
+use Rattle.dm_onekernel.specs.Step as kernel
+use Rattle.dm_onekernel.specs.Switchboard as boards
+use Rattle.dm_switchboard.specs.Board.{plain_board}
+use Rattle.dm_switchboard.specs.Taking as board
+use Rattle.dm_switchboard.proofs.Plain.{plain_request}
+use Rattle.dm_procman.specs.declared.pending.Pending.{Pending}
+use Rattle.dm_procman.specs.Making.{control_link}
+use Rattle.dm_procman.specs.Managing.{Managing, at_home, plain_manager, plain_pending}
+use Rattle.dm_procman.specs.Taking as manage
+use Rattle.dm_procman.proofs.Plain.{plain_created, plain_no_room, plain_pending_numbered, plain_user}
+use Rattle.dm_laws.proofs.Entered.{counts, unentered}
+use Rattle.dm_laws.proofs.Servers.{ServerSends, board_takes, manager_takes}
+use Rattle.dm_rule.specs.Parts.{Part}
+use Rattle.dm_rule.specs.Point.{Point}
+use Rattle.dm_rule.specs.Rule as rule
+use Rattle.dm_rule.specs.Rule.{blocks_of}
+use Rattle.dm_rule.proofs.Bags.{bag_none}
+use Rattle.dm_rulelaws.specs.Fits.{is_server, IsPending, WhatFits}
+use Rattle.dm_rulelaws.specs.Found.{is_fixed}
+use Rattle.dm_rulelaws.proofs.Goes.Front.{begun, home_of}
+use Rattle.dm_places.specs.Laws.{StepNeeds}
+use Rattle.dm_places.specs.Placed.{Placed, MirrorsKernel}
+use Rattle.dm_places.specs.PlacedStep as placed
+use Rattle.dm_places.specs.PlacedStep.{board_took, manager_took}
+use Rattle.dm_places.proofs.Keeps.{of_map, parts}
+use Rattle.dm_places.proofs.Serves.{plainly}
+use Rattle.dm_places.proofs.Whats.{user_what, created_what, no_room_what}
+use Rattle.dm_kernel.specs.declared.kernel.Servers.{Servers}
+use Rattle.dm_kernel.specs.declared.part.Part as parts_
+use Rattle.dm_kernel.specs.Handle as machine
+use Rattle.dm_kernel.specs.Handle.{handles, board_handles, manager_handles}
+use Rattle.dm_kernel.specs.State as state
+use Rattle.dm_kernel.specs.State.{KernelState, Turned, turned}
+use Rattle.dm_mirror.specs.Stands.{servers_at}
+use Rattle.dm_mirror.proofs.Handle.Plain.{IsPlain, answers_plain, board_plain, routes_plainly, user_plain}
+use Rattle.dm_mirror.proofs.Handle.Receivers.{to_board, to_manager, rule_to_board, rule_to_manager}
+use Rattle.dm_mirror.proofs.Handle.Rows.{turns_row}
+use Rattle.dm_mirror.proofs.Handle.Taking.{Taking, sane_of, some_of}
+use Rattle.dm_mirror.proofs.Turning.{routed, Row}
+
+-- a message that is sent, if any
+routes_same : (o : Option Message) → machine.routes o ≡ routed o
+routes_same None = refl
+routes_same (Some a) = refl
+
+pub sent_processes : (u : OneKernel) (o : Option PlainMessage) (q : Pid) → (kernels.with_sent u o).processes q ≡ u.processes q
+sent_processes u None q = refl
+sent_processes u (Some a) q = refl
+
+pub sent_made : (u : OneKernel) (o : Option PlainMessage) (n : ℕ) → (kernels.with_sent u o).made n ≡ u.made n
+sent_made u None n = refl
+sent_made u (Some a) n = refl
+
+pub sent_machines : (u : OneKernel) (o : Option PlainMessage) → (kernels.with_sent u o).machines ≡ u.machines
+sent_machines u None = refl
+sent_machines u (Some a) = refl
+
+pub placed_processes : (l : Placed) (o : Option Message) (q : Pid) → (placed.with_sent l o).processes q ≡ l.processes q
+placed_processes l None q = refl
+placed_processes l (Some a) q = refl
+
+pub placed_bag : (l n : Placed) (o : Option Message) (j : MsgId) → l.bag j ≡ n.bag j → (placed.with_sent l o).bag j ≡ (placed.with_sent n o).bag j
+placed_bag l n None j e = e
+placed_bag l n (Some a) j e = ap (λ (z : Option Message). if id_eq a.id j then Some a else z) e
+
+pub placed_servers : (l : Placed) (o : Option Message) (m : ℕ) → servers_at (placed.with_sent l o) m ≡ servers_at l m
+placed_servers l None m = refl
+placed_servers l (Some a) m = refl
+
+-- a server takes the message: u and on are the kernels then, before what it sends enters
+pub record Takes (b : Boot) (m : ℕ) (pt : Point) (l : Placed) (k : KernelState) (y : Message) (w : PlainWhat) (c : Taking b m pt l k y w) : Type 0 where
+  pub u : OneKernel
+  pub on : Placed
+  pub sent : Option Message
+  pub servers : Servers
+  pub home : m ≡ 0
+  pub server : is_server y.to.pid ≡ true
+  pub step : kernel.step pt.kernel (label.Took y.id) ≡ Some (kernels.with_sent u (bind sent plain_message))
+  pub placed_is : placed.placed_step m pt.kernel.format pt.kernel.images l (label.Took y.id) ≡ Some (placed.with_sent on sent)
+  pub turn : handles b (record k { inbox = c.rest }) y ≡ turned (record k { inbox = c.rest; servers = Some servers }) (state.says (label.Took y.id) ∷ machine.routes sent)
+  pub outcome : rule.handles b pt m y.id (plainly y w) ≡ Some (rule.says (label.Took y.id) ∷ rule.routes (bind sent plain_message))
+  pub machines : u.machines ≡ pt.kernel.machines
+  pub made : (n : ℕ) → u.made n ≡ pt.kernel.made n
+  pub lives : (q : Pid) → u.processes q ≡ pt.kernel.processes q
+  pub processes : (q : Pid) → on.processes q ≡ l.processes q
+  pub bag : (j : MsgId) → on.bag j ≡ (placed.without_message l y.id).bag j
+  pub servers_is : Some servers ≡ servers_at on m
+  pub plain : IsPlain sent
+  pub fresh : (q : PlainMessage) → bind sent plain_message ≡ Some q → counts pt.kernel q.id ≡ false
+
+took_row : (b : Boot) (m : ℕ) (pt : Point) (l : Placed) (k : KernelState) (y : Message) (w : PlainWhat) (c : Taking b m pt l k y w) → Takes b m pt l k y w c → Row b m pt l k
+took_row b m pt l k y w c h =
+    let s = pt.kernel in
+    let p = y.to.pid in
+    let e = label.Took y.id in
+    let said = bind h.sent plain_message in
+    let next = kernels.with_sent h.u said in
+    let on = placed.with_sent h.on h.sent in
+    let seen = sane_of b m pt l k y w c in
+    let needs : StepNeeds s (begun pt m).view e = (h.home, c.run.based.pending) in
+    turns_row b m pt l k y w c (record {
+      label = e;
+      next = next;
+      placed = on;
+      state = record k { inbox = c.rest; servers = Some h.servers };
+      route = h.sent;
+      process = p;
+      step = h.step;
+      view = refl;
+      needs = needs;
+      placed_is = h.placed_is;
+      turn = h.turn ∙ ap (λ (ps : List parts_.Part). turned (record k { inbox = c.rest; servers = Some h.servers }) (state.says e ∷ ps)) (routes_same h.sent);
+      outcome = h.outcome ∙ ap (λ (ps : List Part). Some (rule.says e ∷ ps)) (routes_plainly h.sent h.plain);
+      machines = sent_machines h.u said ∙ h.machines;
+      made = λ n. sent_made h.u said n ∙ h.made n;
+      lives = λ q off. sent_processes h.u said q ∙ h.lives q;
+      blocks = ap (λ (o : Option Life). blocks_of (kernel.alive o)) (sent_processes h.u said p ∙ h.lives p);
+      processes = λ q off. placed_processes h.on h.sent q ∙ h.processes q;
+      bag = λ j. placed_bag h.on (placed.without_message l y.id) h.sent j (h.bag j);
+      board = λ off. absurd (off h.home);
+      manager = λ off. absurd (off h.home);
+      fresh = λ a is.
+          let (q, plain) = some_of (plain_message a) (h.plain a is) in
+          let none = h.fresh q (ap (λ (o : Option Message). bind o plain_message) is ∙ plain) in
+          ap s.bag (parts a q plain).id ∙ bag_none seen.r seen.e s q.id (unentered seen.r seen.e s q.id seen.sound.entered none) seen.sound.entered;
+      plain = h.plain;
+      here = refl;
+      records = λ q off. refl;
+      ring = refl;
+      inbox = refl;
+      count = refl;
+      sent = refl;
+      room = refl;
+      servers = h.servers_is ∙ sym (placed_servers h.on h.sent m);
+      keeps = λ off. refl;
+      mine = λ off bag holds. absurd (false≢true (sym off ∙ h.server));
+      left = λ q is. (placed_processes h.on h.sent q ∙ h.processes q, sent_processes h.u said q ∙ h.lives q, refl);
+    })
+
+-- machine 0's servers
+fixed_server : (p : Pid) → is_server p ≡ true → is_fixed p ≡ true
+fixed_server p e = any (p.num == 0) (is_server p) e
+  where
+    any : (c d : Bool) → d ≡ true → (c || d) ≡ true
+    any true d e = refl
+    any false d e = e
+
+zero_test : (m : ℕ) → m ≡ 0 → (m == 0) ≡ true
+zero_test m e = grind (arith, nat_tests)
+
+servers_zero : (l : Placed) (m : ℕ) → m ≡ 0 → servers_at l m ≡ Some (record { board = l.board; manager = l.manager })
+servers_zero l m e = ap (λ (d : Bool). if d then Some (record { board = l.board; manager = l.manager }) else None) (zero_test m e)
+
+-- the switchboard
+board_home : (p : Pid) (m : ℕ) → pid_eq p switchboard ≡ true → p.home ≡ m → m ≡ 0
+board_home p m e home = let z : p.home ≡ 0 = grind (arith, nat_tests) in sym home ∙ z
+
+user_row : (b : Boot) (m : ℕ) (pt : Point) (l : Placed) (k : KernelState) (y : Message) (code channel : ℕ) (bytes : List ℕ) (ls : List PlainLink) → Taking b m pt l k y (said.User code channel bytes ls) → (y.to.pid.num == 0) ≡ false → pid_eq y.to.pid switchboard ≡ true → Row b m pt l k
+user_row b m pt l k y code channel bytes ls c num is =
+    let s = pt.kernel in
+    let w = said.User code channel bytes ls in
+    let x = plainly y w in
+    let k0 = record k { inbox = c.rest } in
+    let server : is_server y.to.pid ≡ true = ap (λ (d : Bool). d || pid_eq y.to.pid manager) is in
+    let at = board_home y.to.pid m is (home_of b m pt y.id x (fixed_server y.to.pid server) c.front) in
+    let u = user_what y.what code channel bytes ls c.says in
+    let t = board.takes_request l.board u.body.items u.links.items in
+    let v : Servers = record { board = l.board; manager = l.manager } in
+    let kk : boards.Took = record { switchboard = plain_board t.board; answer = bind t.took.answer plain_message } in
+    let takes : boards.takes s.switchboard x w ≡ Some kk =
+    (λ i. Some (boards.takes_request (sym c.mirrors.plain.board i) (sym u.bytes_are i) (sym u.links_are i))) ∙ sym (plain_request l.board u.body.items u.links.items t refl) in
+    let taken : board.takes l.board y.what ≡ Some t = ap (board.takes l.board) u.is in
+    took_row b m pt l k y w c (record {
+      u = record (service.without_message s y.id) { switchboard = kk.switchboard };
+      on = record (placed.without_message l y.id) { board = t.board };
+      sent = t.took.answer;
+      servers = record v { board = t.board };
+      home = at;
+      server = server;
+      step = ap (λ (o : Option PlainMessage). bind o (service.takes s y.id)) c.front.there
+          ∙ ap (λ (d : Bool). if d then bind (boards.takes s.switchboard x x.what) (λ (z : boards.Took). Some (service.switchboard_took s y.id z)) else if pid_eq x.to manager then bind (one.takes s.manager s.machines (length s.images) x x.what) (λ (z : one.Took). Some (service.manager_took s y.id z)) else None) is
+          ∙ ap (λ (o : Option boards.Took). bind o (λ (z : boards.Took). Some (service.switchboard_took s y.id z))) takes;
+      placed_is = ap (λ (o : Option Message). bind o (placed.takes (placed.without_message l y.id))) c.there
+          ∙ ap (λ (d : Bool). if d then bind (board.takes l.board y.what) (λ (z : board.Taken). Some (board_took (placed.without_message l y.id) z)) else if pid_eq y.to.pid manager then bind (manage.takes l.manager y.id.n y.what) (λ (z : manage.Taken). Some (manager_took (placed.without_message l y.id) z)) else None) is
+          ∙ ap (λ (o : Option board.Taken). bind o (λ (z : board.Taken). Some (board_took (placed.without_message l y.id) z))) taken;
+      turn = to_board b k0 y num is ∙ ap (board_handles k0 y) (c.stands.servers ∙ servers_zero l m at) ∙ ap (machine.board_took k0 y v) taken;
+      outcome = rule_to_board b pt m y.id x num is ∙ ap (rule.board_took y.id) takes;
+      machines = refl;
+      made = λ n. refl;
+      lives = λ q. refl;
+      processes = λ q. refl;
+      bag = λ j. refl;
+      servers_is = sym (servers_zero (record (placed.without_message l y.id) { board = t.board }) m at);
+      plain = board_plain l.board u.body.items u.links.items;
+      fresh = λ q e.
+          let sends = subst (λ (o : Option PlainMessage). ServerSends switchboard s.switchboard.sent o kk.switchboard.sent) e (board_takes s.switchboard x w kk takes).2 in
+          ap (counts s) sends.0 ∙ (let z : nat_lt s.switchboard.sent s.switchboard.sent ≡ false = grind (arith, nat_tests) in z);
+    })
+
+pub board_row : (b : Boot) (m : ℕ) (pt : Point) (l : Placed) (k : KernelState) (y : Message) (w : PlainWhat) (ps : List Part) → Taking b m pt l k y w → (y.to.pid.num == 0) ≡ false → pid_eq y.to.pid switchboard ≡ true
+    → rule.board_took y.id (boards.takes pt.kernel.switchboard (plainly y w) w) ≡ Some ps → Row b m pt l k
+board_row b m pt l k y (said.User code channel bytes ls) ps c num is goes = user_row b m pt l k y code channel bytes ls c num is
+board_row b m pt l k y w ps c num is goes = absurd (let f : None ≡ Some ps = goes in cc)
+
+-- the manager
+manager_home : (p : Pid) (m : ℕ) → pid_eq p manager ≡ true → p.home ≡ m → m ≡ 0
+manager_home p m e home = let z : p.home ≡ 0 = grind (arith, nat_tests) in sym home ∙ z
+
+manager_by : (b : Boot) (m : ℕ) (pt : Point) (l : Placed) (k : KernelState) (y : Message) (w : PlainWhat) (t : manage.Taken) → Taking b m pt l k y w → (y.to.pid.num == 0) ≡ false → pid_eq y.to.pid switchboard ≡ false → pid_eq y.to.pid manager ≡ true
+    → manage.takes l.manager y.id.n y.what ≡ Some t → one.takes pt.kernel.manager pt.kernel.machines (length pt.kernel.images) (plainly y w) w ≡ Some (record { manager = plain_manager t.manager; message = bind t.message plain_message }) → IsPlain t.message → Row b m pt l k
+manager_by b m pt l k y w t c num off is taken takes plain =
+    let s = pt.kernel in
+    let x = plainly y w in
+    let k0 = record k { inbox = c.rest } in
+    let server : is_server y.to.pid ≡ true = ap (λ (d : Bool). d || pid_eq y.to.pid manager) off ∙ is in
+    let at = manager_home y.to.pid m is (home_of b m pt y.id x (fixed_server y.to.pid server) c.front) in
+    let v : Servers = record { board = l.board; manager = l.manager } in
+    let kk : one.Took = record { manager = plain_manager t.manager; message = bind t.message plain_message } in
+    took_row b m pt l k y w c (record {
+      u = record (service.without_message s y.id) { manager = kk.manager };
+      on = record (placed.without_message l y.id) { manager = t.manager };
+      sent = t.message;
+      servers = record v { manager = t.manager };
+      home = at;
+      server = server;
+      step = ap (λ (o : Option PlainMessage). bind o (service.takes s y.id)) c.front.there
+          ∙ ap (λ (d : Bool). if d then bind (boards.takes s.switchboard x x.what) (λ (z : boards.Took). Some (service.switchboard_took s y.id z)) else if pid_eq x.to manager then bind (one.takes s.manager s.machines (length s.images) x x.what) (λ (z : one.Took). Some (service.manager_took s y.id z)) else None) off
+          ∙ ap (λ (d : Bool). if d then bind (one.takes s.manager s.machines (length s.images) x x.what) (λ (z : one.Took). Some (service.manager_took s y.id z)) else None) is
+          ∙ ap (λ (o : Option one.Took). bind o (λ (z : one.Took). Some (service.manager_took s y.id z))) takes;
+      placed_is = ap (λ (o : Option Message). bind o (placed.takes (placed.without_message l y.id))) c.there
+          ∙ ap (λ (d : Bool). if d then bind (board.takes l.board y.what) (λ (z : board.Taken). Some (board_took (placed.without_message l y.id) z)) else if pid_eq y.to.pid manager then bind (manage.takes l.manager y.id.n y.what) (λ (z : manage.Taken). Some (manager_took (placed.without_message l y.id) z)) else None) off
+          ∙ ap (λ (d : Bool). if d then bind (manage.takes l.manager y.id.n y.what) (λ (z : manage.Taken). Some (manager_took (placed.without_message l y.id) z)) else None) is
+          ∙ ap (λ (o : Option manage.Taken). bind o (λ (z : manage.Taken). Some (manager_took (placed.without_message l y.id) z))) taken;
+      turn = to_manager b k0 y num off is ∙ ap (manager_handles k0 y) (c.stands.servers ∙ servers_zero l m at) ∙ ap (machine.manager_took k0 y v) taken;
+      outcome = rule_to_manager b pt m y.id x num off is ∙ ap (rule.manager_took y.id) takes;
+      machines = refl;
+      made = λ n. refl;
+      lives = λ q. refl;
+      processes = λ q. refl;
+      bag = λ j. refl;
+      servers_is = sym (servers_zero (record (placed.without_message l y.id) { manager = t.manager }) m at);
+      plain = plain;
+      fresh = λ q e.
+          let sends = subst (λ (o : Option PlainMessage). ServerSends manager s.manager.sent o kk.manager.sent) e (manager_takes s.manager s.machines (length s.images) x w kk takes).2.sends in
+          ap (counts s) sends.0 ∙ (let z : nat_lt s.manager.sent s.manager.sent ≡ false = grind (arith, nat_tests) in z);
+    })
+
+-- the request that an answer belongs to is pending
+pending_there : (o : Option kernels.Pending) → is_some o ≡ true → (r : kernels.Pending) × (o ≡ Some r)
+pending_there None e = cc
+pending_there (Some r) e = (r, refl)
+
+numbered : (s : OneKernel) (l : Placed) (n : ℕ) → MirrorsKernel s l → one.pending_numbered n s.manager.pending ≡ option_map plain_pending (manage.pending_numbered n l.manager.pending)
+numbered s l n h = ap (λ (g : Manager). one.pending_numbered n g.pending) (sym h.manager) ∙ plain_pending_numbered n l.manager.pending
+
+asked : (s : OneKernel) (l : Placed) (i : MsgId) → MirrorsKernel s l → IsPending s i → (r : Pending) × (manage.pending_numbered i.n l.manager.pending ≡ Some r)
+asked s l i h p =
+    let (r, there) = pending_there (one.pending_numbered i.n s.manager.pending) p.pending in
+    let (z, found, same) = of_map plain_pending (manage.pending_numbered i.n l.manager.pending) r (sym there ∙ numbered s l i.n h) in
+    (z, found)
+
+abbrev created_of : Managing → ℕ → Pid → Pending → manage.Taken
+created_of g n child r = manage.answers (record (manage.settled g n) { children = g.children ++ at_home child ∷ [] }) r.answer 0 (control_link (length g.children + 1) ∷ [])
+
+abbrev no_room_of : Managing → ℕ → Pending → manage.Taken
+no_room_of g n r = manage.answers (manage.settled g n) r.answer 1 []
+
+pub manager_row : (b : Boot) (m : ℕ) (pt : Point) (l : Placed) (k : KernelState) (y : Message) (w : PlainWhat) (ps : List Part) → Taking b m pt l k y w → (y.to.pid.num == 0) ≡ false → pid_eq y.to.pid switchboard ≡ false → pid_eq y.to.pid manager ≡ true → WhatFits pt.kernel y.id (plainly y w) w
+    → rule.manager_took y.id (one.takes pt.kernel.manager pt.kernel.machines (length pt.kernel.images) (plainly y w) w) ≡ Some ps → Row b m pt l k
+manager_row b m pt l k y (said.User code channel bytes ls) ps c num off is fits goes =
+    let h = c.mirrors.plain in
+    let u = user_what y.what code channel bytes ls c.says in
+    let t = manage.takes_user l.manager code u.body.items u.links.items in
+    manager_by b m pt l k y (said.User code channel bytes ls) t c num off is (ap (manage.takes l.manager y.id.n) u.is)
+    ((λ i. Some (one.takes_user (sym h.manager i) (sym h.machines i) (sym h.images i) code (sym u.bytes_are i) (sym u.links_are i))) ∙ sym (plain_user l.manager code u.body.items u.links.items))
+    (user_plain l.manager code u.body.items u.links.items)
+manager_row b m pt l k y (said.Created child) ps c num off is fits goes =
+    let s = pt.kernel in
+    let h = c.mirrors.plain in
+    let (r, found) = asked s l y.id h fits.2 in
+    let t = created_of l.manager y.id.n child r in
+    let taken : manage.takes_created l.manager y.id.n child (manage.pending_numbered y.id.n l.manager.pending) ≡ Some t = ap (manage.takes_created l.manager y.id.n child) found in
+    manager_by b m pt l k y (said.Created child) t c num off is (ap (manage.takes l.manager y.id.n) (created_what y.what child c.says) ∙ taken)
+    (ap (one.takes_created s.manager y.id.n child) (numbered s l y.id.n h) ∙ ap (λ (g : Manager). one.takes_created g y.id.n child (option_map plain_pending (manage.pending_numbered y.id.n l.manager.pending))) (sym h.manager)
+    ∙ sym (plain_created l.manager y.id.n child (manage.pending_numbered y.id.n l.manager.pending) t taken))
+    (answers_plain (record (manage.settled l.manager y.id.n) { children = l.manager.children ++ at_home child ∷ [] }) r.answer 0 (control_link (length l.manager.children + 1) ∷ []))
+manager_row b m pt l k y said.NoRoom ps c num off is fits goes =
+    let s = pt.kernel in
+    let h = c.mirrors.plain in
+    let (r, found) = asked s l y.id h fits.2 in
+    let t = no_room_of l.manager y.id.n r in
+    let taken : manage.takes_no_room l.manager y.id.n (manage.pending_numbered y.id.n l.manager.pending) ≡ Some t = ap (manage.takes_no_room l.manager y.id.n) found in
+    manager_by b m pt l k y said.NoRoom t c num off is (ap (manage.takes l.manager y.id.n) (no_room_what y.what c.says) ∙ taken)
+    (ap (one.takes_no_room s.manager y.id.n) (numbered s l y.id.n h) ∙ ap (λ (g : Manager). one.takes_no_room g y.id.n (option_map plain_pending (manage.pending_numbered y.id.n l.manager.pending))) (sym h.manager)
+    ∙ sym (plain_no_room l.manager y.id.n (manage.pending_numbered y.id.n l.manager.pending) t taken))
+    (answers_plain (manage.settled l.manager y.id.n) r.answer 1 [])
+manager_row b m pt l k y w ps c num off is fits goes = absurd (let f : None ≡ Some ps = goes in cc)

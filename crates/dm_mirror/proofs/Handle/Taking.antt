@@ -1,0 +1,219 @@
+-- A turn that handles the message at the inbox's front: what holds of it, and how a row of it comes to the end.
+use Rattle.std.proofs.Common.{◌≡◌, ◌≢◌, ℕ, ◌+◌, ◌≤◌, ◌<◌, Bool, true, false, List, ◌∷◌, refl, ap, ◌∙◌, sym, subst, inl, inr, is_some, arith}
+use Rattle.std.specs.Prelude.{if◌then◌else◌}
+use Rattle.std.specs.declared.option.Option.{Option}
+use Rattle.std.specs.declared.option.Option.TheVariants.{None, Some}
+use Rattle.std.proofs.lemmas.Bool.{cases_Bool, false≢true}
+use Rattle.dm_link.specs.declared.Pid.{Pid}
+use Rattle.dm_message.specs.declared.MsgId.{MsgId}
+use Rattle.dm_message.specs.declared.Message.{Message}
+use Rattle.dm_message.specs.Ids.{id_eq}
+use Rattle.dm_message.specs.Plain.{PlainMessage, PlainWhat, plain_message, plain_what, with_what}
+use Rattle.dm_onekernel.specs.declared.boot.Boot.{Boot}
+use Rattle.dm_onekernel.specs.Boot.{IsValid}
+use Rattle.dm_onekernel.specs.declared.label.Label.{Label}
+use Rattle.dm_onekernel.specs.Kernel.{OneKernel}
+use Rattle.dm_onekernel.specs.Options.{bind}
+use Rattle.dm_onekernel.specs.Step as kernel
+use Rattle.dm_schedule.specs.declared.Step.TheVariants as step
+use Rattle.dm_laws.specs.Laws.{entry, reception}
+use Rattle.dm_laws.proofs.Runs.{after_step}
+use Rattle.dm_laws.proofs.Equal.{id_eq-is, id_eq-same}
+use Rattle.dm_rule.specs.Parts as part_of_rule
+use Rattle.dm_rule.specs.Point.{Point}
+use Rattle.dm_rule.specs.Rule as rule
+use Rattle.dm_rule.specs.Rule.{outcome}
+use Rattle.dm_rule.specs.Spots.{Spot, Queue, Held, Inbox, Untaken, times, standing, StandsAsBag, StandsNowhere, StandsOutside, StandsRight}
+use Rattle.dm_rule.specs.View.{is_kernels}
+use Rattle.dm_rule.proofs.Groups.{stands_right}
+use Rattle.dm_rule.proofs.Letters.{kernels_fresh, not_kernels}
+use Rattle.dm_rule.proofs.States.{not_true}
+use Rattle.dm_rule.proofs.Telling.{Sane}
+use Rattle.dm_rule.proofs.Standing.{StandsAsBag-elsewhere, StandsAsBag-one}
+use Rattle.dm_rulelaws.proofs.Goes.Always.{front}
+use Rattle.dm_rulelaws.proofs.Own.Told.{OwnTold}
+use Rattle.dm_rulelaws.proofs.Queued.{IsQueued}
+use Rattle.dm_rulelaws.proofs.Runs.{Run}
+use Rattle.dm_rulelaws.proofs.Goes.Front.{Front}
+use Rattle.dm_places.specs.Placed.{Placed, Mirrors, MirrorsKernel}
+use Rattle.dm_places.specs.PlacedStep.{with_sent, without_message}
+use Rattle.dm_places.proofs.Keeps.{parts, there_of}
+use Rattle.dm_places.proofs.Serves.{plainly, plainly_is}
+use Rattle.dm_kernel.specs.Handle.{handles}
+use Rattle.dm_kernel.specs.State.{KernelState, Turned}
+use Rattle.dm_kernel.specs.Turn.{turn, turns}
+use Rattle.dm_mirror.specs.Made.{MadeStands}
+use Rattle.dm_mirror.specs.Own.{AllOwnStand}
+use Rattle.dm_mirror.specs.Stands.{AreMessages, KernelStands}
+use Rattle.dm_mirror.proofs.Handle.Frames.{times_self, front_of}
+use Rattle.dm_mirror.proofs.Turning.{IsSent}
+
+-- machine m handles message y, which says w without places
+pub record Taking (b : Boot) (m : ℕ) (pt : Point) (l : Placed) (k : KernelState) (y : Message) (w : PlainWhat) : Type 0 where
+  pub valid : IsValid b
+  pub below : m < pt.kernel.machines
+  pub run : Run b pt
+  pub told : OwnTold pt
+  pub made : MadeStands pt.kernel
+  pub mirrors : Mirrors pt.kernel pt.view pt.addresses l
+  pub stands : KernelStands b pt l m k
+  pub own : AllOwnStand pt.view l
+  pub says : plain_what y.what ≡ Some w
+  pub there : l.bag y.id ≡ Some y
+  -- the messages behind it
+  pub ids : List MsgId
+  pub box : pt.view.inbox m ≡ y.id ∷ ids
+  pub rest : List Message
+  pub inbox : k.inbox ≡ y ∷ rest
+  pub others : AreMessages l.bag ids rest
+  pub front : Front b m pt y.id (plainly y w)
+
+abbrev is_queue : Spot → Bool
+is_queue (Inbox m) = false
+is_queue (Queue m p) = true
+is_queue (Held m p) = false
+is_queue (Untaken a b) = false
+
+pub queue_apart : (m n : ℕ) (p : Pid) → Queue n p ≢ Inbox m
+queue_apart m n p e = false≢true (sym (ap is_queue e))
+
+abbrev is_held : Spot → Bool
+is_held (Inbox m) = false
+is_held (Queue m p) = false
+is_held (Held m p) = true
+is_held (Untaken a b) = false
+
+pub held_apart : (m n : ℕ) (p : Pid) → Held n p ≢ Inbox m
+held_apart m n p e = false≢true (sym (ap is_held e))
+
+pub held_no_queue : (m n : ℕ) (p q : Pid) → Held n q ≢ Queue m p
+held_no_queue m n p q e = false≢true (sym (ap is_held e))
+
+-- the front of the inbox is a message of the bag
+pub record Took (b : Boot) (m : ℕ) (pt : Point) (l : Placed) (k : KernelState) (i : MsgId) (x : PlainMessage) : Type 0 where
+  pub message : Message
+  pub id : message.id ≡ i
+  pub plain : plain_message message ≡ Some x
+  pub taking : Taking b m pt l k message x.what
+
+pub took : (b : Boot) (m : ℕ) (pt : Point) (l : Placed) (k : KernelState) (i : MsgId) (is : List MsgId) (x : PlainMessage) → IsValid b → m < pt.kernel.machines → Run b pt → OwnTold pt → MadeStands pt.kernel → Mirrors pt.kernel pt.view pt.addresses l → KernelStands b pt l m k → AllOwnStand pt.view l
+    → pt.view.inbox m ≡ i ∷ is → pt.kernel.bag i ≡ Some x → Took b m pt l k i x
+took b m pt l k i is x valid below run told made mirrors h own box there =
+    let f = front_of l.bag i is k.inbox (subst (λ (z : List MsgId). AreMessages l.bag z k.inbox) box h.inbox) in
+    let y = f.message in
+    let name : y.id ≡ i = (mirrors.places.message i y f.there).id in
+    let (z, found, says) = there_of pt.kernel l i x mirrors.plain there in
+    let same : z ≡ y = let g : Some z ≡ Some y = sym found ∙ f.there in cc in
+    let plain : plain_message y ≡ Some x = ap plain_message (sym same) ∙ says in
+    let box_ : pt.view.inbox m ≡ y.id ∷ is = box ∙ ap (λ (j : MsgId). j ∷ is) (sym name) in
+    record {
+      message = y;
+      id = name;
+      plain = plain;
+      taking = record {
+        valid = valid;
+        below = below;
+        run = run;
+        told = told;
+        made = made;
+        mirrors = mirrors;
+        stands = h;
+        own = own;
+        says = (parts y x plain).what;
+        there = ap l.bag name ∙ f.there;
+        ids = is;
+        box = box_;
+        rest = f.rest;
+        inbox = f.is_front;
+        others = f.others;
+        front = front b m pt y.id is (plainly y x.what) box_ (ap pt.kernel.bag name ∙ there ∙ ap Some (plainly_is y x plain)) run;
+      };
+    }
+
+-- its plain meaning
+pub plainly_says : (b : Boot) (m : ℕ) (pt : Point) (l : Placed) (k : KernelState) (y : Message) (w : PlainWhat) → Taking b m pt l k y w → plain_message y ≡ Some (plainly y w)
+plainly_says b m pt l k y w c = ap (with_what y) c.says
+
+-- the kernel without machines, as the rule has led to it
+pub sane_of : (b : Boot) (m : ℕ) (pt : Point) (l : Placed) (k : KernelState) (y : Message) (w : PlainWhat) → Taking b m pt l k y w → Sane pt
+sane_of b m pt l k y w c = c.run.based.phased.sane
+
+-- a message that is queued is in the bag, for this process
+pub record Waits (pt : Point) (p : Pid) (i : MsgId) : Type 0 where
+  pub x : PlainMessage
+  pub there : pt.kernel.bag i ≡ Some x
+  pub to : x.to ≡ p
+
+waits_by : (i : MsgId) (n : ℕ) (p : Pid) (pt : Point) (o : Option PlainMessage) (f : Spot → ℕ) (z : Spot) → pt.kernel.bag i ≡ o → 1 ≤ f z → is_kernels i ≡ false → StandsRight i o f → IsQueued n p o → Waits pt p i
+waits_by i n p pt None f z is least off h q = absurd (let k : StandsNowhere f = subst (λ (c : Bool). StandsOutside c f) off h in let e : f z ≡ 0 = k z in omega (arith, least, e))
+waits_by i n p pt (Some x) f z is least off h q = record { x = x; there = is; to = (q.is x refl).0 }
+
+pub waits : (b : Boot) (pt : Point) (m : ℕ) (p : Pid) (i : MsgId) → Run b pt → 1 ≤ times i (pt.view.queue m p) → Waits pt p i
+waits b pt m p i run least =
+    let state = run.based.phased.state in
+    let q = run.based.queued m p i least in
+    let entered = q.entered in
+    let off : is_kernels i ≡ false = not_true (is_kernels i) (λ e. let z = kernels_fresh state.r state.e pt.kernel i state.sound e in omega (arith, entered, z)) in
+    waits_by i (state.e i) p pt (pt.kernel.bag i) (standing pt.view i) (Queue m p) refl least off (stands_right pt i state (pt.kernel.bag i) refl) q
+
+-- the machine's turn, and the rule's
+pub turn_is : (b : Boot) (m : ℕ) (pt : Point) (l : Placed) (k : KernelState) (y : Message) (w : PlainWhat) (c : Taking b m pt l k y w) (o : Option Turned) → handles b (record k { inbox = c.rest }) y ≡ o → turn b k ≡ o
+turn_is b m pt l k y w c o e = ap (turns b k) c.inbox ∙ e
+
+pub outcome_is : (b : Boot) (m : ℕ) (pt : Point) (l : Placed) (k : KernelState) (y : Message) (w : PlainWhat) (c : Taking b m pt l k y w) (o : Option (List part_of_rule.Part)) → rule.handles b pt m y.id (plainly y w) ≡ o → outcome b pt (step.Turn m) ≡ o
+outcome_is b m pt l k y w c o e = ap (rule.turns b pt m) c.box ∙ ap (rule.comes_to b pt m y.id) c.front.there ∙ e
+
+-- it stands in the inbox, and nowhere else
+once : (b : Boot) (m : ℕ) (pt : Point) (l : Placed) (k : KernelState) (y : Message) (w : PlainWhat) (c : Taking b m pt l k y w) → 1 ≤ standing pt.view y.id (Inbox m)
+once b m pt l k y w c = subst (λ (z : List MsgId). 1 ≤ times y.id z) (sym c.box) (times_self y.id c.ids)
+
+kept_of : (b : Boot) (m : ℕ) (pt : Point) (l : Placed) (k : KernelState) (y : Message) (w : PlainWhat) (c : Taking b m pt l k y w) → StandsAsBag (Some (plainly y w)) (standing pt.view y.id)
+kept_of b m pt l k y w c = stands_right pt y.id c.run.based.phased.state (Some (plainly y w)) c.front.there
+
+not_it : (i j : MsgId) (f : MsgId → ℕ) → f i ≡ 0 → 1 ≤ f j → id_eq i j ≡ false
+not_it i j f none least = elim (cases_Bool (id_eq i j)) [
+  | inl same ↦ absurd (let e : f i ≡ f j = ap f (id_eq-is i j same) in omega (arith, none, least, e))
+  | inr off ↦ off
+]
+
+pub apart_at : (b : Boot) (m : ℕ) (pt : Point) (l : Placed) (k : KernelState) (y : Message) (w : PlainWhat) (c : Taking b m pt l k y w) (s : Spot) (j : MsgId) → s ≢ Inbox m → 1 ≤ standing pt.view j s → id_eq y.id j ≡ false
+apart_at b m pt l k y w c s j off least =
+    not_it y.id j (λ (i : MsgId). standing pt.view i s) (StandsAsBag-elsewhere (Some (plainly y w)) (standing pt.view y.id) (Inbox m) s (once b m pt l k y w c) off (kept_of b m pt l k y w c)) least
+
+pub apart_behind : (b : Boot) (m : ℕ) (pt : Point) (l : Placed) (k : KernelState) (y : Message) (w : PlainWhat) (c : Taking b m pt l k y w) (j : MsgId) → 1 ≤ times j c.ids → id_eq y.id j ≡ false
+apart_behind b m pt l k y w c j least =
+    let one : standing pt.view y.id (Inbox m) ≡ 1 = StandsAsBag-one (Some (plainly y w)) (standing pt.view y.id) (Inbox m) (once b m pt l k y w c) (kept_of b m pt l k y w c) in
+    let is : times y.id (y.id ∷ c.ids) ≡ 1 = ap (times y.id) (sym c.box) ∙ one in
+    let self : times y.id (y.id ∷ c.ids) ≡ 1 + times y.id c.ids = ap (λ (d : Bool). (if d then 1 else 0) + times y.id c.ids) (id_eq-same y.id) in
+    not_it y.id j (λ (i : MsgId). times i c.ids) (omega (arith, is, self)) least
+
+-- a message that isn't in the bag and is no kernel's own stands nowhere
+pub fresh_at : (b : Boot) (pt : Point) (s : Spot) (i j : MsgId) → Run b pt → pt.kernel.bag i ≡ None → is_kernels i ≡ false → 1 ≤ standing pt.view j s → id_eq i j ≡ false
+fresh_at b pt s i j h none other least =
+    let k : StandsNowhere (standing pt.view i) = subst (λ (c : Bool). StandsOutside c (standing pt.view i)) other (stands_right pt i h.based.phased.state None none) in
+    not_it i j (λ (n : MsgId). standing pt.view n s) (k s) least
+
+-- what is there
+pub some_of : (o : Option PlainMessage) → is_some o ≡ true → (q : PlainMessage) × (o ≡ Some q)
+some_of None e = cc
+some_of (Some q) e = (q, refl)
+
+-- what a step sends is no kernel's own
+pub sent_other : (pt : Point) (e : Label) (next : OneKernel) (placed : Placed) (a : Message) → kernel.step pt.kernel e ≡ Some next → MirrorsKernel next placed → placed.bag a.id ≡ Some a → is_some (plain_message a) ≡ true → Sane pt → is_kernels a.id ≡ false
+sent_other pt e next placed a step mirrors there plain h =
+    let (q, is) = some_of (plain_message a) plain in
+    let g = after_step h.r h.e pt.kernel next e step h.sound in
+    let found : next.bag a.id ≡ Some q = sym (mirrors.bag a.id) ∙ ap (λ (o : Option Message). bind o plain_message) there ∙ is in
+    not_kernels (λ i. h.r i + reception i e) (λ i. h.e i + entry i pt.kernel next) next a.id q found g.sound
+
+-- the bag without it, and with what is sent
+pub bag_kept : (l : Placed) (i : MsgId) (o : Option Message) (j : MsgId) → id_eq i j ≡ false → ((a : Message) → o ≡ Some a → id_eq a.id j ≡ false) → (with_sent (without_message l i) o).bag j ≡ l.bag j
+bag_kept l i None j off others = ap (λ (c : Bool). if c then None else l.bag j) off
+bag_kept l i (Some a) j off others = ap (λ (c : Bool). if c then Some a else (if id_eq i j then None else l.bag j)) (others a refl) ∙ ap (λ (c : Bool). if c then None else l.bag j) off
+
+pub sent_there : (l : Placed) (a : Message) → (with_sent l (Some a)).bag a.id ≡ Some a
+sent_there l a = ap (λ (c : Bool). if c then Some a else l.bag a.id) (id_eq-same a.id)
+
+pub sent_is : (l : Placed) (o : Option Message) → ((a : Message) → o ≡ Some a → is_some (plain_message a) ≡ true) → IsSent (with_sent l o) o
+sent_is l None plain = tt
+sent_is l (Some a) plain = (sent_there l a, plain a refl)

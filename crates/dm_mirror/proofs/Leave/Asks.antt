@@ -1,0 +1,320 @@
+-- A process is told to move: to where it is, or it is frozen, and the other machine is asked.
+use Rattle.std.proofs.Common.{◌≡◌, ◌≢◌, ℕ, ◌+◌, ◌≤◌, ◌==◌, ◌&&◌, ◌||◌, Bool, true, false, not, List, [], ◌∷◌, map, refl, ap, ◌∙◌, sym, subst, inl, inr, arith}
+use Rattle.std.specs.Prelude.{if◌then◌else◌}
+use Rattle.std.specs.declared.option.Option.TheVariants.{None, Some}
+use Rattle.std.proofs.lemmas.Bool.{cases_Bool}
+use Rattle.std.proofs.lemmas.Bool.Decides.{eqb_tells}
+use Rattle.dm_link.specs.declared.Pid.{Pid}
+use Rattle.dm_link.specs.Names.{pid_eq}
+use Rattle.dm_linkupdate.specs.Notice.{kernel_at}
+use Rattle.dm_message.specs.declared.Message.{Message}
+use Rattle.dm_message.specs.declared.MsgId.{MsgId}
+use Rattle.dm_message.specs.declared.What.{What}
+use Rattle.dm_message.specs.declared.What.TheVariants as what
+use Rattle.dm_message.specs.declared.kind.MessageKind.TheVariants as kind
+use Rattle.dm_process.specs.declared.process.Process.{Process}
+use Rattle.dm_records.specs.declared.record.Record.TheVariants as record_
+use Rattle.dm_migrate.specs.Departure.{CanMove, ask_of, frozen}
+use Rattle.dm_room.specs.Room.{Taken}
+use Rattle.dm_onekernel.specs.declared.boot.Boot.{Boot}
+use Rattle.dm_onekernel.specs.Boot.{manager, switchboard}
+use Rattle.dm_onekernel.specs.Step as kernel
+use Rattle.dm_kernel.specs.Carried.{FreezesReceiverWhole, KnownIsWhole}
+use Rattle.dm_kernel.specs.Departing.{freezes, with_frozen}
+use Rattle.dm_kernel.specs.State.{KernelState, own, turned, with_sent}
+use Rattle.dm_kernel.specs.declared.part.Part.TheVariants as part
+use Rattle.dm_laws.proofs.Equal.{id_eq-same, pid_eq-is, pid_eq-same}
+use Rattle.dm_line.specs.declared.line.Line.TheVariants as line
+use Rattle.dm_line.specs.declared.line.Stage.TheVariants as stage
+use Rattle.dm_rule.specs.Migrating.{to_kernel}
+use Rattle.dm_rule.specs.Parts as rule
+use Rattle.dm_rule.specs.Point.{Point, moved}
+use Rattle.dm_rule.specs.Rule.{Room, blocks_of, taken_by, takes_room}
+use Rattle.dm_line.specs.Sets.{at_machine, at_record, without, without_front}
+use Rattle.dm_rule.specs.Spots.{times}
+use Rattle.dm_rule.specs.View.{Here, Frozen, Known, Of, front_told, own_id, target_of, without_first}
+use Rattle.dm_rulelaws.specs.Fits.{is_server}
+use Rattle.dm_rulelaws.specs.Found.{has_nothing_held, is_fixed}
+use Rattle.dm_places.specs.Placed.{Placed}
+use Rattle.dm_places.proofs.Lines.{mirrors_view}
+use Rattle.dm_mirror.specs.Own.{told_of}
+use Rattle.dm_mirror.specs.Stands.{KnownStands, LeavesStand, RoomStands}
+use Rattle.dm_mirror.specs.Tokens.{AllRecords}
+use Rattle.dm_mirror.proofs.Handle.Frames.{eq_self, machine_self, machine_off, record_self, record_off, record_others}
+use Rattle.dm_mirror.proofs.Rooms.{taken_same}
+use Rattle.dm_mirror.proofs.Leave.Frames.{here_is, known_stays, own_stays, stands_one, tokens_one}
+use Rattle.dm_mirror.proofs.Leave.Fronts.{FrontGone, Hearing, none_rests, outcome_hears, stood, turn_hears}
+use Rattle.dm_mirror.proofs.Leave.Owns.{absent_next, may_between, own_is, process_hears, records_as, three_off, to_process, untold_next}
+use Rattle.dm_mirror.proofs.Turning.{Nothing, Own, TurnsAt, begun}
+
+-- the inbox behind its front
+pub front_off : (i : MsgId) (is xs : List MsgId) → xs ≡ i ∷ is → without_front i xs ≡ is
+front_off i is xs e = ap (without_front i) e ∙ ap (λ (c : Bool). if c then is else i ∷ is) (id_eq-same i)
+
+-- the room is the same where machine m has the same of each process
+pub room_stays : (room given : Taken) (r s : Room) → s ≡ r → RoomStands room given r → RoomStands room given s
+room_stays room given r s e h = subst (RoomStands room given) (sym e) h
+
+-- a process that is told to move is no kernel and no server
+loose_if : (c : Bool) → (not c && true) ≡ true → c ≡ false
+loose_if true e = cc
+loose_if false e = refl
+
+migrates_loose : (b : Boot) (m : ℕ) (pt : Point) (l : Placed) (records : AllRecords) (k : KernelState) (y : Message) (machine : ℕ) → Hearing b m pt l records k (record y { what = what.Migrate machine }) → is_fixed y.to.pid ≡ false
+migrates_loose b m pt l records k y machine h = loose_if (is_fixed y.to.pid) (h.sorts.own y.id (told_of (record y { what = what.Migrate machine })) h.told h.mine)
+
+second_off : (a c : Bool) → (a || c) ≡ false → c ≡ false
+second_off true c e = cc
+second_off false c e = e
+
+-- to where it is
+here_already : (b : Boot) (m : ℕ) (pt : Point) (l : Placed) (records : AllRecords) (k : KernelState) (y : Message) (machine : ℕ) → Hearing b m pt l records k (record y { what = what.Migrate machine }) → pt.view.known m y.to.pid ≡ Here → m ≡ machine → TurnsAt b m pt l records k
+here_already b m pt l records k y machine h at_m is =
+    let z : Message = record y { what = what.Migrate machine } in
+    let p = y.to.pid in
+    let s : KernelState = record k { inbox = h.rest } in
+    let loose = migrates_loose b m pt l records k y machine h in
+    let server : is_server p ≡ false = second_off (p.num == 0) (is_server p) loose in
+    let x = here_is pt l p (pt.view.queue m p) (pt.view.held m p) (k.records p) (subst (λ (n : Known). KnownStands pt l p (pt.view.queue m p) (pt.view.held m p) n (k.records p)) at_m (h.stands.known p server)) in
+    let next : Point = moved (begun pt m) (line.Here y.id) pt.kernel in
+    let box : next.view.inbox m ≡ h.ids = machine_self pt.view.inbox m (without_front y.id (pt.view.inbox m)) ∙ front_off y.id h.ids (pt.view.inbox m) h.box in
+    let gone : FrontGone m h.ids pt.view next.view = record {
+      inbox = λ j least. inl (subst (λ (ids : List MsgId). 1 ≤ times j ids) box least);
+      others = λ n off. machine_off pt.view.inbox m n (without_front y.id (pt.view.inbox m)) off;
+      queue = λ n q j least. least;
+      held = λ n q j least. least;
+      pair = λ a c. refl;
+    } in
+    let taken = taken_same pt next m refl (λ n. refl) (λ q. refl) in
+    let to_here : (machine == k.here) ≡ true = ap (λ (n : ℕ). n == k.here) (sym is ∙ sym h.stands.here) ∙ eq_self k.here in
+    let same : (m == machine) ≡ true = ap (λ (n : ℕ). m == n) (sym is) ∙ eq_self m in
+    record {
+      state = s;
+      says = line.Here y.id ∷ [];
+      routes = [];
+      late = Nothing;
+      turn = turn_hears b m pt l records k z h (turned s (part.Says (line.Here y.id) ∷ []))
+          (to_process b s z (Some (record_.Here x.process)) loose x.is ∙ ap (λ (c : Bool). if c then turned s (part.Says (line.Here y.id) ∷ []) else freezes s p x.process machine) to_here);
+      outcome = outcome_hears b m pt l records k z h (Some (rule.Says (line.Here y.id) ∷ []))
+          (process_hears b pt m y.id (told_of z) Here loose at_m
+          ∙ ap (λ (c : Bool). Some (if c then rule.Says (line.Here y.id) ∷ [] else rule.Says (line.Migration stage.Frozen p) ∷ rule.Says (line.Migration stage.Asked p) ∷ to_kernel kind.Ask machine ∷ [])) same);
+      next = next;
+      after = refl;
+      placed = l;
+      mirrors = mirrors_view pt.kernel pt.view next.view pt.addresses l refl h.mirrors;
+      kernel = record {
+        here = h.stands.here;
+        known = λ q off. known_stays pt next l l q (pt.view.queue m q) (pt.view.held m q) (pt.view.known m q) (k.records q) refl refl (λ j least. refl) (λ j least. refl) (h.stands.known q off);
+        no_server = h.stands.no_server;
+        ring = h.stands.ring;
+        inbox = ap (map l.bag) box ∙ h.others;
+        made = h.stands.made;
+        room = room_stays k.room _ _ _ taken h.stands.room;
+        servers = h.stands.servers;
+      };
+      sent = λ e. e ∙ (let f : (n : ℕ) → n ≡ n + 0 = λ n. omega arith in f (pt.view.count m));
+      elsewhere = record {
+        acting = refl;
+        groups = refl;
+        pair = λ a c. refl;
+        inbox = λ n off. machine_off pt.view.inbox m n (without_front y.id (pt.view.inbox m)) off;
+        ring = λ n off. refl;
+        known = λ n q off. refl;
+        queue = λ n q off. refl;
+        held = λ n q off. refl;
+        count = λ n. refl;
+        told = refl;
+        machines = refl;
+        made = λ n off. refl;
+        process = λ n q off has. refl;
+        ended = λ n q off over. refl;
+        life = λ n q off has. refl;
+        bag = λ i spot away least. refl;
+        board = λ off. refl;
+        manager = λ off. refl;
+      };
+      may = tt;
+      late_may = tt;
+      single = omega arith;
+      topic = tt;
+      own = own_stays pt.view next.view l refl h.own;
+      tokens = tokens_one pt.view next.view l l records (at_machine records m k.records) p
+          (record {
+            told = refl;
+            asked = λ q off. refl;
+            processes = λ q off. refl;
+            records = λ n q off. records_as records m n k.records k.records q h.records_here refl;
+            came = λ i t spot told between least. (let g = stood m y.id h.ids pt.view next.view i spot h.box gone least in ((g.spot, g.stands), refl));
+            none = λ i t spot told between about least. (let g = stood m y.id h.ids pt.view next.view i spot h.box gone least in none_rests b pt m p i t g.spot h.run at_m told between about g.stands);
+          }) h.tokens;
+    }
+
+-- what it takes of the room stays, where what is known of it takes the same
+room_at : (f : ℕ → Pid → Known) (m : ℕ) (p q : Pid) (n : Known) → takes_room n ≡ takes_room (f m p) → takes_room (at_record f m p n m q) ≡ takes_room (f m q)
+room_at f m p q n same = elim (cases_Bool (pid_eq p q)) [
+  | inl is ↦ subst (λ (z : Pid). takes_room (at_record f m p n m z) ≡ takes_room (f m z)) (pid_eq-is p q is) (ap takes_room (record_self f m p n (pid_eq-same p)) ∙ same)
+  | inr off ↦ ap takes_room (record_others f m p q n off)
+]
+
+pub taken_at_record : (pt next : Point) (m : ℕ) (p q : Pid) (n : Known) → next.kernel.processes ≡ pt.kernel.processes → next.view.known m q ≡ at_record pt.view.known m p n m q → takes_room n ≡ takes_room (pt.view.known m p) → taken_by next m q ≡ taken_by pt m q
+taken_at_record pt next m p q n lives known same =
+    let room : takes_room (next.view.known m q) ≡ takes_room (pt.view.known m q) = ap takes_room known ∙ room_at pt.view.known m p q n same in
+    λ i. record { slots = room i; blocks = if room i == 0 then 0 else blocks_of (kernel.alive (lives i q)) }
+
+off_eq : (m n : ℕ) → m ≢ n → (m == n) ≡ false
+off_eq m n apart = elim (eqb_tells m n) [
+  | inl e ↦ absurd (apart e.1)
+  | inr e ↦ e.0
+]
+
+-- to another machine
+asks_other : (b : Boot) (m : ℕ) (pt : Point) (l : Placed) (records : AllRecords) (k : KernelState) (y : Message) (machine : ℕ) → Hearing b m pt l records k (record y { what = what.Migrate machine }) → pt.view.known m y.to.pid ≡ Here → m ≢ machine
+    → ((x : Process) → k.records y.to.pid ≡ Some (record_.Here x) → CanMove x) → TurnsAt b m pt l records k
+asks_other b m pt l records k y machine h at_m apart whole =
+    let z : Message = record y { what = what.Migrate machine } in
+    let v = pt.view in
+    let p = y.to.pid in
+    let s : KernelState = record k { inbox = h.rest } in
+    let loose = migrates_loose b m pt l records k y machine h in
+    let server : is_server p ≡ false = second_off (p.num == 0) (is_server p) loose in
+    let here = here_is pt l p (v.queue m p) (v.held m p) (k.records p) (subst (λ (n : Known). KnownStands pt l p (v.queue m p) (v.held m p) n (k.records p)) at_m (h.stands.known p server)) in
+    let x = here.process in
+    let placed_x : Process = record x { queue = here.stands.0.0 } in
+    let x_is : x.pid ≡ p = (h.mirrors.places.process p placed_x here.stands.0.1).pid in
+    let state : KernelState = with_sent (with_frozen s p x machine) in
+    let ask : Message = own s (kernel_at machine) (ask_of x None) in
+    let to : ℕ = target_of (front_told v (v.inbox m)) in
+    let to_is : to ≡ machine = ap (λ (ids : List MsgId). target_of (front_told v ids)) h.box ∙ ap target_of h.told in
+    let next : Point = moved (moved (begun pt m) (line.Migration stage.Frozen p) pt.kernel) (line.Migration stage.Asked p) pt.kernel in
+    let after_records : AllRecords = at_machine records m state.records in
+    let box : next.view.inbox m ≡ h.ids = machine_self v.inbox m (without_first (v.inbox m)) ∙ ap without_first h.box in
+    let gone : FrontGone m h.ids v next.view = record {
+      inbox = λ j least. inl (subst (λ (ids : List MsgId). 1 ≤ times j ids) box least);
+      others = λ n off. machine_off v.inbox m n (without_first (v.inbox m)) off;
+      queue = λ n q j least. least;
+      held = λ n q j least. least;
+      pair = λ a c. refl;
+    } in
+    let none_held : v.held m p ≡ [] = h.run.based.lists.held m p (ap has_nothing_held at_m) in
+    let frozen_known : next.view.known m p ≡ Frozen machine = record_self v.known m p (Frozen to) (pid_eq-same p) ∙ ap Frozen to_is in
+    let frozen_record : state.records p ≡ Some (record_.Frozen (frozen x machine None)) = ap (λ (c : Bool). if c then Some (record_.Frozen (frozen x machine None)) else k.records p) (pid_eq-same p) in
+    let leaves : LeavesStand l p (v.queue m p) (v.held m p) machine (frozen x machine None) = record {
+      to = refl;
+      asker = refl;
+      here = here.stands;
+      held = ap (map l.bag) none_held;
+      whole = whole x here.is;
+    } in
+    let mine : KnownStands next l p (v.queue m p) (v.held m p) (next.view.known m p) (state.records p) =
+    subst (KnownStands next l p (v.queue m p) (v.held m p) (next.view.known m p)) (sym frozen_record)
+    (subst (λ (n : Known). KnownStands next l p (v.queue m p) (v.held m p) n (Some (record_.Frozen (frozen x machine None)))) (sym frozen_known) leaves) in
+    let taken = taken_same pt next m refl (λ n. refl) (λ q. taken_at_record pt next m p q (Frozen to) refl refl (sym (ap takes_room at_m))) in
+    let off_here : (machine == k.here) ≡ false = ap (λ (n : ℕ). machine == n) h.stands.here ∙ off_eq machine m (λ e. apart (sym e)) in
+    let off_rule : (m == machine) ≡ false = off_eq m machine apart in
+    let id_is : ask.id ≡ own_id next.view = own_is b m pt l records k z h in
+    record {
+      state = state;
+      says = line.Migration stage.Frozen p ∷ line.Migration stage.Asked p ∷ [];
+      routes = Own ask ∷ [];
+      late = Nothing;
+      turn = turn_hears b m pt l records k z h (freezes s p x machine)
+          (to_process b s z (Some (record_.Here x)) loose here.is ∙ ap (λ (c : Bool). if c then turned s (part.Says (line.Here y.id) ∷ []) else freezes s p x machine) off_here);
+      outcome = outcome_hears b m pt l records k z h (Some (rule.Says (line.Migration stage.Frozen p) ∷ rule.Says (line.Migration stage.Asked p) ∷ to_kernel kind.Ask machine ∷ []))
+          (process_hears b pt m y.id (told_of z) Here loose at_m
+          ∙ ap (λ (c : Bool). Some (if c then rule.Says (line.Here y.id) ∷ [] else rule.Says (line.Migration stage.Frozen p) ∷ rule.Says (line.Migration stage.Asked p) ∷ to_kernel kind.Ask machine ∷ [])) off_rule);
+      next = next;
+      after = refl;
+      placed = l;
+      mirrors = mirrors_view pt.kernel v next.view pt.addresses l refl h.mirrors;
+      kernel = stands_one b pt next l l m k state p
+          (record {
+            here = refl;
+            records = λ q off. ap (λ (c : Bool). if c then Some (record_.Frozen (frozen x machine None)) else k.records q) off;
+            queue = λ q off. refl;
+            held = λ q off. refl;
+            known = λ q off. record_others v.known m p q (Frozen to) off;
+            processes = λ q off. refl;
+            lives = λ q off. refl;
+            waits = λ q j off least. refl;
+            kept = λ q j off least. refl;
+            server = server;
+            mine = mine;
+          }) h.stands
+          (ap (without p) h.stands.ring ∙ sym (machine_self v.ring m (without p (v.ring m))))
+          (ap (map l.bag) box ∙ h.others)
+          h.stands.made
+          (room_stays k.room _ _ _ taken h.stands.room)
+          h.stands.servers;
+      sent = λ e. ap (λ (n : ℕ). n + 1) e;
+      elsewhere = record {
+        acting = refl;
+        groups = refl;
+        pair = λ a c. refl;
+        inbox = λ n off. machine_off v.inbox m n (without_first (v.inbox m)) off;
+        ring = λ n off. machine_off v.ring m n (without p (v.ring m)) off;
+        known = λ n q off. record_off v.known m n p q (Frozen to) off;
+        queue = λ n q off. refl;
+        held = λ n q off. refl;
+        count = λ n. refl;
+        told = refl;
+        machines = refl;
+        made = λ n off. refl;
+        process = λ n q off has. refl;
+        ended = λ n q off over. refl;
+        life = λ n q off has. refl;
+        bag = λ i spot away least. refl;
+        board = λ off. refl;
+        manager = λ off. refl;
+      };
+      may = (
+        may_between next l after_records m machine p ask (record {
+          acting = refl;
+          id = id_is;
+          plain = refl;
+          encloses = refl;
+          gives = refl;
+          to = refl;
+          sender = ap kernel_at h.stands.here;
+          bag = ap l.bag id_is ∙ absent_next b pt l m h.run h.mirrors h.own;
+          untold = ap v.told id_is ∙ untold_next b pt m h.run;
+          from = h.stands.here;
+          about = ap Of x_is;
+          topic = refl;
+          process = placed_x;
+          there = here.stands.0.1;
+          carries = refl;
+        }),
+        tt,
+      );
+      late_may = tt;
+      single = omega arith;
+      topic = tt;
+      own = own_stays v next.view l refl h.own;
+      tokens = tokens_one v next.view l l records after_records p
+          (record {
+            told = refl;
+            asked = λ q off. refl;
+            processes = λ q off. refl;
+            records = λ n q off. records_as records m n k.records state.records q h.records_here (ap (λ (c : Bool). if c then Some (record_.Frozen (frozen x machine None)) else k.records q) off);
+            came = λ i t spot told between least. (let g = stood m y.id h.ids v next.view i spot h.box gone least in ((g.spot, g.stands), refl));
+            none = λ i t spot told between about least. (let g = stood m y.id h.ids v next.view i spot h.box gone least in none_rests b pt m p i t g.spot h.run at_m told between about g.stands);
+          }) h.tokens;
+    }
+
+-- the process can be carried whole, where it is sent off
+whole_here : (b : Boot) (m : ℕ) (k : KernelState) (y : Message) (machine : ℕ) (x : Process) → is_fixed y.to.pid ≡ false → k.here ≡ m → m ≢ machine → FreezesReceiverWhole k (record y { what = what.Migrate machine }) → k.records y.to.pid ≡ Some (record_.Here x) → CanMove x
+whole_here b m k y machine x loose at_m apart whole is =
+    let p = y.to.pid in
+    let (num, board, manage) = three_off (p.num == 0) (pid_eq p switchboard) (pid_eq p manager) loose in
+    subst (KnownIsWhole k.here (what.Migrate machine)) is (whole num board manage) (λ e. apart (sym (e ∙ at_m)))
+
+pub hears_migrate : (b : Boot) (m : ℕ) (pt : Point) (l : Placed) (records : AllRecords) (k : KernelState) (y : Message) (machine : ℕ) → Hearing b m pt l records k y → y.what ≡ what.Migrate machine → pt.view.known m y.to.pid ≡ Here → FreezesReceiverWhole k y → TurnsAt b m pt l records k
+hears_migrate b m pt l records k y machine h is at_m whole =
+    let same : y ≡ record y { what = what.Migrate machine } = ap (λ (w : What). record y { what = w }) is in
+    let g : Hearing b m pt l records k (record y { what = what.Migrate machine }) = subst (Hearing b m pt l records k) same h in
+    elim (eqb_tells m machine) [
+      | inl e ↦ here_already b m pt l records k y machine g at_m e.1
+      | inr e ↦
+          asks_other b m pt l records k y machine g at_m e.1
+          (λ x there. whole_here b m k y machine x (migrates_loose b m pt l records k y machine g) h.stands.here e.1 (subst (FreezesReceiverWhole k) same whole) there)
+    ]

@@ -1,0 +1,159 @@
+-- What is known of processes where at most one of them changes, and what the messages of migrations under way still carry.
+use Rattle.std.proofs.Common.{◌≡◌, ℕ, ◌≤◌, true, false, List, refl, ap, ◌∙◌, sym, subst, inl, inr}
+use Rattle.std.specs.Prelude.{slice_get}
+use Rattle.std.specs.declared.option.Option.{Option}
+use Rattle.std.specs.declared.option.Option.TheVariants.{None, Some}
+use Rattle.std.proofs.lemmas.Bool.{cases_Bool}
+use Rattle.dm_link.specs.declared.Pid.{Pid}
+use Rattle.dm_link.specs.Names.{pid_eq}
+use Rattle.dm_message.specs.declared.MsgId.{MsgId}
+use Rattle.dm_process.specs.declared.process.Process.{Process}
+use Rattle.dm_records.specs.declared.record.Record.TheVariants as record_
+use Rattle.dm_records.specs.Records.{incoming_of}
+use Rattle.dm_migrate.specs.Departure.{Departure}
+use Rattle.dm_onekernel.specs.declared.boot.Boot.{Boot}
+use Rattle.dm_onekernel.specs.Step as kernel
+use Rattle.dm_kernel.specs.Begun.{room_of}
+use Rattle.dm_kernel.specs.State as machine
+use Rattle.dm_kernel.specs.State.{KernelState}
+use Rattle.dm_laws.proofs.Equal.{pid_eq-is}
+use Rattle.dm_rule.specs.Phases.{is_between}
+use Rattle.dm_rule.specs.Point.{Point}
+use Rattle.dm_rule.specs.Rule.{taken_at}
+use Rattle.dm_rule.specs.Spots.{Spot, times, standing}
+use Rattle.dm_rule.specs.View.{Known, Unknown, Here, Frozen, Incoming, Forward, Ended, Of, Told, View}
+use Rattle.dm_rulelaws.specs.Fits.{is_server}
+use Rattle.dm_places.specs.Placed.{Placed}
+use Rattle.dm_mirror.specs.Own.{AllOwnStand}
+use Rattle.dm_mirror.specs.Stands.{AreMessages, HereStands, KnownStands, KernelStands, LeavesStand, RoomStands, servers_at}
+use Rattle.dm_mirror.specs.Tokens.{AllRecords, Carries, TokensStand, destination_of}
+use Rattle.dm_mirror.proofs.Handle.Frames.{map_same}
+
+-- what is known of a process that stays as it is
+pub known_stays : (pt next : Point) (l placed : Placed) (p : Pid) (queue held : List MsgId) (k : Known) (r : Option machine.Known) → placed.processes p ≡ l.processes p → next.kernel.processes p ≡ pt.kernel.processes p
+    → ((j : MsgId) → 1 ≤ times j queue → placed.bag j ≡ l.bag j) → ((j : MsgId) → 1 ≤ times j held → placed.bag j ≡ l.bag j) → KnownStands pt l p queue held k r → KnownStands next placed p queue held k r
+known_stays pt next l placed p queue held Unknown None same life waits kept h = tt
+known_stays pt next l placed p queue held Here (Some (record_.Here x)) same life waits kept h = ((h.0.0, same ∙ h.0.1), map_same l.bag placed.bag queue waits ∙ h.1)
+known_stays pt next l placed p queue held (Frozen to) (Some (record_.Frozen d)) same life waits kept h = record {
+  to = h.to;
+  asker = h.asker;
+  here = ((h.here.0.0, same ∙ h.here.0.1), map_same l.bag placed.bag queue waits ∙ h.here.1);
+  held = map_same l.bag placed.bag held kept ∙ h.held;
+  whole = h.whole;
+}
+known_stays pt next l placed p queue held (Incoming from) (Some (record_.Incoming a)) same life waits kept h = record {
+  process = h.process;
+  there = same ∙ h.there;
+  whole = h.whole;
+  pieces = h.pieces;
+  held = map_same l.bag placed.bag held kept ∙ h.held;
+}
+known_stays pt next l placed p queue held (Forward at moves) (Some (record_.Forward to count)) same life waits kept h = h
+known_stays pt next l placed p queue held Ended (Some (record_.Ended y)) same life waits kept h = ap kernel.ended life ∙ h
+known_stays pt next l placed p queue held k r same life waits kept h = absurd h
+
+-- a process that is here, and one that leaves
+pub record IsHere (l : Placed) (p : Pid) (queue : List MsgId) (r : Option machine.Known) : Type 0 where
+  pub process : Process
+  pub is : r ≡ Some (record_.Here process)
+  pub stands : HereStands l p queue process
+
+pub here_is : (pt : Point) (l : Placed) (p : Pid) (queue held : List MsgId) (r : Option machine.Known) → KnownStands pt l p queue held Here r → IsHere l p queue r
+here_is pt l p queue held (Some (record_.Here x)) h = record { process = x; is = refl; stands = h }
+here_is pt l p queue held None h = absurd h
+here_is pt l p queue held (Some (record_.Frozen d)) h = absurd h
+here_is pt l p queue held (Some (record_.Incoming a)) h = absurd h
+here_is pt l p queue held (Some (record_.Forward to count)) h = absurd h
+here_is pt l p queue held (Some (record_.Ended y)) h = absurd h
+
+pub record IsLeaving (l : Placed) (p : Pid) (queue held : List MsgId) (to : ℕ) (r : Option machine.Known) : Type 0 where
+  pub departure : Departure
+  pub is : r ≡ Some (record_.Frozen departure)
+  pub stands : LeavesStand l p queue held to departure
+
+pub leaving_is : (pt : Point) (l : Placed) (p : Pid) (queue held : List MsgId) (to : ℕ) (r : Option machine.Known) → KnownStands pt l p queue held (Frozen to) r → IsLeaving l p queue held to r
+leaving_is pt l p queue held to (Some (record_.Frozen d)) h = record { departure = d; is = refl; stands = h }
+leaving_is pt l p queue held to None h = absurd h
+leaving_is pt l p queue held to (Some (record_.Here x)) h = absurd h
+leaving_is pt l p queue held to (Some (record_.Incoming a)) h = absurd h
+leaving_is pt l p queue held to (Some (record_.Forward at count)) h = absurd h
+leaving_is pt l p queue held to (Some (record_.Ended y)) h = absurd h
+
+-- another kernel of machine m for another point, where only process p may have changed
+pub record SetsOne (pt next : Point) (l placed : Placed) (m : ℕ) (k s : KernelState) (p : Pid) : Type 0 where
+  pub here : s.here ≡ k.here
+  pub records : (q : Pid) → pid_eq p q ≡ false → s.records q ≡ k.records q
+  pub queue : (q : Pid) → pid_eq p q ≡ false → next.view.queue m q ≡ pt.view.queue m q
+  pub held : (q : Pid) → pid_eq p q ≡ false → next.view.held m q ≡ pt.view.held m q
+  pub known : (q : Pid) → pid_eq p q ≡ false → next.view.known m q ≡ pt.view.known m q
+  pub processes : (q : Pid) → pid_eq p q ≡ false → placed.processes q ≡ l.processes q
+  pub lives : (q : Pid) → pid_eq p q ≡ false → next.kernel.processes q ≡ pt.kernel.processes q
+  pub waits : (q : Pid) (j : MsgId) → pid_eq p q ≡ false → 1 ≤ times j (pt.view.queue m q) → placed.bag j ≡ l.bag j
+  pub kept : (q : Pid) (j : MsgId) → pid_eq p q ≡ false → 1 ≤ times j (pt.view.held m q) → placed.bag j ≡ l.bag j
+  -- it is no server, and this is known of it then
+  pub server : is_server p ≡ false
+  pub mine : KnownStands next placed p (next.view.queue m p) (next.view.held m p) (next.view.known m p) (s.records p)
+
+known_one : (b : Boot) (pt next : Point) (l placed : Placed) (m : ℕ) (k s : KernelState) (p q : Pid) → is_server q ≡ false → SetsOne pt next l placed m k s p → KernelStands b pt l m k
+    → KnownStands next placed q (next.view.queue m q) (next.view.held m q) (next.view.known m q) (s.records q)
+known_one b pt next l placed m k s p q server w h = elim (cases_Bool (pid_eq p q)) [
+  | inl same ↦ subst (λ (z : Pid). KnownStands next placed z (next.view.queue m z) (next.view.held m z) (next.view.known m z) (s.records z)) (pid_eq-is p q same) w.mine
+  | inr apart ↦
+      let on = known_stays pt next l placed q (pt.view.queue m q) (pt.view.held m q) (pt.view.known m q) (k.records q) (w.processes q apart) (w.lives q apart) (λ j least. w.waits q j apart least) (λ j least. w.kept q j apart least) (h.known q server) in
+      subst (KnownStands next placed q (next.view.queue m q) (next.view.held m q) (next.view.known m q)) (sym (w.records q apart))
+      (subst (λ (z : Known). KnownStands next placed q (next.view.queue m q) (next.view.held m q) z (k.records q)) (sym (w.known q apart))
+      (subst (λ (z : List MsgId). KnownStands next placed q (next.view.queue m q) z (pt.view.known m q) (k.records q)) (sym (w.held q apart))
+      (subst (λ (z : List MsgId). KnownStands next placed q z (pt.view.held m q) (pt.view.known m q) (k.records q)) (sym (w.queue q apart)) on)))
+]
+
+servers_one : (b : Boot) (pt next : Point) (l placed : Placed) (m : ℕ) (k s : KernelState) (p q : Pid) → is_server q ≡ true → SetsOne pt next l placed m k s p → KernelStands b pt l m k → s.records q ≡ None
+servers_one b pt next l placed m k s p q server w h = elim (cases_Bool (pid_eq p q)) [
+  | inl same ↦ absurd (let e : false ≡ true = sym w.server ∙ ap is_server (pid_eq-is p q same) ∙ server in cc)
+  | inr apart ↦ w.records q apart ∙ h.no_server q server
+]
+
+pub stands_one : (b : Boot) (pt next : Point) (l placed : Placed) (m : ℕ) (k s : KernelState) (p : Pid) → SetsOne pt next l placed m k s p → KernelStands b pt l m k → s.ring ≡ next.view.ring m → AreMessages placed.bag (next.view.inbox m) s.inbox
+    → s.made ≡ next.kernel.made m → RoomStands s.room (room_of (slice_get b.machines m)) (taken_at next m next.kernel.machines) → s.servers ≡ servers_at placed m → KernelStands b next placed m s
+stands_one b pt next l placed m k s p w h ring inbox made room servers = record {
+  here = w.here ∙ h.here;
+  known = λ q server. known_one b pt next l placed m k s p q server w h;
+  no_server = λ q server. servers_one b pt next l placed m k s p q server w h;
+  ring = ring;
+  inbox = inbox;
+  made = made;
+  room = room;
+  servers = servers;
+}
+
+-- the messages of the migrations of other processes carry what they carried, where none of this process's stands anywhere
+pub record TokensOne (v w : View) (l placed : Placed) (before after : AllRecords) (p : Pid) : Type 0 where
+  pub told : w.told ≡ v.told
+  pub asked : (q : Pid) → pid_eq p q ≡ false → w.asked q ≡ v.asked q
+  pub processes : (q : Pid) → pid_eq p q ≡ false → placed.processes q ≡ l.processes q
+  pub records : (n : ℕ) (q : Pid) → pid_eq p q ≡ false → after n q ≡ before n q
+  pub came : (i : MsgId) (t : Told) (z : Spot) → v.told i ≡ Some t → is_between t.kind ≡ true → 1 ≤ standing w i z → ((y : Spot) × (1 ≤ standing v i y)) × (placed.bag i ≡ l.bag i)
+  pub none : (i : MsgId) (t : Told) (z : Spot) → v.told i ≡ Some t → is_between t.kind ≡ true → t.about ≡ Of p → 1 ≤ standing w i z → ⊥
+
+pub tokens_one : (v w : View) (l placed : Placed) (before after : AllRecords) (p : Pid) → TokensOne v w l placed before after p → TokensStand v l before → TokensStand w placed after
+tokens_one v w l placed before after p c h q i t z told between about st =
+    let was : v.told i ≡ Some t = ap (λ (f : MsgId → Option Told). f i) (sym c.told) ∙ told in
+    elim (cases_Bool (pid_eq p q)) [
+      | inl same ↦ absurd (c.none i t z was between (about ∙ ap Of (sym (pid_eq-is p q same))) st)
+      | inr apart ↦
+          let g = c.came i t z was between st in
+          let x = h q i t g.0.0 was between about g.0.1 in
+          let d = destination_of i t in
+          record {
+            process = x.process;
+            there = c.processes q apart ∙ x.there;
+            message = x.message;
+            is = g.1 ∙ x.is;
+            sender = x.sender;
+            carries = subst (λ (n : ℕ). Carries q x.process n (incoming_of (after d q)) x.message.what) (sym (c.asked q apart))
+                (subst (λ (r : Option machine.Known). Carries q x.process (v.asked q) (incoming_of r) x.message.what) (sym (c.records d q apart)) x.carries);
+          }
+    ]
+
+-- what was told stays
+pub own_stays : (v w : View) (l : Placed) → w.told ≡ v.told → AllOwnStand v l → AllOwnStand w l
+own_stays v w l e h i x there own = let g = h i x there own in record { told = ap (λ (f : MsgId → Option Told). f i) e ∙ g.told; mine = g.mine; sender = g.sender }

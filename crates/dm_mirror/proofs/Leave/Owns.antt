@@ -1,0 +1,181 @@
+-- The next message of a machine's kernel, where it goes to another kernel and is about a process that leaves.
+use Rattle.std.proofs.Common.{◌≡◌, ℕ, ◌≤◌, ◌==◌, ◌||◌, Bool, true, false, List, [], ◌∷◌, refl, ap, ◌∙◌, sym, subst, inl, inr, arith}
+use Rattle.std.specs.Prelude.{if◌then◌else◌}
+use Rattle.std.specs.declared.option.Option.{Option}
+use Rattle.std.specs.declared.option.Option.TheVariants.{None, Some}
+use Rattle.std.proofs.lemmas.Bool.{false≢true}
+use Rattle.std.proofs.lemmas.Bool.Decides.{eqb_tells}
+use Rattle.dm_link.specs.declared.Addr.{Addr}
+use Rattle.dm_link.specs.declared.Pid.{Pid}
+use Rattle.dm_link.specs.Names.{pid_of, pid_eq, place_of}
+use Rattle.dm_linkupdate.specs.Notice.{kernel_at}
+use Rattle.dm_message.specs.declared.Message.{Message}
+use Rattle.dm_message.specs.declared.MsgId.{MsgId}
+use Rattle.dm_message.specs.Ids.{id_of}
+use Rattle.dm_message.specs.declared.What.{What}
+use Rattle.dm_message.specs.declared.What.TheVariants as what
+use Rattle.dm_message.specs.declared.kind.MessageKind.TheVariants as kind
+use Rattle.dm_migrate.specs.Arrival.{Arrival}
+use Rattle.dm_message.specs.Kinds.{kind_of}
+use Rattle.dm_message.specs.Plain.{PlainMessage, plain_message}
+use Rattle.dm_process.specs.declared.process.Process.{Process}
+use Rattle.dm_records.specs.Records.{incoming_of}
+use Rattle.dm_onekernel.specs.declared.boot.Boot.{Boot}
+use Rattle.dm_onekernel.specs.Boot.{switchboard, manager}
+use Rattle.dm_onekernel.specs.Options.{bind}
+use Rattle.dm_kernel.specs.Handle.{board_handles, handles, kernel_handles, manager_handles, process_handles}
+use Rattle.dm_kernel.specs.State as machine
+use Rattle.dm_kernel.specs.State.{KernelState, Turned}
+use Rattle.dm_laws.proofs.Equal.{id_eq-same}
+use Rattle.dm_rule.specs.Addresses.{Gets, Receiver, Sender, gets, given, own_gives, unmoved}
+use Rattle.dm_rule.specs.Migrating.{process_told, server_told}
+use Rattle.dm_rule.specs.Point.{Point}
+use Rattle.dm_rule.specs.Rule.{hears, kernel_hears}
+use Rattle.dm_line.specs.Sets.{at_machine}
+use Rattle.dm_rule.specs.View.{Known, Of, Told, own_id, is_kernels}
+use Rattle.dm_rule.proofs.Letters.{not_kernels}
+use Rattle.dm_rulelaws.specs.Found.{is_fixed}
+use Rattle.dm_rulelaws.proofs.Runs.{Run}
+use Rattle.dm_places.specs.Placed.{Placed, Mirrors, enclosed}
+use Rattle.dm_mirror.specs.Own.{AllOwnStand, about_of, told_of}
+use Rattle.dm_mirror.specs.Tokens.{AllRecords, Carries, destination_of}
+use Rattle.dm_mirror.proofs.Handle.Frames.{machine_self, machine_off}
+use Rattle.dm_mirror.proofs.Leave.Fronts.{Hearing}
+use Rattle.dm_mirror.proofs.Turning.{IsCarried, MayOwn}
+
+-- what a kernel has not counted was not told, and isn't in the bag
+absent_by : (b : Boot) (pt : Point) (l : Placed) (i : MsgId) (o : Option Message) (p : Option PlainMessage) → Run b pt → Mirrors pt.kernel pt.view pt.addresses l → AllOwnStand pt.view l → is_kernels i ≡ true → pt.view.told i ≡ None → l.bag i ≡ o → bind o plain_message ≡ p → o ≡ None
+absent_by b pt l i None p run mirrors own mine untold is plain = refl
+absent_by b pt l i (Some x) None run mirrors own mine untold is plain = absurd (let e : Some (told_of x) ≡ None = sym (own i x is plain).told ∙ untold in cc)
+absent_by b pt l i (Some x) (Some w) run mirrors own mine untold is plain =
+    let s = run.based.phased.state in
+    let there : pt.kernel.bag i ≡ Some w = sym (mirrors.plain.bag i) ∙ ap (λ (z : Option Message). bind z plain_message) is ∙ plain in
+    absurd (false≢true (sym (not_kernels s.r s.e pt.kernel i w there s.sound) ∙ mine))
+
+pub untold_next : (b : Boot) (pt : Point) (m : ℕ) → Run b pt → pt.view.told (id_of (pid_of m 0) (pt.view.count m)) ≡ None
+untold_next b pt m run = run.based.phased.state.numbered m (pt.view.count m) (let same : (n : ℕ) → n ≤ n = λ n. omega arith in same (pt.view.count m))
+
+pub absent_next : (b : Boot) (pt : Point) (l : Placed) (m : ℕ) → Run b pt → Mirrors pt.kernel pt.view pt.addresses l → AllOwnStand pt.view l → l.bag (id_of (pid_of m 0) (pt.view.count m)) ≡ None
+absent_next b pt l m run mirrors own =
+    let i = id_of (pid_of m 0) (pt.view.count m) in
+    absent_by b pt l i (l.bag i) (bind (l.bag i) plain_message) run mirrors own refl (untold_next b pt m run) refl refl
+
+-- the machine's name of it is the rule's
+pub own_is : (b : Boot) (m : ℕ) (pt : Point) (l : Placed) (records : AllRecords) (k : KernelState) (y : Message) → Hearing b m pt l records k y → machine.own_id k ≡ id_of (pid_of m 0) (pt.view.count m)
+own_is b m pt l records k y h = λ i. record { from = record { home = h.stands.here i; num = 0 }; n = h.sent i; answer = false }
+
+-- a message to the kernel of a machine c, about process p
+pub record Between (pt : Point) (placed : Placed) (records : AllRecords) (m c : ℕ) (p : Pid) (x : Message) : Type 0 where
+  pub acting : pt.view.acting ≡ m
+  pub id : x.id ≡ own_id pt.view
+  pub plain : plain_message x ≡ None
+  pub encloses : enclosed x.what ≡ []
+  pub gives : own_gives pt.kernel pt.view pt.addresses x.id x.to.pid (kind_of x.what) ≡ gets (Receiver x.id) (unmoved x.to.pid.home) ∷ gets (Sender x.id) (unmoved pt.view.acting) ∷ []
+  pub to : x.to ≡ kernel_at c
+  pub sender : x.sender ≡ kernel_at m
+  pub bag : placed.bag x.id ≡ None
+  pub untold : pt.view.told x.id ≡ None
+  pub from : x.id.from.home ≡ m
+  pub about : about_of x.what ≡ Of p
+  pub topic : pt.view.topic ≡ Of p
+  pub process : Process
+  pub there : placed.processes p ≡ Some process
+  pub carries : Carries p process (pt.view.asked p) (incoming_of (records (destination_of x.id (told_of x)) p)) x.what
+
+of_is : (p q : Pid) → Of p ≡ Of q → p ≡ q
+of_is p q e = cc
+
+carried_of : (pt : Point) (placed : Placed) (records : AllRecords) (m c : ℕ) (p : Pid) (x : Message) → Between pt placed records m c p x → IsCarried placed (pt.view.asked p) records p x
+carried_of pt placed records m c p x h = record { process = h.process; there = h.there; sender = h.sender ∙ ap kernel_at (sym h.from); carries = h.carries }
+
+-- no message of a protocol asks to move
+no_request : (p : Pid) (x : Process) (n : ℕ) (a : Option Arrival) (w : What) → kind_of w ≡ kind.Migrate → Carries p x n a w → ⊥
+no_request p x n a (what.Ask pid blocks moves size asker) e h = cc
+no_request p x n a (what.Refuse pid slots blocks) e h = cc
+no_request p x n a (what.PullState pid chunk) e h = cc
+no_request p x n a (what.State pid chunk last bytes) e h = cc
+no_request p x n a (what.PullBlock pid block) e h = cc
+no_request p x n a (what.Memory pid block bytes) e h = cc
+no_request p x n a (what.AllTaken pid) e h = cc
+no_request p x n a (what.Restart pid) e h = cc
+no_request p x n a (what.Migrate machine) e h = h
+no_request p x n a (what.Update about) e h = h
+no_request p x n a (what.CallOff pid) e h = h
+no_request p x n a (what.Bury pid) e h = h
+no_request p x n a (what.User code channel body links) e h = h
+no_request p x n a what.Stop e h = h
+no_request p x n a what.Resume e h = h
+no_request p x n a what.Kill e h = h
+no_request p x n a (what.Read base len) e h = h
+no_request p x n a (what.Write base bytes) e h = h
+no_request p x n a (what.Block bytes) e h = h
+no_request p x n a what.Written e h = h
+no_request p x n a what.Gone e h = h
+no_request p x n a (what.Create image links) e h = h
+no_request p x n a (what.Created pid) e h = h
+no_request p x n a what.NoRoom e h = h
+no_request p x n a (what.Move machine) e h = h
+no_request p x n a (what.Moved outcome) e h = h
+
+pub may_between : (pt : Point) (placed : Placed) (records : AllRecords) (m c : ℕ) (p : Pid) (x : Message) → Between pt placed records m c p x → MayOwn pt placed records x
+may_between pt placed records m c p x h =
+    let a = pt.addresses in
+    let q = x.to.pid in
+    let second : List Gets = gets (Sender x.id) (unmoved pt.view.acting) ∷ [] in
+    record {
+      id = h.id;
+      plain = h.plain;
+      encloses = h.encloses;
+      bag = h.bag;
+      untold = h.untold;
+      receiver = ap (λ (g : List Gets). given a g (Receiver x.id)) h.gives ∙ ap (λ (e : Bool). if e then unmoved q.home else given a second (Receiver x.id)) (id_eq-same x.id)
+          ∙ ap (λ (z : Addr). unmoved z.pid.home) h.to ∙ ap place_of (sym h.to);
+      sender = ap (λ (g : List Gets). given a g (Sender x.id)) h.gives ∙ ap (λ (e : Bool). if e then unmoved pt.view.acting else a (Sender x.id)) (id_eq-same x.id)
+          ∙ ap unmoved h.acting ∙ ap place_of (sym h.sender);
+      about = h.topic ∙ sym h.about;
+      asker = λ e. absurd (no_request p h.process (pt.view.asked p) (incoming_of (records (destination_of x.id (told_of x)) p)) x.what e h.carries);
+      carried = λ between r of_r. subst (λ (z : Pid). IsCarried placed (pt.view.asked z) records z x) (of_is p r (sym h.about ∙ of_r)) (carried_of pt placed records m c p x h);
+    }
+
+-- the receiver is a process, or the kernel
+pub three_off : (a b c : Bool) → (a || (b || c)) ≡ false → (a ≡ false) × (b ≡ false) × (c ≡ false)
+three_off false false false e = (refl, refl, refl)
+three_off false false true e = cc
+three_off false true c e = cc
+three_off true b c e = cc
+
+pub to_process : (b : Boot) (s : KernelState) (y : Message) (r : Option machine.Known) → is_fixed y.to.pid ≡ false → s.records y.to.pid ≡ r → handles b s y ≡ process_handles s y r
+to_process b s y r loose is =
+    let p = y.to.pid in
+    let (num, board, manage) = three_off (p.num == 0) (pid_eq p switchboard) (pid_eq p manager) loose in
+    ap (λ (c : Bool). if c then kernel_handles b s y y.what else if pid_eq p switchboard then board_handles s y s.servers else if pid_eq p manager then manager_handles s y s.servers else process_handles s y (s.records p)) num
+    ∙ ap (λ (c : Bool). if c then board_handles s y s.servers else if pid_eq p manager then manager_handles s y s.servers else process_handles s y (s.records p)) board
+    ∙ ap (λ (c : Bool). if c then manager_handles s y s.servers else process_handles s y (s.records p)) manage
+    ∙ ap (process_handles s y) is
+
+pub process_hears : (b : Boot) (pt : Point) (m : ℕ) (i : MsgId) (t : Told) (n : Known) → is_fixed t.receiver ≡ false → pt.view.known m t.receiver ≡ n → hears b pt m i (Some t) ≡ process_told pt m i t n
+process_hears b pt m i t n loose is =
+    let p = t.receiver in
+    let (num, board, manage) = three_off (p.num == 0) (pid_eq p switchboard) (pid_eq p manager) loose in
+    ap (λ (c : Bool). if c then kernel_hears b pt m i t.kind t.about else if pid_eq p switchboard then server_told pt i t t.kind else if pid_eq p manager then server_told pt i t t.kind else process_told pt m i t (pt.view.known m p)) num
+    ∙ ap (λ (c : Bool). if c then server_told pt i t t.kind else if pid_eq p manager then server_told pt i t t.kind else process_told pt m i t (pt.view.known m p)) board
+    ∙ ap (λ (c : Bool). if c then server_told pt i t t.kind else process_told pt m i t (pt.view.known m p)) manage
+    ∙ ap (process_told pt m i t) is
+
+pub to_kernel : (b : Boot) (s : KernelState) (y : Message) → (y.to.pid.num == 0) ≡ true → handles b s y ≡ kernel_handles b s y y.what
+to_kernel b s y num =
+    let p = y.to.pid in
+    ap (λ (c : Bool). if c then kernel_handles b s y y.what else if pid_eq p switchboard then board_handles s y s.servers else if pid_eq p manager then manager_handles s y s.servers else process_handles s y (s.records p)) num
+
+pub to_kernel_hears : (b : Boot) (pt : Point) (m : ℕ) (i : MsgId) (t : Told) → (t.receiver.num == 0) ≡ true → hears b pt m i (Some t) ≡ kernel_hears b pt m i t.kind t.about
+to_kernel_hears b pt m i t num =
+    let p = t.receiver in
+    ap (λ (c : Bool). if c then kernel_hears b pt m i t.kind t.about else if pid_eq p switchboard then server_told pt i t t.kind else if pid_eq p manager then server_told pt i t t.kind else process_told pt m i t (pt.view.known m p)) num
+
+-- the records of all machines, where those of machine m are these
+pub records_as : (records : AllRecords) (m n : ℕ) (f g : Pid → Option machine.Known) (q : Pid) → records m ≡ f → g q ≡ f q → at_machine records m g n q ≡ records n q
+records_as records m n f g q is same = elim (eqb_tells n m) [
+  | inl e ↦
+      subst (λ (z : ℕ). at_machine records m g z q ≡ records z q) (sym e.1) (ap (λ (r : Pid → Option machine.Known). r q) (machine_self records m g) ∙ same ∙ ap (λ (r : Pid → Option machine.Known). r q) (sym is))
+  | inr e ↦ ap (λ (r : Pid → Option machine.Known). r q) (machine_off records m n g e.1)
+]

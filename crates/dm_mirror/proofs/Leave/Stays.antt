@@ -1,0 +1,177 @@
+-- A process that was to leave stays: it is served again, and what was held comes before the inbox.
+use Rattle.std.proofs.Common.{◌≡◌, ◌≢◌, ◌⊎◌, ℕ, ◌+◌, ◌≤◌, ◌==◌, ◌&&◌, Bool, true, false, List, [], ◌∷◌, ◌++◌, map, nat_le, refl, ap, ◌∙◌, sym, subst, inl, inr, arith}
+use Rattle.std.specs.Prelude.{if◌then◌else◌}
+use Rattle.std.specs.declared.option.Option.{Option}
+use Rattle.std.specs.declared.option.Option.TheVariants.{Some}
+use Rattle.std.proofs.lemmas.Bool.{cases_Bool}
+use Rattle.std.proofs.lemmas.Bool.Decides.{nat_tests}
+use Rattle.dm_link.specs.declared.Pid.{Pid}
+use Rattle.dm_link.specs.Names.{pid_eq}
+use Rattle.dm_message.specs.declared.Message.{Message}
+use Rattle.dm_message.specs.declared.MsgId.{MsgId}
+use Rattle.dm_message.specs.declared.What.{What}
+use Rattle.dm_message.specs.declared.What.TheVariants as what
+use Rattle.dm_message.specs.declared.kind.MessageKind.TheVariants as kind
+use Rattle.dm_records.specs.declared.record.Record.TheVariants as record_
+use Rattle.dm_records.specs.Records.{frozen_of, with_record}
+use Rattle.dm_onekernel.specs.declared.boot.Boot.{Boot}
+use Rattle.dm_onekernel.specs.Options.{bind}
+use Rattle.dm_kernel.specs.Departing.{stays}
+use Rattle.dm_kernel.specs.State as machine
+use Rattle.dm_kernel.specs.State.{KernelState}
+use Rattle.dm_laws.proofs.Equal.{pid_eq-same}
+use Rattle.dm_line.specs.declared.line.Line.TheVariants as line
+use Rattle.dm_rule.specs.Parts as rule
+use Rattle.dm_rule.specs.Point.{Point, moved}
+use Rattle.dm_rule.specs.Rule.{takes_room}
+use Rattle.dm_line.specs.Sets.{at_machine, at_record}
+use Rattle.dm_rule.specs.Spots.{standing, times}
+use Rattle.dm_rule.specs.View.{Here, Known, without_first}
+use Rattle.dm_rule.proofs.Standing.{times-append}
+use Rattle.dm_places.specs.Placed.{Placed}
+use Rattle.dm_places.proofs.Lines.{mirrors_view}
+use Rattle.dm_mirror.specs.Own.{told_of}
+use Rattle.dm_mirror.specs.Stands.{AreMessages, KnownStands}
+use Rattle.dm_mirror.specs.Tokens.{AllRecords}
+use Rattle.dm_mirror.proofs.Handle.Frames.{machine_self, machine_off, record_self, record_off, record_others}
+use Rattle.dm_mirror.proofs.Rooms.{taken_same}
+use Rattle.dm_mirror.proofs.Leave.Frames.{own_stays, stands_one, tokens_one}
+use Rattle.dm_mirror.proofs.Leave.Fronts.{FrontGone, Hearing, front_nowhere, leaving, outcome_hears, stood, turn_hears}
+use Rattle.dm_mirror.proofs.Leave.Owns.{records_as, to_kernel, to_kernel_hears}
+use Rattle.dm_mirror.proofs.Leave.Asks.{room_stays, taken_at_record}
+use Rattle.dm_mirror.proofs.Leave.Pieces.{departing, kernel_number, leaves_alive, leaves_no_server}
+use Rattle.dm_mirror.proofs.Turning.{Nothing, TurnsAt, begun}
+
+-- messages of two lists, one after the other
+pub messages_append : (bag : MsgId → Option Message) (is js : List MsgId) (ms ns : List Message) → AreMessages bag is ms → AreMessages bag js ns → AreMessages bag (is ++ js) (ms ++ ns)
+messages_append bag [] js [] ns e f = f
+messages_append bag [] js (m ∷ ms) ns e f = cc
+messages_append bag (i ∷ is) js [] ns e f = cc
+messages_append bag (i ∷ is) js (m ∷ ms) ns e f =
+    let first : bag i ≡ Some m = cc in
+    let more : map bag is ≡ map Some ms = cc in
+    let rest : map bag (is ++ js) ≡ map Some (ms ++ ns) = messages_append bag is js ms ns more f in
+    λ c. first c ∷ rest c
+
+-- a list that is emptied has nothing
+pub less_at : (f : ℕ → Pid → List MsgId) (m n : ℕ) (p q : Pid) (j : MsgId) → 1 ≤ times j (at_record f m p [] n q) → 1 ≤ times j (f n q)
+less_at f m n p q j least = less_if ((m == n) && pid_eq p q) least
+  where
+    less_if : (c : Bool) → 1 ≤ times j (if c then [] else f n q) → 1 ≤ times j (f n q)
+    less_if true e = absurd (omega (arith, e))
+    less_if false e = e
+
+-- what stands in two lists stands in one of them
+pub in_one : (j : MsgId) (is js : List MsgId) → 1 ≤ times j (is ++ js) → (1 ≤ times j js) ⊎ (1 ≤ times j is)
+in_one j is js least = elim (cases_Bool (nat_le 1 (times j js))) [
+  | inl more ↦ inl (grind (arith, nat_tests))
+  | inr none ↦ inr (let e = times-append j is js in grind (arith, nat_tests))
+]
+
+refuses : (b : Boot) (m : ℕ) (pt : Point) (l : Placed) (records : AllRecords) (k : KernelState) (y : Message) (p : Pid) (slots blocks : ℕ) → Hearing b m pt l records k (record y { what = what.Refuse p slots blocks }) → TurnsAt b m pt l records k
+refuses b m pt l records k y p slots blocks h =
+    let z : Message = record y { what = what.Refuse p slots blocks } in
+    let v = pt.view in
+    let s : KernelState = record k { inbox = h.rest } in
+    let g = leaving b m pt l records k z p h refl refl refl refl in
+    let d = departing b m pt l records k z p h g in
+    let x = d.departure.process in
+    let there = d.stands.here.0.1 in
+    let num = kernel_number m y.to.pid g.receiver in
+    let server = leaves_no_server b pt m g.to p h.run g.known in
+    let state : KernelState = record s { records = with_record s.records p (record_.Here x); ring = s.ring ++ p ∷ []; inbox = d.departure.held ++ s.inbox } in
+    let next : Point = moved (begun pt m) (line.Stays p) pt.kernel in
+    let after_records : AllRecords = at_machine records m state.records in
+    let first : List MsgId = at_machine v.inbox m (without_first (v.inbox m)) m in
+    let first_is : first ≡ h.ids = machine_self v.inbox m (without_first (v.inbox m)) ∙ ap without_first h.box in
+    let box : next.view.inbox m ≡ v.held m p ++ h.ids = machine_self (at_machine v.inbox m (without_first (v.inbox m))) m (v.held m p ++ first) ∙ ap (λ (is : List MsgId). v.held m p ++ is) first_is in
+    let box_off : (n : ℕ) → n ≢ m → next.view.inbox n ≡ v.inbox n = λ n off. machine_off (at_machine v.inbox m (without_first (v.inbox m))) m n (v.held m p ++ first) off ∙ machine_off v.inbox m n (without_first (v.inbox m)) off in
+    let gone : FrontGone m h.ids v next.view = record {
+      inbox = λ j least. elim (in_one j (v.held m p) h.ids (subst (λ (ids : List MsgId). 1 ≤ times j ids) box least)) [
+        | inl more ↦ inl more
+        | inr kept ↦ inr (p, kept)
+      ];
+      others = box_off;
+      queue = λ n q j least. least;
+      held = λ n q j least. less_at v.held m n p q j least;
+      pair = λ a c. refl;
+    } in
+    let here_known : next.view.known m p ≡ Here = record_self v.known m p Here (pid_eq-same p) in
+    let here_record : state.records p ≡ Some (record_.Here x) = ap (λ (c : Bool). if c then Some (record_.Here x) else k.records p) (pid_eq-same p) in
+    let mine : KnownStands next l p (v.queue m p) (next.view.held m p) (next.view.known m p) (state.records p) =
+    subst (KnownStands next l p (v.queue m p) (next.view.held m p) (next.view.known m p)) (sym here_record)
+    (subst (λ (n : Known). KnownStands next l p (v.queue m p) (next.view.held m p) n (Some (record_.Here x))) (sym here_known) d.stands.here) in
+    let taken = taken_same pt next m refl (λ n. refl) (λ q. taken_at_record pt next m p q Here refl refl (sym (ap takes_room g.known))) in
+    record {
+      state = state;
+      says = line.Stays p ∷ [];
+      routes = [];
+      late = Nothing;
+      turn = turn_hears b m pt l records k z h (stays s p d.departure) (to_kernel b s z num ∙ ap (λ (r : Option machine.Known). bind (frozen_of r) (stays s p)) d.is);
+      outcome = outcome_hears b m pt l records k z h (Some (rule.Says (line.Stays p) ∷ []))
+          (to_kernel_hears b pt m y.id (told_of z) num ∙ leaves_alive b m pt l p (record x { queue = d.stands.here.0.0 }) y.id kind.Refuse (Some (rule.Says (line.Stays p) ∷ [])) there (h.mirrors.plain.processes p) refl);
+      next = next;
+      after = refl;
+      placed = l;
+      mirrors = mirrors_view pt.kernel v next.view pt.addresses l refl h.mirrors;
+      kernel = stands_one b pt next l l m k state p
+          (record {
+            here = refl;
+            records = λ q off. ap (λ (c : Bool). if c then Some (record_.Here x) else k.records q) off;
+            queue = λ q off. refl;
+            held = λ q off. record_others v.held m p q [] off;
+            known = λ q off. record_others v.known m p q Here off;
+            processes = λ q off. refl;
+            lives = λ q off. refl;
+            waits = λ q j off least. refl;
+            kept = λ q j off least. refl;
+            server = server;
+            mine = mine;
+          }) h.stands
+          (ap (λ (ring : List Pid). ring ++ p ∷ []) h.stands.ring ∙ sym (machine_self v.ring m (v.ring m ++ p ∷ [])))
+          (ap (map l.bag) box ∙ messages_append l.bag (v.held m p) h.ids d.departure.held h.rest d.stands.held h.others)
+          h.stands.made
+          (room_stays k.room _ _ _ taken h.stands.room)
+          h.stands.servers;
+      sent = λ e. e ∙ (let f : (n : ℕ) → n ≡ n + 0 = λ n. omega arith in f (v.count m));
+      elsewhere = record {
+        acting = refl;
+        groups = refl;
+        pair = λ a c. refl;
+        inbox = box_off;
+        ring = λ n off. machine_off v.ring m n (v.ring m ++ p ∷ []) off;
+        known = λ n q off. record_off v.known m n p q Here off;
+        queue = λ n q off. refl;
+        held = λ n q off. record_off v.held m n p q [] off;
+        count = λ n. refl;
+        told = refl;
+        machines = refl;
+        made = λ n off. refl;
+        process = λ n q off has. refl;
+        ended = λ n q off over. refl;
+        life = λ n q off has. refl;
+        bag = λ i spot away least. refl;
+        board = λ off. refl;
+        manager = λ off. refl;
+      };
+      may = tt;
+      late_may = tt;
+      single = omega arith;
+      topic = tt;
+      own = own_stays v next.view l refl h.own;
+      tokens = tokens_one v next.view l l records after_records p
+          (record {
+            told = refl;
+            asked = λ q off. refl;
+            processes = λ q off. refl;
+            records = λ n q off. records_as records m n k.records state.records q h.records_here (ap (λ (c : Bool). if c then Some (record_.Here x) else k.records q) off);
+            came = λ i t spot told between least. (let e = stood m y.id h.ids v next.view i spot h.box gone least in ((e.spot, e.stands), refl));
+            none = λ i t spot told between about least. (
+                let e = stood m y.id h.ids v next.view i spot h.box gone least in
+                let is : i ≡ y.id = g.alone i t e.spot told between about e.stands in
+                front_nowhere b m pt l records k z h next.view spot gone (subst (λ (j : MsgId). 1 ≤ standing next.view j spot) is least));
+          }) h.tokens;
+    }
+
+pub hears_refuse : (b : Boot) (m : ℕ) (pt : Point) (l : Placed) (records : AllRecords) (k : KernelState) (y : Message) (p : Pid) (slots blocks : ℕ) → Hearing b m pt l records k y → y.what ≡ what.Refuse p slots blocks → TurnsAt b m pt l records k
+hears_refuse b m pt l records k y p slots blocks h is = refuses b m pt l records k y p slots blocks (subst (Hearing b m pt l records k) (ap (λ (w : What). record y { what = w }) is) h)

@@ -1,0 +1,109 @@
+-- A machine's kernel that stands for a point may take a turn.
+use Rattle.std.proofs.Common.{◌≡◌, ℕ, ◌<◌, ◌==◌, ◌||◌, Bool, true, false, List, [], ◌∷◌, map, refl, ap, ◌∙◌, sym, subst, arith}
+use Rattle.std.specs.List.{All}
+use Rattle.std.specs.declared.option.Option.{Option}
+use Rattle.std.specs.declared.option.Option.TheVariants.{None, Some}
+use Rattle.std.proofs.lemmas.Bool.Decides.{nat_tests}
+use Rattle.std.proofs.lemmas.List.Elements.{All-head}
+use Rattle.dm_link.specs.declared.Pid.{Pid}
+use Rattle.dm_link.specs.Names.{pid_eq}
+use Rattle.dm_message.specs.declared.Message.{Message}
+use Rattle.dm_message.specs.declared.MsgId.{MsgId}
+use Rattle.dm_message.specs.Lawful.{IsLawfulMessage}
+use Rattle.dm_message.specs.Plain.{PlainMessage, plain_message}
+use Rattle.dm_onekernel.specs.declared.boot.Boot.{Boot}
+use Rattle.dm_onekernel.specs.Boot.{manager, switchboard}
+use Rattle.dm_laws.proofs.Equal.{pid_eq-is}
+use Rattle.dm_rule.specs.Point.{Point}
+use Rattle.dm_rulelaws.specs.Fits.{is_server}
+use Rattle.dm_rulelaws.proofs.Own.Told.{OwnTold}
+use Rattle.dm_rulelaws.proofs.Runs.{Run}
+use Rattle.dm_rulelaws.proofs.Goes.Front.{for_whom}
+use Rattle.dm_places.specs.Placed.{Placed, Mirrors}
+use Rattle.dm_kernel.specs.Lawful.{IsLawfulState}
+use Rattle.dm_kernel.specs.May.{FitsKnown, FrontMay, MayHandle, MayTurn}
+use Rattle.dm_kernel.specs.State.{KernelState}
+use Rattle.dm_mirror.specs.Made.{MadeStands}
+use Rattle.dm_mirror.specs.Stands.{KernelStands}
+use Rattle.dm_mirror.specs.Own.{AllOwnStand}
+use Rattle.dm_mirror.specs.Tokens.{TokensStand}
+use Rattle.dm_mirror.proofs.Counts.Few.{CountsFew}
+use Rattle.dm_mirror.proofs.May.Front.{FrontSo, for_board, for_manager, front_so, kernel_create, kernel_row}
+use Rattle.dm_mirror.proofs.May.Have.{may_act}
+use Rattle.dm_mirror.proofs.May.Process.{for_process}
+use Rattle.dm_mirror.proofs.May.Own.{own_board, own_front, own_manager, own_process}
+use Rattle.dm_mirror.proofs.May.OwnRows.{Around, own_kernel}
+
+-- the message at the front, one of the bag
+handles : (b : Boot) (pt : Point) (l : Placed) (m : ℕ) (k : KernelState) (i : MsgId) (x : Message) (p : PlainMessage) → Run b pt → MadeStands pt.kernel → CountsFew pt → Mirrors pt.kernel pt.view pt.addresses l → KernelStands b pt l m k → k.sent < 4294967295 → IsLawfulMessage x → FrontSo pt m i x p → MayHandle b k x
+handles b pt l m k i x p run made counts mirrors h sent lawful f = record {
+  lawful = lawful;
+  for_kernel = λ num.
+      let zero_ : p.to.num ≡ 0 = (let e : (p.to.num == 0) ≡ true = ap (λ (q : Pid). q.num == 0) (sym f.to) ∙ num in grind (arith, nat_tests)) in
+      let few = counts.made m in
+      let count = h.made in
+      kernel_row b pt k i x p p.what f.what_is (kernel_create pt.kernel p p.what (for_whom pt.kernel i p p.what f.fits) made zero_) f.fits run.based.images (omega (arith, few, count));
+  for_board = λ is. for_board pt l m k x i p made counts mirrors h.servers f (sym f.to ∙ pid_eq-is x.to.pid switchboard is);
+  for_manager = λ is. for_manager pt l m k x i p made counts mirrors h.servers f (sym f.to ∙ pid_eq-is x.to.pid manager is);
+  for_process = λ num board other.
+      let num_ : (p.to.num == 0) ≡ false = ap (λ (q : Pid). q.num == 0) (sym f.to) ∙ num in
+      let board_ : pid_eq p.to switchboard ≡ false = ap (λ (q : Pid). pid_eq q switchboard) (sym f.to) ∙ board in
+      let other_ : pid_eq p.to manager ≡ false = ap (λ (q : Pid). pid_eq q manager) (sym f.to) ∙ other in
+      let server : is_server p.to ≡ false = ap (λ (c : Bool). c || pid_eq p.to manager) board_ ∙ other_ in
+      subst (λ (q : Pid). FitsKnown k x (k.records q)) (sym f.to) (for_process b pt l m k i x p mirrors h sent f num_ other_ server);
+}
+
+-- or a kernel's own
+pub own_handles : (b : Boot) (pt : Point) (l : Placed) (ks : ℕ → KernelState) (m : ℕ) (i : MsgId) (x : Message) → Around b pt l ks m i x → (ks m).sent < 4294967295 → IsLawfulMessage x → MayHandle b (ks m) x
+own_handles b pt l ks m i x h sent lawful =
+    let stands = h.nodes m h.within in
+    record {
+      lawful = lawful;
+      for_kernel = λ num. own_kernel b pt l ks m i x h num sent;
+      for_board = λ is. own_board pt l m (ks m) i x h.counts h.mirrors stands.servers h.front (pid_eq-is x.to.pid switchboard is);
+      for_manager = λ is. own_manager pt l m (ks m) i x h.counts h.mirrors stands.servers h.front (pid_eq-is x.to.pid manager is);
+      for_process = λ num board other. own_process b pt l m (ks m) i x h.mirrors stands h.counts sent h.front num (ap (λ (c : Bool). c || pid_eq x.to.pid manager) board ∙ other);
+    }
+
+-- all that stands where machine m takes a turn
+pub record Stand (b : Boot) (pt : Point) (l : Placed) (ks : ℕ → KernelState) (m : ℕ) : Type 0 where
+  pub run : Run b pt
+  pub told : OwnTold pt
+  pub made : MadeStands pt.kernel
+  pub counts : CountsFew pt
+  pub mirrors : Mirrors pt.kernel pt.view pt.addresses l
+  pub nodes : (n : ℕ) → n < pt.kernel.machines → KernelStands b pt l n (ks n)
+  pub own : AllOwnStand pt.view l
+  pub tokens : TokensStand pt.view l (λ n. (ks n).records)
+  pub within : m < pt.kernel.machines
+  -- it has counted its kernel's own messages as the lines have
+  pub sent : (ks m).sent ≡ pt.view.count m
+
+sent_few : (b : Boot) (pt : Point) (l : Placed) (ks : ℕ → KernelState) (m : ℕ) → Stand b pt l ks m → (ks m).sent < 4294967295
+sent_few b pt l ks m h = let sent = h.sent in let few = h.counts.own m in omega (arith, sent, few)
+
+pub any_handles : (b : Boot) (pt : Point) (l : Placed) (ks : ℕ → KernelState) (m : ℕ) (i : MsgId) (is : List MsgId) (x : Message) (o : Option PlainMessage) → plain_message x ≡ o → Stand b pt l ks m → pt.view.inbox m ≡ i ∷ is → l.bag i ≡ Some x → IsLawfulMessage x → MayHandle b (ks m) x
+any_handles b pt l ks m i is x None plain h box there lawful =
+    own_handles b pt l ks m i x
+    (record { run = h.run; made = h.made; counts = h.counts; mirrors = h.mirrors; nodes = h.nodes; tokens = h.tokens; within = h.within; front = own_front b pt l m i is x h.run h.told h.own box there plain })
+    (sent_few b pt l ks m h) lawful
+any_handles b pt l ks m i is x (Some p) plain h box there lawful =
+    handles b pt l m (ks m) i x p h.run h.made h.counts h.mirrors (h.nodes m h.within) (sent_few b pt l ks m h) lawful (front_so b pt l m i is x p h.run h.mirrors box there plain)
+
+first_is : (bag : MsgId → Option Message) (i : MsgId) (is : List MsgId) (x : Message) (xs : List Message) → map bag (i ∷ is) ≡ map Some (x ∷ xs) → bag i ≡ Some x
+first_is bag i is x xs e = cc
+
+front_may : (b : Boot) (pt : Point) (l : Placed) (ks : ℕ → KernelState) (m : ℕ) (ids : List MsgId) (xs : List Message) → Stand b pt l ks m → pt.view.inbox m ≡ ids → map l.bag ids ≡ map Some xs → All IsLawfulMessage xs → FrontMay b (ks m) xs
+front_may b pt l ks m ids [] h box are lawful = tt
+front_may b pt l ks m [] (x ∷ xs) h box are lawful = cc
+front_may b pt l ks m (i ∷ is) (x ∷ xs) h box are lawful = any_handles b pt l ks m i is x (plain_message x) refl h box (first_is l.bag i is x xs are) (All-head IsLawfulMessage x xs lawful)
+
+pub may_turn : (b : Boot) (pt : Point) (l : Placed) (ks : ℕ → KernelState) (m : ℕ) → m < 16 → Stand b pt l ks m → IsLawfulState (ks m) → MayTurn b (ks m)
+may_turn b pt l ks m small h lawful =
+    let stands = h.nodes m h.within in
+    let here = stands.here in
+    record {
+      here = omega (arith, here, small);
+      processes = may_act b pt l m (ks m) h.made h.counts h.mirrors stands lawful;
+      front = front_may b pt l ks m (pt.view.inbox m) (ks m).inbox h refl stands.inbox lawful.inbox;
+    }

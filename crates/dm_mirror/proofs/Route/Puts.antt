@@ -1,0 +1,217 @@
+-- Behind the put of a message that is routed: what the kernel with places mirrors, and what the kernels' own messages carry.
+use Rattle.std.proofs.Common.{◌≡◌, ℕ, ◌≤◌, Bool, true, false, [], refl, ap, ◌∙◌, sym, subst, inl, inr, arith}
+use Rattle.std.specs.Prelude.{if◌then◌else◌}
+use Rattle.std.specs.declared.option.Option.{Option}
+use Rattle.std.specs.declared.option.Option.TheVariants.{None, Some}
+use Rattle.std.proofs.lemmas.Bool.{cases_Bool, false≢true}
+use Rattle.dm_link.specs.declared.Pid.{Pid}
+use Rattle.dm_message.specs.declared.Message.{Message}
+use Rattle.dm_message.specs.declared.MsgId.{MsgId}
+use Rattle.dm_message.specs.declared.kind.MessageKind.{MessageKind}
+use Rattle.dm_message.specs.Ids.{id_eq}
+use Rattle.dm_message.specs.Kinds.{kind_of, plain_kind}
+use Rattle.dm_message.specs.Plain.{plain_message}
+use Rattle.dm_records.specs.Records.{incoming_of}
+use Rattle.dm_onekernel.specs.declared.boot.Boot.{Boot}
+use Rattle.dm_onekernel.specs.Options.{bind}
+use Rattle.dm_kernel.specs.State as machine
+use Rattle.dm_laws.proofs.Equal.{id_eq-is, id_eq-same}
+use Rattle.dm_rule.specs.Addresses.{first_gives, own_gives}
+use Rattle.dm_rule.specs.Phases.{is_between}
+use Rattle.dm_rule.specs.Point.{Point}
+use Rattle.dm_rule.specs.Spots.{Spot, standing}
+use Rattle.dm_rule.specs.View.{Of, Told, View, after_put, first_told, is_kernels, own_id}
+use Rattle.dm_rule.proofs.Phases.Lines.{put_at, put_spots}
+use Rattle.dm_rule.proofs.States.{PairsFit, put_told_off}
+use Rattle.dm_rule.proofs.Telling.{Sane, plain_not}
+use Rattle.dm_places.specs.Placed.{Placed, Mirrors}
+use Rattle.dm_places.specs.PlacedStep.{with_message}
+use Rattle.dm_places.specs.Laws.{KeepsPlaces}
+use Rattle.dm_places.proofs.Lines.{lines_keep, routed_keeps, told_keeps}
+use Rattle.dm_places.proofs.OwnPuts.{own_put_mirrors}
+use Rattle.dm_world.specs.World.{WorldState}
+use Rattle.dm_mirror.specs.Own.{AllOwnStand, OwnStands, told_of}
+use Rattle.dm_mirror.specs.Stands.{History, StandsWith}
+use Rattle.dm_mirror.specs.Tokens.{AllRecords, Carries, TokenStands, TokensStand, destination_of}
+use Rattle.dm_mirror.proofs.Turning.{Route, First, On, Own, MayOwn, MayPut, IsCarried, message_of}
+use Rattle.dm_mirror.proofs.Turning as turning
+use Rattle.dm_mirror.proofs.Route.Core.{CoreStands, MoreBag, same_bag}
+use Rattle.dm_mirror.proofs.Putting.{IsPlain, line_put, plain_of, put_point}
+
+-- the kernel with places behind it
+abbrev pub after_route : Placed → Route → Placed
+after_route l (First x) = l
+after_route l (On x) = l
+after_route l (Own x) = with_message l x.id (Some x)
+
+bag_here : (l : Placed) (x : Message) → (with_message l x.id (Some x)).bag x.id ≡ Some x
+bag_here l x = ap (λ (c : Bool). if c then Some x else l.bag x.id) (id_eq-same x.id)
+
+bag_off : (l : Placed) (x : Message) (i : MsgId) → id_eq x.id i ≡ false → (with_message l x.id (Some x)).bag i ≡ l.bag i
+bag_off l x i e = ap (λ (c : Bool). if c then Some x else l.bag i) e
+
+none_some : (o : Option Message) (y : Message) → o ≡ None → o ≡ Some y → false ≡ true
+none_some o y e f = cc
+
+bag_kept : (l : Placed) (x : Message) → l.bag x.id ≡ None → (i : MsgId) (y : Message) → l.bag i ≡ Some y → (with_message l x.id (Some x)).bag i ≡ Some y
+bag_kept l x none i y e = elim (cases_Bool (id_eq x.id i)) [
+  | inl same ↦ absurd (false≢true (none_some (l.bag i) y (ap l.bag (sym (id_eq-is x.id i same)) ∙ none) e))
+  | inr apart ↦ bag_off l x i apart ∙ e
+]
+
+pub route_more : (pt : Point) (l : Placed) (records : AllRecords) (r : Route) → MayPut pt l records r → MoreBag l (after_route l r)
+route_more pt l records (First x) may = same_bag l
+route_more pt l records (On x) may = same_bag l
+route_more pt l records (Own x) may = record { bag = bag_kept l x may.bag; processes = λ p. refl; board = refl; manager = refl }
+
+pub route_there : (pt : Point) (l : Placed) (records : AllRecords) (r : Route) → MayPut pt l records r → (after_route l r).bag (message_of r).id ≡ Some (message_of r)
+route_there pt l records (First x) may = may.0
+route_there pt l records (On x) may = may.0
+route_there pt l records (Own x) may = bag_here l x
+
+-- a message that isn't the kernel's own gets no addresses
+pub route_keeps : (pt : Point) (l : Placed) (records : AllRecords) (m : ℕ) (r : Route) → turning.is_own r ≡ 0 → MayPut pt l records r → Mirrors pt.kernel pt.view pt.addresses l → KeepsPlaces pt (line_put m (message_of r).to.at (message_of r))
+route_keeps pt l records m (First x) none may h =
+    let p : IsPlain (pt.kernel.bag x.id) x = plain_of pt l x h may.0 may.1 in
+    subst (λ (k : MessageKind). first_gives (pt.view.told x.id) (own_gives pt.kernel pt.view pt.addresses x.id x.to.pid k) ≡ []) p.kind (subst (λ (q : Pid). first_gives (pt.view.told x.id) (own_gives pt.kernel pt.view pt.addresses x.id q (plain_kind p.m.what)) ≡ []) p.to (routed_keeps pt m x.to.at x.id p.m))
+route_keeps pt l records m (On x) none may h = told_keeps pt m x.to.at x.id (kind_of x.what) x.to.pid may.1.0 may.1.1
+route_keeps pt l records m (Own x) none may h = absurd (omega (arith, none))
+
+-- the kernel with places mirrors the point behind the put
+pub route_mirrors : (pt : Point) (l : Placed) (records : AllRecords) (m : ℕ) (r : Route) → MayPut pt l records r → Mirrors pt.kernel pt.view pt.addresses l
+    → Mirrors (put_point pt m (message_of r).to.at (message_of r)).kernel (put_point pt m (message_of r).to.at (message_of r)).view (put_point pt m (message_of r).to.at (message_of r)).addresses (after_route l r)
+route_mirrors pt l records m (First x) may h = lines_keep pt (put_point pt m x.to.at x) l (line_put m x.to.at x) (route_keeps pt l records m (First x) refl may h) h refl
+route_mirrors pt l records m (On x) may h = lines_keep pt (put_point pt m x.to.at x) l (line_put m x.to.at x) (route_keeps pt l records m (On x) refl may h) h refl
+route_mirrors pt l records m (Own x) may h =
+    own_put_mirrors pt l m x.to.at (kind_of x.what) x.to.pid x h may.plain may.encloses (sym (h.plain.bag x.id) ∙ ap (λ (o : Option Message). bind o plain_message) may.bag) may.untold may.receiver may.sender
+
+-- what was told before stays told
+first_stays : (o : Option Told) (u t : Told) → o ≡ Some t → Some (first_told o u) ≡ Some t
+first_stays None u t e = cc
+first_stays (Some s) u t e = e
+
+pub told_stays : (v : View) (a b : ℕ) (i : MsgId) (k : MessageKind) (q : Pid) (j : MsgId) (t : Told) → v.told j ≡ Some t → (after_put v a b i k q).told j ≡ Some t
+told_stays v a b i k q j t e = elim (cases_Bool (id_eq i j)) [
+  | inl same ↦
+      let is : i ≡ j = id_eq-is i j same in
+      let u : Told = record { kind = k; receiver = q; about = v.topic } in
+      ap (after_put v a b i k q).told (sym is) ∙ put_at v a b i k q ∙ first_stays (v.told i) u t (ap v.told is ∙ e)
+  | inr apart ↦ put_told_off v a b i j k q apart ∙ e
+]
+
+first_none : (o : Option Told) (u : Told) → o ≡ None → Some (first_told o u) ≡ Some u
+first_none None u e = refl
+first_none (Some t) u e = cc
+
+-- what is told of the next own message is what it is
+pub own_told : (pt : Point) (l : Placed) (records : AllRecords) (m : ℕ) (x : Message) → MayOwn pt l records x → (after_put pt.view m x.to.at x.id (kind_of x.what) x.to.pid).told x.id ≡ Some (told_of x)
+own_told pt l records m x may =
+    put_at pt.view m x.to.at x.id (kind_of x.what) x.to.pid
+    ∙ first_none (pt.view.told x.id) (record { kind = kind_of x.what; receiver = x.to.pid; about = pt.view.topic }) may.untold
+    ∙ (λ i. Some (record { kind = kind_of x.what; receiver = x.to.pid; about = may.about i }))
+
+own_mine : (pt : Point) (x : Message) → x.id ≡ own_id pt.view → is_kernels x.id ≡ true
+own_mine pt x e = ap is_kernels e
+
+own_kept : (v u : View) (i : MsgId) (y : Message) → ((t : Told) → v.told i ≡ Some t → u.told i ≡ Some t) → OwnStands v i y → OwnStands u i y
+own_kept v u i y told k = record { told = told (told_of y) k.told; mine = k.mine; sender = k.sender }
+
+-- the kernels' own messages were told as what they are
+pub route_own : (pt : Point) (l : Placed) (records : AllRecords) (m : ℕ) (r : Route) → MayPut pt l records r → AllOwnStand pt.view l → AllOwnStand (put_point pt m (message_of r).to.at (message_of r)).view (after_route l r)
+route_own pt l records m (First x) may h i y there plain =
+    own_kept pt.view (after_put pt.view m x.to.at x.id (kind_of x.what) x.to.pid) i y (λ t. told_stays pt.view m x.to.at x.id (kind_of x.what) x.to.pid i t) (h i y there plain)
+route_own pt l records m (On x) may h i y there plain =
+    own_kept pt.view (after_put pt.view m x.to.at x.id (kind_of x.what) x.to.pid) i y (λ t. told_stays pt.view m x.to.at x.id (kind_of x.what) x.to.pid i t) (h i y there plain)
+route_own pt l records m (Own x) may h i y there plain = elim (cases_Bool (id_eq x.id i)) [
+  | inl same ↦
+      let is : x.id ≡ i = id_eq-is x.id i same in
+      let f : Some x ≡ Some y = sym (bag_here l x) ∙ ap (with_message l x.id (Some x)).bag is ∙ there in
+      let g : x ≡ y = cc in
+      subst (λ (j : MsgId). OwnStands (after_put pt.view m x.to.at x.id (kind_of x.what) x.to.pid) j y) is
+      (subst (λ (z : Message). OwnStands (after_put pt.view m x.to.at x.id (kind_of x.what) x.to.pid) x.id z) g (record { told = own_told pt l records m x may; mine = own_mine pt x may.id; sender = may.asker }))
+  | inr apart ↦
+      own_kept pt.view (after_put pt.view m x.to.at x.id (kind_of x.what) x.to.pid) i y (λ t. told_stays pt.view m x.to.at x.id (kind_of x.what) x.to.pid i t) (h i y (sym (bag_off l x i apart) ∙ there) plain)
+]
+
+-- what a message of a migration carries stays
+pub token_kept : (v u : View) (l k : Placed) (r s : AllRecords) (p : Pid) (i : MsgId) (t : Told) → MoreBag l k → u.asked p ≡ v.asked p → ((d : ℕ) → s d ≡ r d) → TokenStands v l r p i t → TokenStands u k s p i t
+token_kept v u l k r s p i t more asked records h =
+    let d : ℕ = destination_of i t in
+    record {
+      process = h.process;
+      there = more.processes p ∙ h.there;
+      message = h.message;
+      is = more.bag i h.message h.is;
+      sender = h.sender;
+      carries = subst (λ (n : ℕ). Carries p h.process n (incoming_of (s d p)) h.message.what) (sym asked) (subst (λ (f : Pid → Option machine.Known). Carries p h.process (v.asked p) (incoming_of (f p)) h.message.what) (sym (records d)) h.carries);
+    }
+
+first_kind : (o : Option Told) (u t : Told) → Some (first_told o u) ≡ Some t → is_between u.kind ≡ false → ((s : Told) → o ≡ Some s → is_between s.kind ≡ false) → is_between t.kind ≡ false
+first_kind None u t e new old = let f : u ≡ t = cc in subst (λ (z : Told). is_between z.kind ≡ false) f new
+first_kind (Some s) u t e new old = let f : s ≡ t = cc in subst (λ (z : Told). is_between z.kind ≡ false) f (old s refl)
+
+some_same : (s t : Told) (o : Option Told) → o ≡ Some s → o ≡ Some t → s ≡ t
+some_same s t o e f = cc
+
+module _ (pt : Point) (l : Placed) (r s : AllRecords) (m : ℕ) (route : Route) (may : MayPut pt l r route) (records : (d : ℕ) → s d ≡ r d) where
+  abbrev x : Message
+  x = message_of route
+
+  abbrev behind : View
+  behind = after_put pt.view m x.to.at x.id (kind_of x.what) x.to.pid
+
+  -- another one than the message that is put
+  other_token : PairsFit pt.view → TokensStand pt.view l r → (p : Pid) (i : MsgId) (t : Told) (z : Spot) → id_eq x.id i ≡ false → behind.told i ≡ Some t → is_between t.kind ≡ true → t.about ≡ Of p → 1 ≤ standing behind i z
+      → TokenStands behind (after_route l route) s p i t
+  other_token fits h p i t z apart told between about st =
+      token_kept pt.view behind l (after_route l route) r s p i t (route_more pt l r route may) refl records
+      (h p i t z (sym (put_told_off pt.view m x.to.at x.id i (kind_of x.what) x.to.pid apart) ∙ told) between about
+      (subst (λ (n : ℕ). 1 ≤ n) (put_spots pt.view m x.to.at x.id i (kind_of x.what) x.to.pid fits apart z) st))
+
+  -- where the message itself is none of a migration, or carries what it is to
+  tokens_by : PairsFit pt.view → TokensStand pt.view l r → ((p : Pid) (t : Told) → behind.told x.id ≡ Some t → is_between t.kind ≡ true → t.about ≡ Of p → TokenStands behind (after_route l route) s p x.id t) → TokensStand behind (after_route l route) s
+  tokens_by fits h itself p i t z told between about st = elim (cases_Bool (id_eq x.id i)) [
+    | inl same ↦
+        let is : x.id ≡ i = id_eq-is x.id i same in
+        subst (λ (j : MsgId). TokenStands behind (after_route l route) s p j t) is (itself p t (ap behind.told is ∙ told) between about)
+    | inr apart ↦ other_token fits h p i t z apart told between about st
+  ]
+
+pub route_tokens : (pt : Point) (l : Placed) (r s : AllRecords) (m : ℕ) (route : Route) → MayPut pt l r route → ((d : ℕ) → s d ≡ r d) → Sane pt → PairsFit pt.view → Mirrors pt.kernel pt.view pt.addresses l → TokensStand pt.view l r
+    → TokensStand (put_point pt m (message_of route).to.at (message_of route)).view (after_route l route) s
+route_tokens pt l r s m (First x) may records sane fits mirrors h =
+    let p : IsPlain (pt.kernel.bag x.id) x = plain_of pt l x mirrors may.0 may.1 in
+    let new : is_between (kind_of x.what) ≡ false = ap is_between (sym p.kind) ∙ plain_not p.m.what in
+    tokens_by pt l r s m (First x) may records fits h (λ q t told between about.
+    absurd (false≢true (sym (first_kind (pt.view.told x.id) (record { kind = kind_of x.what; receiver = x.to.pid; about = pt.view.topic }) t (sym (put_at pt.view m x.to.at x.id (kind_of x.what) x.to.pid) ∙ told) new
+    (λ u was. ap is_between (sane.tells.kind x.id p.m u p.there was) ∙ plain_not p.m.what)) ∙ between)))
+route_tokens pt l r s m (On x) may records sane fits mirrors h =
+    tokens_by pt l r s m (On x) may records fits h (λ q t told between about.
+    let is : may.1.0 ≡ t = some_same may.1.0 t ((after_put pt.view m x.to.at x.id (kind_of x.what) x.to.pid).told x.id) (told_stays pt.view m x.to.at x.id (kind_of x.what) x.to.pid x.id may.1.0 may.1.1) told in
+    absurd (false≢true (sym may.2 ∙ ap is_between (sym may.1.2) ∙ ap (λ (z : Told). is_between z.kind) is ∙ between)))
+route_tokens pt l r s m (Own x) may records sane fits mirrors h =
+    tokens_by pt l r s m (Own x) may records fits h (λ p t told between about.
+    let is : told_of x ≡ t = some_same (told_of x) t ((after_put pt.view m x.to.at x.id (kind_of x.what) x.to.pid).told x.id) (own_told pt l r m x may) told in
+    let c : IsCarried l (pt.view.asked p) r p x = may.carried (ap (λ (z : Told). is_between z.kind) is ∙ between) p (ap (λ (z : Told). z.about) is ∙ about) in
+    subst (λ (z : Told). TokenStands (after_put pt.view m x.to.at x.id (kind_of x.what) x.to.pid) (with_message l x.id (Some x)) s p x.id z) is
+    (record {
+      process = c.process;
+      there = c.there;
+      message = x;
+      is = bag_here l x;
+      sender = c.sender;
+      carries = subst (λ (f : Pid → Option machine.Known). Carries p c.process (pt.view.asked p) (incoming_of (f p)) x.what) (sym (records (destination_of x.id (told_of x)))) c.carries;
+    }))
+
+-- the world stands for the point behind the put
+pub stands_routed : (b : Boot) (pt : Point) (l : Placed) (r : AllRecords) (m : ℕ) (route : Route) (w : WorldState) (h : History) → MayPut pt l r route → ((d : ℕ) → (w.nodes d).kernel.records ≡ r d) → Sane pt → PairsFit pt.view → Mirrors pt.kernel pt.view pt.addresses l
+    → AllOwnStand pt.view l → TokensStand pt.view l r → CoreStands b w (put_point pt m (message_of route).to.at (message_of route)) (after_route l route) h → StandsWith b w (put_point pt m (message_of route).to.at (message_of route)) (after_route l route) h
+stands_routed b pt l r m route w h may records sane fits mirrors own tokens core = record {
+  mirrors = route_mirrors pt l r m route may mirrors;
+  groups = core.groups;
+  nodes = core.nodes;
+  pairs = core.pairs;
+  counts = core.counts;
+  own = route_own pt l r m route may own;
+  tokens = route_tokens pt l r (λ d. (w.nodes d).kernel.records) m route may records sane fits mirrors tokens;
+}

@@ -1,0 +1,81 @@
+-- What stands somewhere stands there behind messages that are put.
+use Rattle.std.proofs.Common.{◌≡◌, ℕ, zero, suc, ◌+◌, ◌≤◌, ◌==◌, ◌&&◌, Bool, true, false, List, [], ◌∷◌, ◌++◌, length, refl, ap, sym, subst, arith}
+use Rattle.std.specs.Prelude.{if◌then◌else◌, drop}
+use Rattle.std.proofs.lemmas.Bool.{eqb-true}
+use Rattle.std.proofs.lemmas.List.{drop-append-le}
+use Rattle.dm_link.specs.declared.Pid.{Pid}
+use Rattle.dm_message.specs.declared.Message.{Message}
+use Rattle.dm_message.specs.declared.MsgId.{MsgId}
+use Rattle.dm_message.specs.declared.kind.MessageKind.{MessageKind}
+use Rattle.dm_message.specs.Kinds.{kind_of}
+use Rattle.dm_line.specs.declared.line.Load.TheVariants as load
+use Rattle.dm_rule.specs.Point.{Point}
+use Rattle.dm_rule.specs.Spots.{Spot, Queue, Held, Inbox, Untaken, standing, times, untaken}
+use Rattle.dm_rule.specs.View.{Pair, View, after_packet, after_put, routed_on}
+use Rattle.dm_rule.proofs.Moves.Sent.{fits_packet, fits_put}
+use Rattle.dm_rule.proofs.Pairs.Stand.{two_of}
+use Rattle.dm_rule.proofs.Phases.Put.{put_spot, put_there}
+use Rattle.dm_rule.proofs.Standing.{times-append}
+use Rattle.dm_rule.proofs.States.{PairsFit}
+use Rattle.dm_mirror.proofs.Puts.{put_standing}
+use Rattle.dm_mirror.proofs.Putting.{put_end}
+
+more_times : (j : MsgId) (xs ys : List MsgId) → 1 ≤ times j xs → 1 ≤ times j (xs ++ ys)
+more_times j xs ys h = let a = times-append j xs ys in omega (arith, a, h)
+
+box_grows : (f : ℕ → List MsgId) (b n : ℕ) (i j : MsgId) (s t : Bool) → (b == n) ≡ t → 1 ≤ times j (f n) → 1 ≤ times j ((if s then (λ (d : ℕ). if b == d then f b ++ i ∷ [] else f d) else f) n)
+box_grows f b n i j false t e h = h
+box_grows f b n i j true true e h =
+    let same : times j (f b) ≡ times j (f n) = ap (λ (d : ℕ). times j (f d)) (eqb-true b n e) in
+    let least : 1 ≤ times j (f b) = omega (arith, same, h) in
+    subst (λ (c : Bool). 1 ≤ times j (if c then f b ++ i ∷ [] else f n)) (sym e) (more_times j (f b) (i ∷ []) least)
+box_grows f b n i j true false e h = subst (λ (c : Bool). 1 ≤ times j (if c then f b ++ i ∷ [] else f n)) (sym e) h
+
+all_gone : (i j : MsgId) (xs : List MsgId) (n : ℕ) → n ≡ length xs → 1 ≤ times j (drop n xs) → ⊥
+all_gone i j [] zero e h = omega (arith, h)
+all_gone i j [] (suc n) e h = omega (arith, e)
+all_gone i j (x ∷ xs) zero e h = omega (arith, e)
+all_gone i j (x ∷ xs) (suc n) e h = all_gone i j xs n (omega (arith, e)) h
+
+pair_grows : (a b : ℕ) (p : Pair) (i j : MsgId) (c : Bool) → (a == b) ≡ c → p.taken ≤ length p.ids → (c ≡ true → p.taken ≡ length p.ids) → 1 ≤ times j (untaken p) → 1 ≤ times j (untaken (routed_on a b p i))
+pair_grows a b p i j true e few full h = absurd (all_gone i j p.ids p.taken (full refl) h)
+pair_grows a b p i j false e few full h =
+    subst (λ (c : Bool). 1 ≤ times j (drop (if c then p.taken + 1 else p.taken) (p.ids ++ i ∷ []))) (sym e)
+    (subst (λ (xs : List MsgId). 1 ≤ times j xs) (sym (drop-append-le p.taken p.ids (i ∷ []) few)) (more_times j (drop p.taken p.ids) (i ∷ []) h))
+
+pair_if : (f : ℕ → ℕ → Pair) (a b c d : ℕ) (i j : MsgId) (t : Bool) → ((a == c) && (b == d)) ≡ t → (f a b).taken ≤ length (f a b).ids → ((a == b) ≡ true → (f a b).taken ≡ length (f a b).ids) → 1 ≤ times j (untaken (f c d)) → 1 ≤ times j (untaken (if t then routed_on a b (f a b) i else f c d))
+pair_if f a b c d i j true e few full h =
+    let k = two_of a b c d e in
+    let same : times j (untaken (f a b)) ≡ times j (untaken (f c d)) = (λ i. times j (untaken (f (k.0 i) (k.1 i)))) in
+    pair_grows a b (f a b) i j (a == b) refl few full (omega (arith, same, h))
+pair_if f a b c d i j false e few full h = h
+
+home_taken : (v : View) (a b : ℕ) → PairsFit v → (a == b) ≡ true → (v.pair a b).taken ≡ length (v.pair a b).ids
+home_taken v a b fits is = let e : a ≡ b = eqb-true a b is in subst (λ (n : ℕ). (v.pair a n).taken ≡ length (v.pair a n).ids) e (fits.home a)
+
+pub put_grows : (v : View) (a b : ℕ) (i j : MsgId) (k : MessageKind) (q : Pid) → PairsFit v → (z : Spot) → 1 ≤ standing v j z → 1 ≤ standing (after_put v a b i k q) j z
+put_grows v a b i j k q fits (Queue m p) h = h
+put_grows v a b i j k q fits (Held m p) h = h
+put_grows v a b i j k q fits (Inbox n) h = box_grows v.inbox b n i j (a == b) (b == n) refl h
+put_grows v a b i j k q fits (Untaken c d) h = pair_if v.pair a b c d i j ((a == c) && (b == d)) refl (fits.within a b) (home_taken v a b fits) h
+
+-- behind the lines of a message that is put, with its packet
+pub end_fits : (q : Point) (m c : ℕ) (x : Message) (home out : Bool) → PairsFit q.view → PairsFit (put_end q m c x home out).view
+end_fits q m c x true out h = fits_put q.view m c x.id (kind_of x.what) x.to.pid h
+end_fits q m c x false false h = fits_put q.view m c x.id (kind_of x.what) x.to.pid h
+end_fits q m c x false true h = fits_packet (after_put q.view m c x.id (kind_of x.what) x.to.pid) m c (length (q.view.pair m c).wire) (load.Data (length (q.view.pair m c).ids)) (fits_put q.view m c x.id (kind_of x.what) x.to.pid h)
+
+packet_grows : (v : View) (m c n : ℕ) (j : MsgId) (z : Spot) → 1 ≤ standing v j z → 1 ≤ standing (after_packet v m c (load.Data n)) j z
+packet_grows v m c n j z h = subst (λ (k : ℕ). 1 ≤ k) (sym (put_standing v m c (load.Data n) j z)) h
+
+pub end_grows : (q : Point) (m c : ℕ) (x : Message) (home out : Bool) (j : MsgId) (z : Spot) → PairsFit q.view → 1 ≤ standing q.view j z → 1 ≤ standing (put_end q m c x home out).view j z
+end_grows q m c x true out j z fits h = put_grows q.view m c x.id j (kind_of x.what) x.to.pid fits z h
+end_grows q m c x false false j z fits h = put_grows q.view m c x.id j (kind_of x.what) x.to.pid fits z h
+end_grows q m c x false true j z fits h =
+    packet_grows (after_put q.view m c x.id (kind_of x.what) x.to.pid) m c (length (q.view.pair m c).ids) j z (put_grows q.view m c x.id j (kind_of x.what) x.to.pid fits z h)
+
+pub end_there : (q : Point) (m c : ℕ) (x : Message) (home out : Bool) → PairsFit q.view → 1 ≤ standing (put_end q m c x home out).view x.id (put_spot m c)
+end_there q m c x true out fits = put_there q.view m c x.id (kind_of x.what) x.to.pid fits
+end_there q m c x false false fits = put_there q.view m c x.id (kind_of x.what) x.to.pid fits
+end_there q m c x false true fits =
+    packet_grows (after_put q.view m c x.id (kind_of x.what) x.to.pid) m c (length (q.view.pair m c).ids) x.id (put_spot m c) (put_there q.view m c x.id (kind_of x.what) x.to.pid fits)

@@ -1,0 +1,209 @@
+-- Behind the lines of a still row as many pieces were asked for as before, and a kernel's own message that stands somewhere stood there before.
+use Rattle.std.proofs.Common.{◌≡◌, ℕ, ◌≤◌, ◌==◌, ◌&&◌, Bool, true, false, List, [], ◌∷◌, ◌++◌, map, refl, ap, ◌∙◌, sym, subst, inl, inr, arith}
+use Rattle.std.specs.Prelude.{if◌then◌else◌}
+use Rattle.std.specs.declared.option.Option.{Option}
+use Rattle.std.specs.declared.option.Option.TheVariants.{None, Some}
+use Rattle.std.proofs.lemmas.Bool.{cases_Bool, false≢true}
+use Rattle.dm_link.specs.declared.Pid.{Pid}
+use Rattle.dm_link.specs.Names.{pid_eq}
+use Rattle.dm_message.specs.declared.MsgId.{MsgId}
+use Rattle.dm_message.specs.Ids.{id_eq}
+use Rattle.dm_message.specs.declared.kind.MessageKind.{MessageKind}
+use Rattle.dm_message.specs.declared.kind.MessageKind.TheVariants as kind
+use Rattle.dm_onekernel.specs.declared.label.Label.{Label}
+use Rattle.dm_onekernel.specs.declared.label.Label.TheVariants as label
+use Rattle.dm_onekernel.specs.Kernel.{OneKernel}
+use Rattle.dm_onekernel.specs.Options.{bind}
+use Rattle.dm_laws.proofs.Equal.{id_eq-is, pid_eq-is}
+use Rattle.dm_laws.proofs.Steps.{bind-is}
+use Rattle.dm_line.specs.declared.line.Line.{Line}
+use Rattle.dm_line.specs.declared.line.Line.TheVariants as line
+use Rattle.dm_rule.specs.Parts.{Part, Says}
+use Rattle.dm_rule.specs.Point.{Point, after, after_line, kernel_after, label_of, moved}
+use Rattle.dm_line.specs.Sets.{at_machine, at_record, without_front, without_id}
+use Rattle.dm_rule.specs.Spots.{Spot, Queue, Held, Inbox, Untaken, times, standing}
+use Rattle.dm_rule.specs.View as view
+use Rattle.dm_rule.specs.View.{View, Told, after_label, view_after, handled, queued_for, dropped_for, receiver_of, is_kernels}
+use Rattle.dm_rule.proofs.Lines.{parts, eq_is}
+use Rattle.dm_rule.proofs.Phases.Lines.{queued_spots}
+use Rattle.dm_rulelaws.proofs.Based.Needs.{Needs, Walks}
+use Rattle.dm_mirror.proofs.Turning.{is_still, are_still}
+
+-- a list without a message has no message more often
+fewer_if : (j : MsgId) (x : MsgId) (xs ys : List MsgId) (c : Bool) → times j ys ≤ times j xs → times j (if c then xs else x ∷ ys) ≤ times j (x ∷ xs)
+fewer_if j x xs ys true h = omega arith
+fewer_if j x xs ys false h = omega (arith, h)
+
+front_fewer : (i j : MsgId) (xs : List MsgId) → times j (without_front i xs) ≤ times j xs
+front_fewer i j [] = omega arith
+front_fewer i j (x ∷ xs) = fewer_if j x xs xs (id_eq i x) (omega arith)
+
+id_fewer : (i j : MsgId) (xs : List MsgId) → times j (without_id i xs) ≤ times j xs
+id_fewer i j [] = omega arith
+id_fewer i j (x ∷ xs) = fewer_if j x xs (without_id i xs) (id_eq i x) (id_fewer i j xs)
+
+machine_fewer : (f : ℕ → List MsgId) (m : ℕ) (x : List MsgId) (j : MsgId) → times j x ≤ times j (f m) → (n : ℕ) → times j (at_machine f m x n) ≤ times j (f n)
+machine_fewer f m x j h n = elim (cases_Bool (m == n)) [
+  | inl same ↦ subst (λ (c : Bool). times j (if c then x else f n) ≤ times j (f n)) (sym same) (subst (λ (k : ℕ). times j x ≤ times j (f k)) (eq_is m n same) h)
+  | inr apart ↦ subst (λ (c : Bool). times j (if c then x else f n) ≤ times j (f n)) (sym apart) (omega arith)
+]
+
+record_fewer : (f : ℕ → Pid → List MsgId) (m : ℕ) (p : Pid) (x : List MsgId) (j : MsgId) → times j x ≤ times j (f m p) → (n : ℕ) (q : Pid) → times j (at_record f m p x n q) ≤ times j (f n q)
+record_fewer f m p x j h n q = elim (cases_Bool ((m == n) && pid_eq p q)) [
+  | inl same ↦
+      let both = parts (m == n) (pid_eq p q) same in
+      subst (λ (c : Bool). times j (if c then x else f n q) ≤ times j (f n q)) (sym same)
+      (subst (λ (r : Pid). times j x ≤ times j (f n r)) (pid_eq-is p q both.1) (subst (λ (k : ℕ). times j x ≤ times j (f k p)) (eq_is m n both.0) h))
+  | inr apart ↦ subst (λ (c : Bool). times j (if c then x else f n q) ≤ times j (f n q)) (sym apart) (omega arith)
+]
+
+-- no message stands more often
+abbrev Fewer : View → View → Type 0
+Fewer v w = (j : MsgId) (z : Spot) → standing w j z ≤ standing v j z
+
+fewer_same : (v w : View) → ((j : MsgId) (z : Spot) → standing w j z ≡ standing v j z) → Fewer v w
+fewer_same v w h j z = let e = h j z in omega (arith, e)
+
+fewer_on : (u v w : View) → Fewer u v → Fewer v w → Fewer u w
+fewer_on u v w g h j z = let a = g j z in let b = h j z in omega (arith, a, b)
+
+handled_fewer : (v : View) (i : MsgId) → Fewer v (handled v i)
+handled_fewer v i j (Queue m p) = omega arith
+handled_fewer v i j (Held m p) = omega arith
+handled_fewer v i j (Inbox m) = machine_fewer v.inbox v.acting (without_front i (v.inbox v.acting)) j (front_fewer i j (v.inbox v.acting)) m
+handled_fewer v i j (Untaken a b) = omega arith
+
+dropped_fewer : (v : View) (i : MsgId) (o : Option Pid) → Fewer v (dropped_for v i o)
+dropped_fewer v i None j z = omega arith
+dropped_fewer v i (Some p) j (Queue m q) = record_fewer v.queue v.acting p (without_front i (v.queue v.acting p)) j (front_fewer i j (v.queue v.acting p)) m q
+dropped_fewer v i (Some p) j (Held m q) = omega arith
+dropped_fewer v i (Some p) j (Inbox m) = omega arith
+dropped_fewer v i (Some p) j (Untaken a b) = omega arith
+
+serving_fewer : (v : View) (p : Pid) → Fewer v (view.serving v p)
+serving_fewer v p j (Queue m q) = omega arith
+serving_fewer v p j (Held m q) = omega arith
+serving_fewer v p j (Inbox m) = omega arith
+serving_fewer v p j (Untaken a b) = omega arith
+
+received_fewer : (v : View) (p : Pid) (i : MsgId) → Fewer v (after_label v (label.Receive p i))
+received_fewer v p i j (Queue m q) = record_fewer v.queue v.acting p (without_id i (v.queue v.acting p)) j (id_fewer i j (v.queue v.acting p)) m q
+received_fewer v p i j (Held m q) = omega arith
+received_fewer v p i j (Inbox m) = omega arith
+received_fewer v p i j (Untaken a b) = omega arith
+
+ended_fewer : (v : View) (p : Pid) → Fewer v (view.ended v p)
+ended_fewer v p j (Queue m q) = omega arith
+ended_fewer v p j (Held m q) = omega arith
+ended_fewer v p j (Inbox m) = omega arith
+ended_fewer v p j (Untaken a b) = omega arith
+
+same_fewer : (v : View) → Fewer v v
+same_fewer v j z = omega arith
+
+kills_fewer : (v : View) (k : MessageKind) (p : Pid) → Fewer v (view.kills k v (Some p))
+kills_fewer v kind.Kill p = ended_fewer v p
+kills_fewer v k p = same_fewer v
+
+told_fewer : (v : View) (o : Option Told) → Fewer v (view.served_told v o)
+told_fewer v None = same_fewer v
+told_fewer v (Some t) = kills_fewer v t.kind t.receiver
+
+created_fewer : (v : View) (i : MsgId) (p : Pid) → Fewer (handled v i) (after_label v (label.Created i p))
+created_fewer v i p j (Queue m q) = omega arith
+created_fewer v i p j (Held m q) = omega arith
+created_fewer v i p j (Inbox m) = omega arith
+created_fewer v i p j (Untaken a b) = omega arith
+
+label_fewer : (v : View) (e : Label) → Fewer v (after_label v e)
+label_fewer v (label.Ran p k) = serving_fewer v p
+label_fewer v (label.Call p n c) = same_fewer v
+label_fewer v (label.Send p id) = same_fewer v
+label_fewer v (label.Wait p) = same_fewer v
+label_fewer v (label.Out p w) = same_fewer v
+label_fewer v (label.End p y) = ended_fewer v p
+label_fewer v (label.Receive p id) = received_fewer v p id
+label_fewer v (label.Refuse p id c) = serving_fewer v p
+label_fewer v (label.Dropped id) = fewer_on v (handled v id) (after_label v (label.Dropped id)) (handled_fewer v id) (dropped_fewer (handled v id) id (receiver_of (v.told id)))
+label_fewer v (label.Served id) = fewer_on v (handled v id) (after_label v (label.Served id)) (handled_fewer v id) (told_fewer (handled v id) (v.told id))
+label_fewer v (label.Gone id) = handled_fewer v id
+label_fewer v (label.Took id) = handled_fewer v id
+label_fewer v (label.Created id p) = fewer_on v (handled v id) (after_label v (label.Created id p)) (handled_fewer v id) (created_fewer v id p)
+label_fewer v (label.NoSpace id s b) = handled_fewer v id
+
+-- the pieces that were asked for
+kills_asked : (v : View) (k : MessageKind) (o : Option Pid) → (view.kills k v o).asked ≡ v.asked
+kills_asked v kind.Kill (Some p) = refl
+kills_asked v k o = refl
+
+told_asked : (v : View) (o : Option Told) → (view.served_told v o).asked ≡ v.asked
+told_asked v None = refl
+told_asked v (Some t) = kills_asked v t.kind (Some t.receiver)
+
+dropped_asked : (v : View) (id : MsgId) (o : Option Pid) → (dropped_for v id o).asked ≡ v.asked
+dropped_asked v id None = refl
+dropped_asked v id (Some p) = refl
+
+queued_asked : (v : View) (id : MsgId) (o : Option Pid) → (queued_for v id o).asked ≡ v.asked
+queued_asked v id None = refl
+queued_asked v id (Some p) = refl
+
+label_asked : (v : View) (e : Label) → (after_label v e).asked ≡ v.asked
+label_asked v (label.Ran p k) = refl
+label_asked v (label.Call p n c) = refl
+label_asked v (label.Send p id) = refl
+label_asked v (label.Wait p) = refl
+label_asked v (label.Out p w) = refl
+label_asked v (label.End p y) = refl
+label_asked v (label.Receive p id) = refl
+label_asked v (label.Refuse p id c) = refl
+label_asked v (label.Dropped id) = dropped_asked (handled v id) id (receiver_of (v.told id))
+label_asked v (label.Served id) = told_asked (handled v id) (v.told id)
+label_asked v (label.Gone id) = refl
+label_asked v (label.Took id) = refl
+label_asked v (label.Created id p) = refl
+label_asked v (label.NoSpace id s b) = refl
+
+pub record StillKeeps (v w : View) : Type 0 where
+  pub asked : w.asked ≡ v.asked
+  pub stood : (i : MsgId) (z : Spot) → is_kernels i ≡ true → 1 ≤ standing w i z → 1 ≤ standing v i z
+
+fewer_keeps : (v w : View) → w.asked ≡ v.asked → Fewer v w → StillKeeps v w
+fewer_keeps v w asked fewer = record { asked = asked; stood = λ i z mine least. (let f = fewer i z in omega (arith, least, f)) }
+
+still_on : (u v w : View) → StillKeeps u v → StillKeeps v w → StillKeeps u w
+still_on u v w g h = record { asked = h.asked ∙ g.asked; stood = λ i z mine least. g.stood i z mine (h.stood i z mine least) }
+
+-- what is queued is no kernel's own
+apart_own : (id i : MsgId) → is_kernels id ≡ false → is_kernels i ≡ true → id_eq id i ≡ false
+apart_own id i off on = elim (cases_Bool (id_eq id i)) [
+  | inl same ↦ absurd (false≢true (sym off ∙ ap is_kernels (id_eq-is id i same) ∙ on))
+  | inr apart ↦ apart
+]
+
+queued_keeps : (pt : Point) (id : MsgId) (o : Option Told) → pt.view.told id ≡ o → Needs pt (line.Queued id) → StillKeeps (handled pt.view id) (queued_for (handled pt.view id) id (receiver_of o))
+queued_keeps pt id None e need = fewer_keeps (handled pt.view id) (handled pt.view id) refl (same_fewer (handled pt.view id))
+queued_keeps pt id (Some t) e need = record {
+  asked = refl;
+  stood = λ i z mine least. subst (λ (n : ℕ). 1 ≤ n) (queued_spots (handled pt.view id) id i (Some t.receiver) (apart_own id i (need t e).other mine) z) least;
+}
+
+line_keeps : (pt : Point) (l : Line) → is_still l ≡ true → Needs pt l → StillKeeps pt.view (view_after pt.view l)
+line_keeps pt (line.Label e) still need = fewer_keeps pt.view (after_label pt.view e) (label_asked pt.view e) (label_fewer pt.view e)
+line_keeps pt (line.Queued id) still need =
+    let v = handled pt.view id in
+    still_on pt.view v (view_after pt.view (line.Queued id)) (fewer_keeps pt.view v refl (handled_fewer pt.view id)) (queued_keeps pt id (pt.view.told id) refl need)
+line_keeps pt (line.Idle m) still need = fewer_keeps pt.view pt.view refl (same_fewer pt.view)
+line_keeps pt l still need = absurd (false≢true still)
+
+-- all lines of the row
+pub still_keeps : (rest : List Part) (says : List Line) (pt next : Point) → are_still says ≡ true → Walks pt (map Says says ++ rest) → after pt says ≡ Some next → StillKeeps pt.view next.view
+still_keeps rest [] pt next still walks leads = let e : pt ≡ next = cc in subst (λ (q : Point). StillKeeps pt.view q.view) e (fewer_keeps pt.view pt.view refl (same_fewer pt.view))
+still_keeps rest (l ∷ ls) pt next still walks leads =
+    let two = parts (is_still l) (are_still ls) still in
+    let (mid, first, last) = bind-is (after_line pt l) (λ (q : Point). after q ls) next leads in
+    let (s, step_, then_) = bind-is (kernel_after pt.kernel (label_of l)) (λ (s : OneKernel). Some (moved pt l s)) mid first in
+    let is : moved pt l s ≡ mid = cc in
+    let one : StillKeeps pt.view mid.view = subst (λ (q : Point). StillKeeps pt.view q.view) is (line_keeps pt l two.0 walks.0) in
+    let leads_one : after pt (l ∷ []) ≡ Some mid = ap (λ (o : Option Point). bind o (λ (q : Point). after q [])) first in
+    still_on pt.view mid.view next.view one (still_keeps rest ls mid next two.1 (walks.1 mid (record { lines = l ∷ []; are = refl; leads = leads_one })) last)

@@ -1,0 +1,235 @@
+-- A waiting process is served: it receives the first message that it waits for, or is refused it.
+use Rattle.std.proofs.Common.{◌≡◌, ℕ, ◌+◌, ◌≤◌, Bool, true, false, List, [], ◌∷◌, map, length, refl, ap, ◌∙◌, sym, subst, inl, inr, arith}
+use Rattle.std.specs.Prelude.{if◌then◌else◌}
+use Rattle.std.specs.declared.option.Option.{Option}
+use Rattle.std.specs.declared.option.Option.TheVariants.{None, Some}
+use Rattle.std.proofs.lemmas.Bool.{cases_Bool}
+use Rattle.std.proofs.lemmas.Bool.Decides.{nat_tests}
+use Rattle.arrayvec.specs.ArrayVec.{ArrayVec}
+use Rattle.dm_link.specs.declared.Link.{Link}
+use Rattle.dm_link.specs.declared.Pid.{Pid}
+use Rattle.dm_link.specs.Names.{pid_eq}
+use Rattle.dm_link.specs.Plain.{PlainLink, plain_link}
+use Rattle.dm_message.specs.declared.Message.{Message}
+use Rattle.dm_message.specs.declared.MsgId.{MsgId}
+use Rattle.dm_message.specs.declared.What.{What}
+use Rattle.dm_message.specs.declared.What.TheVariants as what
+use Rattle.dm_message.specs.Ids.{id_eq}
+use Rattle.dm_message.specs.Plain.{PlainMessage, plain_message}
+use Rattle.dm_process.specs.Lawful.{IsLawfulProcess, IsLawfulStatus}
+use Rattle.dm_process.specs.Mail.{first_on, what_is_on, without_first_on}
+use Rattle.dm_process.specs.declared.process.Process.{Process}
+use Rattle.dm_process.specs.declared.process.Status.{Status}
+use Rattle.dm_process.specs.declared.process.Status.TheVariants as status
+use Rattle.dm_records.specs.declared.record.Record.TheVariants as record_
+use Rattle.dm_onekernel.specs.declared.boot.Boot.{Boot}
+use Rattle.dm_onekernel.specs.declared.label.Label.TheVariants as label
+use Rattle.dm_onekernel.specs.declared.label.Reply.{Reply}
+use Rattle.dm_onekernel.specs.Codes.{reply_code}
+use Rattle.dm_onekernel.specs.Options.{bind, when}
+use Rattle.dm_onekernel.specs.Kernel.{Life, Alive, OneKernel}
+use Rattle.dm_onekernel.specs.Plain.{plain_process, plain_status}
+use Rattle.dm_onekernel.specs.PlainProcess.{PlainProcess}
+use Rattle.dm_onekernel.specs.Receiving as receiving
+use Rattle.dm_onekernel.specs.Receiving.{receive_refusals}
+use Rattle.dm_onekernel.specs.Refusals.{first_failed}
+use Rattle.dm_onekernel.specs.Service as service
+use Rattle.dm_onekernel.specs.Step as kernel
+use Rattle.dm_datamove.proofs.Services.{length-written}
+use Rattle.dm_syscall.specs.Completing as completing
+use Rattle.dm_syscall.specs.Completing.{Completion, IsAwaited, plain_completed}
+use Rattle.dm_syscall.proofs.Completes.{status_plainly}
+use Rattle.dm_laws.proofs.Equal.{id_eq-is, pid_eq-same}
+use Rattle.dm_line.specs.declared.line.Line.TheVariants as line
+use Rattle.dm_rule.specs.Point.{Point, moved}
+use Rattle.dm_rule.specs.Rule as rule
+use Rattle.dm_line.specs.Sets.{moved_back, without_id}
+use Rattle.dm_rule.specs.Spots.{Spot, Queue, times, standing, StandsRight}
+use Rattle.dm_rule.specs.View.{View, serving}
+use Rattle.dm_rule.proofs.Standing.{once_at}
+use Rattle.dm_rulelaws.proofs.Fits.Rises.{set_at}
+use Rattle.dm_places.specs.Placed.{Placed}
+use Rattle.dm_places.specs.PlacedStep as placed
+use Rattle.dm_places.proofs.Matches.{Ends, completed_matches}
+use Rattle.dm_places.proofs.Queues.{with_queue}
+use Rattle.dm_kernel.specs.State as machine
+use Rattle.dm_kernel.specs.State.{KernelState, Turned, turned, with_here}
+use Rattle.dm_kernel.specs.Serve as serve
+use Rattle.dm_mirror.specs.Stands.{AreMessages}
+use Rattle.dm_mirror.proofs.Kernel.Sets.{Leaves, view_leaves_on, kernel_leaves_on, placed_leaves_on, is_queue_of, off_if, on_if, messages_on, eq_self}
+use Rattle.dm_mirror.proofs.Kernel.Labels.{view_serving, view_queue, kernel_sets, kernel_out, placed_sets, placed_out, NotOwn, not_own_some, machine_on, record_on, label_mirrors, after_label}
+use Rattle.dm_mirror.proofs.Serve.Runs.{Found, found}
+use Rattle.dm_mirror.proofs.Serving.{Served, Acts, acts_as, moved_round, served_goes, is_for, queue_alone}
+
+-- a message on the mask is a user message
+record UserIs (w : What) : Type 0 where
+  code : ℕ
+  channel : ℕ
+  body : ArrayVec ℕ
+  links : ArrayVec Link
+  is : w ≡ what.User code channel body links
+
+user_is : (mask : ℕ) (w : What) → what_is_on mask w ≡ true → UserIs w
+user_is mask (what.User code channel body links) e = record { code = code; channel = channel; body = body; links = links; is = refl }
+user_is mask w e = cc
+
+-- a message that stood once has left the list
+gone_if : (i j : MsgId) (js : List MsgId) (c : Bool) → id_eq i j ≡ c → times i (j ∷ js) ≤ 1 → (times i js ≤ 1 → times i (without_id i js) ≡ 0) → times i (if c then js else j ∷ without_id i js) ≡ 0
+gone_if i j js true e few rest = let f : times i (j ∷ js) ≡ 1 + times i js = ap (λ (c : Bool). (if c then 1 else 0) + times i js) e in omega (arith, few, f)
+gone_if i j js false e few rest =
+    let f : times i (j ∷ js) ≡ 0 + times i js = ap (λ (c : Bool). (if c then 1 else 0) + times i js) e in
+    ap (λ (c : Bool). (if c then 1 else 0) + times i (without_id i js)) e ∙ (let g : times i (without_id i js) ≡ 0 = rest (omega (arith, few, f)) in let k : 0 + times i (without_id i js) ≡ 0 = omega (arith, g) in k)
+
+gone_from : (i : MsgId) (ids : List MsgId) → times i ids ≤ 1 → times i (without_id i ids) ≡ 0
+gone_from i [] few = refl
+gone_from i (j ∷ js) few = gone_if i j js (id_eq i j) refl few (gone_from i js)
+
+-- the body fits into the buffer
+body_fits : (x : PlainProcess) (size : ℕ) (body : List ℕ) (links : List PlainLink) → first_failed (receive_refusals x size body links) ≡ None → length body ≤ size
+body_fits x size body links e = grind (arith, nat_tests)
+
+-- the message that it waits for, in the kernel without machines
+record Comes (s : OneKernel) (l : Placed) (p : Pid) (ids : List MsgId) (w : Message) : Type 0 where
+  u : PlainMessage
+  there : s.bag w.id ≡ Some u
+  says : plain_message w ≡ Some u
+  to : u.to ≡ p
+
+comes_of : (b : Boot) (m : ℕ) (pt : Point) (l : Placed) (k : KernelState) (p : Pid) (x : Process) (mask : ℕ) (w : Message) → Served b m pt l k p x → Found l mask (pt.view.queue m p) x.queue w → Comes pt.kernel l p (pt.view.queue m p) w
+comes_of b m pt l k p x mask w s f =
+    let g = is_for pt.kernel p (pt.view.queue m p) w.id s.drops f.stands in
+    let says : plain_message w ≡ Some g.x = sym (ap (λ (o : Option Message). bind o plain_message) f.there) ∙ s.mirrors.plain.bag w.id ∙ g.there in
+    record { u = g.x; there = g.there; says = says; to = g.to }
+
+-- how the receive ends: by the machine, by the kernel without machines, and by the kernel with places
+record Completes (m : ℕ) (pt : Point) (l : Placed) (p : Pid) (x : Process) (w : Message) (d : Completion) : Type 0 where
+  machine_ : completing.completion x 0 x.status (Some w) ≡ Some d
+  parts : rule.receives pt.kernel p (plain_process x) (Some w.id) ≡ Some (rule.completes p w.id (plain_completed d.completed d.process))
+  completing_ : kernel.completing pt.kernel p w.id ≡ Some (plain_completed d.completed d.process)
+  ends : Ends l p w.id d
+
+completes_of : (b : Boot) (m : ℕ) (pt : Point) (l : Placed) (k : KernelState) (p : Pid) (x : Process) (mask base size : ℕ) (w : Message) (d : Completion) (s : Served b m pt l k p x) → x.status ≡ status.Waiting mask base size → Found l mask (pt.view.queue m p) x.queue w
+    → completing.completion x 0 x.status (Some w) ≡ Some d → Completes m pt l p x w d
+completes_of b m pt l k p x mask base size w d s waits f e =
+    let c = comes_of b m pt l k p x mask w s f in
+    let pid : x.pid ≡ p = (s.mirrors.places.process p (with_queue x s.at.queue) s.at.there).pid in
+    let on : IsAwaited x.status (Some w) = subst (λ (z : Status). IsAwaited z (Some w)) (sym waits) f.on in
+    let plain : receiving.completes_status x.pid (plain_process x) c.u (plain_status x.status) ≡ Some (plain_completed d.completed d.process) = status_plainly x 0 x.status (Some w) d c.u on e c.says (c.to ∙ sym pid) in
+    let with_ : receiving.completes_with p (plain_process x) c.u ≡ Some (plain_completed d.completed d.process) =
+    ap (λ (z : Bool). if z then None else receiving.completes_status p (plain_process x) c.u (plain_status x.status)) s.going ∙ ap (λ (q : Pid). receiving.completes_status q (plain_process x) c.u (plain_status x.status)) (sym pid) ∙ plain
+    in
+    record {
+      machine_ = e;
+      parts = ap (λ (o : Option PlainMessage). bind o (λ (u : PlainMessage). bind (receiving.completes_with p (plain_process x) u) (λ (v : receiving.Completed). Some (rule.completes p w.id v)))) c.there
+          ∙ ap (λ (o : Option receiving.Completed). bind o (λ (v : receiving.Completed). Some (rule.completes p w.id v))) with_;
+      completing_ = ap (λ (o : Option Life). bind (kernel.alive o) (λ (v : PlainProcess). bind (pt.kernel.bag w.id) (receiving.completes_with p v))) s.at.alive
+          ∙ ap (λ (o : Option PlainMessage). bind o (receiving.completes_with p (plain_process x))) c.there ∙ with_;
+      ends = completed_matches l p w.id x s.at.queue 0 w d s.at.there f.there e;
+    }
+
+-- where the ring of the machine is behind the label
+ring_on : (m : ℕ) (p : Pid) (v : View) → v.acting ≡ m → (serving v p).ring m ≡ moved_back p (v.ring m)
+ring_on m p v at = machine_on v.ring v.acting m (moved_back p (v.ring v.acting)) at ∙ ap (λ (a : ℕ). moved_back p (v.ring a)) at
+
+-- what the process waits for isn't a kernel's own, and stands once
+not_own_some_there : (o : Option Message) (w : Message) (u : PlainMessage) → o ≡ Some w → plain_message w ≡ Some u → NotOwn o
+not_own_some_there o w u there says x e none = not_own_some w u says x (sym there ∙ e) none
+
+right_one : (i : MsgId) (o : Option PlainMessage) (u : PlainMessage) (f : Spot → ℕ) (z : Spot) → o ≡ Some u → 1 ≤ f z → StandsRight i o f → f z ≡ 1
+right_one i None u f z e least h = cc
+right_one i (Some v) u f z e least h = (once_at f z h least).0
+
+-- the message is received, unless it is refused
+receive_row : (b : Boot) (m : ℕ) (pt : Point) (l : Placed) (k : KernelState) (p : Pid) (x : Process) (mask base size : ℕ) (w : Message) (code channel : ℕ) (body : List ℕ) (links : List Link) (o : Option Reply) → Served b m pt l k p x → IsLawfulProcess x → x.status ≡ status.Waiting mask base size
+    → Found l mask (pt.view.queue m p) x.queue w → first_failed (receive_refusals (plain_process x) size body (map plain_link links)) ≡ o
+    → completing.completion x 0 x.status (Some w) ≡ Some (completing.completes_unless o x (completing.receives x 0 w.id base code channel body links)) → Acts b m pt l k p (serve.receives (moved_round k p) p x mask (Some w)) (rule.receives pt.kernel p (plain_process x) (Some w.id))
+receive_row b m pt l k p x mask base size w code channel body links None s lawful waits f fits e =
+    let t = is_queue_of m p in
+    let id = w.id in
+    let come = comes_of b m pt l k p x mask w s f in
+    let d = completing.receives x 0 id base code channel body links in
+    let c = completes_of b m pt l k p x mask base size w d s waits f e in
+    let z : Process = record d.process { queue = without_first_on mask x.queue } in
+    let ids = pt.view.queue m p in
+    let out = service.without_message pt.kernel id in
+    let u = kernel.goes_on out p (plain_process z) in
+    let step : kernel.step pt.kernel (label.Receive p id) ≡ Some u = ap (λ (v : Option receiving.Completed). bind v (kernel.receives pt.kernel p id)) c.completing_ in
+    let next = moved pt (line.Label (label.Receive p id)) u in
+    let lm = placed.without_message l id in
+    let on = placed.with_process lm p (Some (with_queue z c.ends.queue)) in
+    let leaves : Leaves m t p pt l next on = record {
+      view = view_leaves_on m t p pt.view (serving pt.view p) next.view (view_serving m t p pt.view s.acting) (view_queue m t p (serving pt.view p) (without_id id (pt.view.queue pt.view.acting p)) s.acting (λ n q off. off));
+      kernel = kernel_leaves_on p pt.kernel out u (kernel_out p pt.kernel id) (kernel_sets p out (Alive (plain_process z)));
+      placed_ = placed_leaves_on t p pt.view l lm on (placed_out t p pt.view l id (not_own_some_there (l.bag id) w come.u f.there come.says) (queue_alone m p pt.kernel pt.view s.kept id f.stands)) (placed_sets t p pt.view lm (Some (with_queue z c.ends.queue)));
+    } in
+    let queue : next.view.queue m p ≡ without_id id ids = record_on pt.view.queue pt.view.acting m p (without_id id (pt.view.queue pt.view.acting p)) s.acting ∙ ap (λ (a : ℕ). without_id id (pt.view.queue a p)) s.acting in
+    let none : times id (without_id id ids) ≡ 0 = gone_from id ids (let one : times id ids ≡ 1 = right_one id (pt.kernel.bag id) come.u (standing pt.view id) (Queue m p) come.there f.stands (s.kept id) in omega (arith, one)) in
+    let messages : AreMessages on.bag (next.view.queue m p) z.queue =
+    subst (λ (js : List MsgId). AreMessages on.bag js z.queue) (sym queue)
+    (messages_on l.bag on.bag (without_id id ids) z.queue (λ i least. off_if (id_eq id i) None (l.bag i) (apart i (without_id id ids) none least)) f.rest)
+    in
+    let reach : base + size ≤ length x.memory = subst (IsLawfulStatus (length x.memory)) waits lawful.status in
+    let short = body_fits (plain_process x) size body (map plain_link links) fits in
+    acts_as b m pt l k p (serve.receives (moved_round k p) p x mask (Some w)) (turned (with_here (moved_round k p) p z) (machine.says (label.Receive p id) ∷ [])) (rule.receives pt.kernel p (plain_process x) (Some id)) (Some (rule.says (label.Receive p id) ∷ []))
+    (ap (serve.received_by (moved_round k p) p x mask w) e) c.parts (record {
+      state = with_here (moved_round k p) p z;
+      says = line.Label (label.Receive p id) ∷ [];
+      route = None;
+      turn = refl;
+      outcome = refl;
+      next = next;
+      after = after_label pt (label.Receive p id) u [] next step refl;
+      placed = on;
+      mirrors = label_mirrors pt l on m (label.Receive p id) u s.mirrors s.acting tt step (ap (λ (v : Option Completion). bind v (λ (q : Completion). Some (placed.with_process lm p (Some q.process)))) c.ends.is);
+      kernel = served_goes b m pt next l on k p x z c.ends.queue s leaves refl (ring_on m p pt.view s.acting) (set_at out p (Alive (plain_process z))) (on_if (pid_eq p p) (Some (with_queue z c.ends.queue)) (lm.processes p) (pid_eq-same p)) messages
+          (length-written x.memory base body (omega (arith, reach, short)));
+      leaves = leaves;
+      sent = tt;
+      still = refl;
+      count = refl;
+      records = λ q off. off_if (pid_eq p q) (Some (record_.Here z)) (k.records q) off;
+    })
+  where
+    apart : (i : MsgId) (js : List MsgId) → times w.id js ≡ 0 → 1 ≤ times i js → id_eq w.id i ≡ false
+    apart i js none least = elim (cases_Bool (id_eq w.id i)) [
+      | inl same ↦ absurd (let g : times w.id js ≡ times i js = ap (λ (v : MsgId). times v js) (id_eq-is w.id i same) in omega (arith, none, least, g))
+      | inr away ↦ away
+    ]
+receive_row b m pt l k p x mask base size w code channel body links (Some reply) s lawful waits f fits e =
+    let t = is_queue_of m p in
+    let id = w.id in
+    let d = completing.refusal reply x in
+    let c = completes_of b m pt l k p x mask base size w d s waits f e in
+    let z = d.process in
+    let u = kernel.goes_on pt.kernel p (plain_process z) in
+    let step : kernel.step pt.kernel (label.Refuse p id reply) ≡ Some u = ap (λ (v : Option receiving.Completed). bind v (kernel.refuses pt.kernel p reply)) c.completing_ ∙ ap (λ (q : Bool). when q u) (eq_self (reply_code reply)) in
+    let next = moved pt (line.Label (label.Refuse p id reply)) u in
+    let on = placed.with_process l p (Some (with_queue z c.ends.queue)) in
+    let leaves : Leaves m t p pt l next on = record { view = view_serving m t p pt.view s.acting; kernel = kernel_sets p pt.kernel (Alive (plain_process z)); placed_ = placed_sets t p pt.view l (Some (with_queue z c.ends.queue)) } in
+    acts_as b m pt l k p (serve.receives (moved_round k p) p x mask (Some w)) (turned (with_here (moved_round k p) p z) (machine.says (label.Refuse p id reply) ∷ [])) (rule.receives pt.kernel p (plain_process x) (Some id)) (Some (rule.says (label.Refuse p id reply) ∷ []))
+    (ap (serve.received_by (moved_round k p) p x mask w) e) c.parts (record {
+      state = with_here (moved_round k p) p z;
+      says = line.Label (label.Refuse p id reply) ∷ [];
+      route = None;
+      turn = refl;
+      outcome = refl;
+      next = next;
+      after = after_label pt (label.Refuse p id reply) u [] next step refl;
+      placed = on;
+      mirrors = label_mirrors pt l on m (label.Refuse p id reply) u s.mirrors s.acting tt step (ap (λ (v : Option Completion). bind v (λ (q : Completion). Some (placed.with_process l p (Some q.process)))) c.ends.is);
+      kernel = served_goes b m pt next l on k p x z c.ends.queue s leaves refl (ring_on m p pt.view s.acting) (set_at pt.kernel p (Alive (plain_process z))) (on_if (pid_eq p p) (Some (with_queue z c.ends.queue)) (l.processes p) (pid_eq-same p)) s.at.messages refl;
+      leaves = leaves;
+      sent = tt;
+      still = refl;
+      count = refl;
+      records = λ q off. off_if (pid_eq p q) (Some (record_.Here z)) (k.records q) off;
+    })
+
+pub receives_acts : (b : Boot) (m : ℕ) (pt : Point) (l : Placed) (k : KernelState) (p : Pid) (x : Process) (mask base size : ℕ) (w : Message) → Served b m pt l k p x → IsLawfulProcess x → x.status ≡ status.Waiting mask base size → first_on mask x.queue ≡ Some w
+    → Acts b m pt l k p (serve.receives (moved_round k p) p x mask (Some w)) (rule.receives pt.kernel p (plain_process x) (Some w.id))
+receives_acts b m pt l k p x mask base size w s lawful waits first =
+    let f = found l mask (pt.view.queue m p) x.queue w (λ i n there. (s.mirrors.places.message i n there).id) s.at.messages first in
+    let v = user_is mask w.what f.on in
+    let o = first_failed (receive_refusals (plain_process x) size v.body.items (map plain_link v.links.items)) in
+    receive_row b m pt l k p x mask base size w v.code v.channel v.body.items v.links.items o s lawful waits f refl
+    (ap (λ (st : Status). completing.completion x 0 st (Some w)) waits ∙ ap (completing.completes x 0 w.id base size) v.is)

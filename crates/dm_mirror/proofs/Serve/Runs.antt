@@ -1,0 +1,238 @@
+-- The machine and the rule serve the same process: its messages, which process can be served, and how far it comes.
+use Rattle.std.proofs.Common.{◌≡◌, ℕ, zero, suc, ◌+◌, ◌<◌, ◌≤◌, ◌&&◌, not, Bool, true, false, List, [], ◌∷◌, map, refl, ap, ◌∙◌, sym, subst, inl, inr, arith, is_some}
+use Rattle.std.specs.Prelude.{if◌then◌else◌, option_map}
+use Rattle.std.specs.declared.option.Option.{Option}
+use Rattle.std.specs.declared.option.Option.TheVariants.{None, Some}
+use Rattle.std.proofs.lemmas.Bool.{cases_Bool, false≢true}
+use Rattle.dm_link.specs.declared.Pid.{Pid}
+use Rattle.dm_message.specs.declared.Message.{Message}
+use Rattle.dm_message.specs.declared.MsgId.{MsgId}
+use Rattle.dm_message.specs.declared.What.{What}
+use Rattle.dm_message.specs.declared.What.TheVariants as what
+use Rattle.dm_message.specs.Ids.{id_eq}
+use Rattle.dm_message.specs.Plain.{plain_message, plain_what, with_what}
+use Rattle.dm_processor.specs.declared.registers.Regs.{Regs}
+use Rattle.dm_processor.specs.declared.registers.Fault.{Fault}
+use Rattle.dm_processor.specs.Instructions.{Row, instruction}
+use Rattle.dm_processor.specs.Instructions as row
+use Rattle.dm_process.specs.Mail.{first_on, is_on, what_is_on, without_first_on}
+use Rattle.dm_process.specs.Process.{status_is_runnable}
+use Rattle.dm_process.specs.declared.process.Process.{Process}
+use Rattle.dm_process.specs.declared.process.Status.{Status}
+use Rattle.dm_process.specs.declared.process.Status.TheVariants as status
+use Rattle.dm_records.specs.declared.record.Record.TheVariants as record_
+use Rattle.dm_onekernel.specs.declared.boot.Boot.{Boot}
+use Rattle.dm_onekernel.specs.Options.{bind}
+use Rattle.dm_onekernel.specs.Kernel.{Life, Alive, OneKernel}
+use Rattle.dm_onekernel.specs.Kernel as kernels
+use Rattle.dm_onekernel.specs.Plain.{plain_process, plain_status}
+use Rattle.dm_onekernel.specs.PlainProcess.{PlainProcess}
+use Rattle.dm_onekernel.specs.Step as kernel
+use Rattle.dm_onekernel.specs.Step.{Machine}
+use Rattle.dm_laws.proofs.Equal.{pid_eq-same, id_eq-is, id_eq-same}
+use Rattle.dm_rule.specs.Point.{Point}
+use Rattle.dm_rule.specs.Rule as rule
+use Rattle.dm_line.specs.Sets.{without_id}
+use Rattle.dm_rule.specs.Spots.{times}
+use Rattle.dm_rule.specs.View as view
+use Rattle.dm_rule.specs.View.{View}
+use Rattle.dm_rulelaws.specs.Fits.{is_server}
+use Rattle.dm_rulelaws.specs.KnownStands.{rings}
+use Rattle.dm_rulelaws.specs.KnownStands as rings
+use Rattle.dm_places.specs.Placed.{Placed, MirrorsKernel}
+use Rattle.dm_places.proofs.Queues.{with_queue}
+use Rattle.dm_kernel.specs.declared.run.Halt.TheVariants as halt
+use Rattle.dm_kernel.specs.State as machine
+use Rattle.dm_kernel.specs.State.{KernelState}
+use Rattle.dm_kernel.specs.Serve as serve
+use Rattle.dm_kernel.specs.Turn as turn
+use Rattle.dm_mirror.specs.Stands.{AreMessages, KnownStands, KernelStands}
+use Rattle.dm_mirror.proofs.Kernel.Sets.{times_self, times_more}
+
+-- a message is awaited without its places where it is on the mask with them
+awaited_what : (mask : ℕ) (m : Message) (w : What) → rule.is_awaited mask (with_what m (plain_what w)) ≡ what_is_on mask w
+awaited_what mask m (what.User code channel body links) = refl
+awaited_what mask m w = refl
+
+awaited_on : (s : OneKernel) (l : Placed) (mask : ℕ) (i : MsgId) (m : Message) → MirrorsKernel s l → l.bag i ≡ Some m → rule.is_awaited mask (s.bag i) ≡ is_on mask m
+awaited_on s l mask i m h there = ap (rule.is_awaited mask) (sym (h.bag i) ∙ ap (λ (o : Option Message). bind o plain_message) there) ∙ awaited_what mask m m.what
+
+-- the messages of a list are known under their names
+abbrev pub Names : Placed → Type 0
+Names l = (i : MsgId) (m : Message) → l.bag i ≡ Some m → m.id ≡ i
+
+abbrev id_in : Message → MsgId
+id_in m = m.id
+
+both_if : (c d : Bool) (i : MsgId) (m : Message) (o : Option MsgId) (u : Option Message) → c ≡ d → m.id ≡ i → o ≡ option_map id_in u → (if c then Some i else o) ≡ option_map id_in (if d then Some m else u)
+both_if true true i m o u e name rest = ap Some (sym name)
+both_if false false i m o u e name rest = rest
+both_if true false i m o u e name rest = cc
+both_if false true i m o u e name rest = cc
+
+pub first_same : (s : OneKernel) (l : Placed) (mask : ℕ) (ids : List MsgId) (ms : List Message) → MirrorsKernel s l → Names l → AreMessages l.bag ids ms → rule.first_awaited s mask ids ≡ option_map id_in (first_on mask ms)
+first_same s l mask [] [] h names are = refl
+first_same s l mask [] (m ∷ ms) h names are = cc
+first_same s l mask (i ∷ is) [] h names are = cc
+first_same s l mask (i ∷ is) (m ∷ ms) h names are =
+    let there : l.bag i ≡ Some m = cc in
+    let rest : AreMessages l.bag is ms = cc in
+    both_if (rule.is_awaited mask (s.bag i)) (is_on mask m) i m (rule.first_awaited s mask is) (first_on mask ms) (awaited_on s l mask i m h there) (names i m there) (first_same s l mask is ms h names rest)
+
+-- the message that is found, and what is left of the lists
+pub record Found (l : Placed) (mask : ℕ) (ids : List MsgId) (ms : List Message) (m : Message) : Type 0 where
+  pub there : l.bag m.id ≡ Some m
+  pub on : is_on mask m ≡ true
+  pub stands : 1 ≤ times m.id ids
+  pub rest : AreMessages l.bag (without_id m.id ids) (without_first_on mask ms)
+
+found_here : (l : Placed) (mask : ℕ) (i : MsgId) (is : List MsgId) (n : Message) (ns : List Message) → is_on mask n ≡ true → n.id ≡ i → l.bag i ≡ Some n → AreMessages l.bag is ns → Found l mask (i ∷ is) (n ∷ ns) n
+found_here l mask i is n ns on name there are =
+    let same : id_eq n.id i ≡ true = ap (λ (j : MsgId). id_eq j i) name ∙ id_eq-same i in
+    record {
+      there = ap l.bag name ∙ there;
+      on = on;
+      stands = subst (λ (j : MsgId). 1 ≤ times j (i ∷ is)) (sym name) (times_self i is);
+      rest = ap (λ (c : Bool). map l.bag (if c then is else i ∷ without_id n.id is)) same ∙ are ∙ sym (ap (λ (c : Bool). map Some (if c then ns else n ∷ without_first_on mask ns)) on);
+    }
+
+found_later : (l : Placed) (mask : ℕ) (i : MsgId) (is : List MsgId) (n m : Message) (ns : List Message) → is_on mask n ≡ false → l.bag i ≡ Some n → Found l mask is ns m → Found l mask (i ∷ is) (n ∷ ns) m
+found_later l mask i is n m ns off there f = record {
+  there = f.there;
+  on = f.on;
+  stands = (let least = f.stands in let more = times_more m.id i is in omega (arith, least, more));
+  rest = ap (λ (c : Bool). map l.bag (if c then is else i ∷ without_id m.id is)) apart ∙ (λ j. there j ∷ f.rest j) ∙ sym (ap (λ (c : Bool). map Some (if c then ns else n ∷ without_first_on mask ns)) off);
+}
+  where
+    apart : id_eq m.id i ≡ false
+    apart = elim (cases_Bool (id_eq m.id i)) [
+      | inl same ↦
+          let e : Some m ≡ Some n = sym f.there ∙ ap l.bag (id_eq-is m.id i same) ∙ there in
+          let k : m ≡ n = cc in
+          absurd (false≢true (sym off ∙ ap (is_on mask) (sym k) ∙ f.on))
+      | inr away ↦ away
+    ]
+
+found_if : (l : Placed) (mask : ℕ) (i : MsgId) (is : List MsgId) (n m : Message) (ns : List Message) (c : Bool) → is_on mask n ≡ c → n.id ≡ i → l.bag i ≡ Some n → AreMessages l.bag is ns → (if c then Some n else first_on mask ns) ≡ Some m
+    → (first_on mask ns ≡ Some m → Found l mask is ns m) → Found l mask (i ∷ is) (n ∷ ns) m
+found_if l mask i is n m ns true on name there are e more = let k : n ≡ m = cc in subst (Found l mask (i ∷ is) (n ∷ ns)) k (found_here l mask i is n ns on name there are)
+found_if l mask i is n m ns false off name there are e more = found_later l mask i is n m ns off there (more e)
+
+pub found : (l : Placed) (mask : ℕ) (ids : List MsgId) (ms : List Message) (m : Message) → Names l → AreMessages l.bag ids ms → first_on mask ms ≡ Some m → Found l mask ids ms m
+found l mask [] [] m names are e = cc
+found l mask [] (n ∷ ns) m names are e = absurd (let f : [] ≡ map Some (n ∷ ns) = are in cc)
+found l mask (i ∷ is) [] m names are e = cc
+found l mask (i ∷ is) (n ∷ ns) m names are e =
+    let there : l.bag i ≡ Some n = cc in
+    let rest : AreMessages l.bag is ns = cc in
+    found_if l mask i is n m ns (is_on mask n) refl (names i n there) there rest e (found l mask is ns m names rest)
+
+-- a living process of machine m is there, as the kernel without machines has it
+pub record IsHere (pt : Point) (l : Placed) (m : ℕ) (k : KernelState) (p : Pid) (z : PlainProcess) : Type 0 where
+  pub x : Process
+  pub record_is : k.records p ≡ Some (record_.Here x)
+  pub queue : List Message
+  pub there : l.processes p ≡ Some (with_queue x queue)
+  pub messages : AreMessages l.bag (pt.view.queue m p) x.queue
+  pub plain : z ≡ plain_process x
+  pub known : pt.view.known m p ≡ view.Here
+
+here_at : (pt : Point) (l : Placed) (m : ℕ) (k : KernelState) (p : Pid) (z : PlainProcess) (r : Option machine.Known) → k.records p ≡ r → pt.view.known m p ≡ view.Here → KnownStands pt l p (pt.view.queue m p) (pt.view.held m p) view.Here r
+    → MirrorsKernel pt.kernel l → pt.kernel.processes p ≡ Some (Alive z) → IsHere pt l m k p z
+here_at pt l m k p z (Some (record_.Here x)) e known h mirrors alive =
+    let f : Some z ≡ Some (plain_process x) = sym (ap kernel.alive alive) ∙ mirrors.processes p ∙ ap (option_map plain_process) h.0.1 in
+    record { x = x; record_is = e; queue = h.0.0; there = h.0.1; messages = h.1; plain = cc; known = known }
+here_at pt l m k p z r e known h mirrors alive = absurd h
+
+pub here_of : (b : Boot) (pt : Point) (l : Placed) (m : ℕ) (k : KernelState) (p : Pid) (z : PlainProcess) → KernelStands b pt l m k → MirrorsKernel pt.kernel l → pt.view.known m p ≡ view.Here → is_server p ≡ false → pt.kernel.processes p ≡ Some (Alive z) → IsHere pt l m k p z
+here_of b pt l m k p z h mirrors here server alive =
+    here_at pt l m k p z (k.records p) refl here (subst (λ (w : view.Known). KnownStands pt l p (pt.view.queue m p) (pt.view.held m p) w (k.records p)) here (h.known p server)) mirrors alive
+
+-- it can be served by the rule where it can by the machine
+some_same : (o : Option Message) → is_some (option_map id_in o) ≡ is_some o
+some_same None = refl
+some_same (Some m) = refl
+
+status_same : (s : OneKernel) (l : Placed) (ids : List MsgId) (ms : List Message) (st : Status) → MirrorsKernel s l → Names l → AreMessages l.bag ids ms → rule.status_can_go s ids (plain_status st) ≡ status_is_runnable st ms
+status_same s l ids ms status.Ready h names are = refl
+status_same s l ids ms (status.Waiting mask base size) h names are = ap is_some (first_same s l mask ids ms h names are) ∙ some_same (first_on mask ms)
+status_same s l ids ms (status.Moving dir owner base own left pending) h names are = refl
+
+go_same : (b : Boot) (pt : Point) (l : Placed) (m : ℕ) (k : KernelState) (p : Pid) (z : PlainProcess) → MirrorsKernel pt.kernel l → Names l → pt.kernel.processes p ≡ Some (Alive z) → IsHere pt l m k p z
+    → rule.can_go pt.kernel (pt.view.queue m p) (kernel.alive (pt.kernel.processes p)) ≡ turn.known_is_runnable (k.records p)
+go_same b pt l m k p z h names alive at =
+    ap (λ (o : Option Life). rule.can_go pt.kernel (pt.view.queue m p) (kernel.alive o)) alive ∙ ap (λ (y : PlainProcess). rule.can_go pt.kernel (pt.view.queue m p) (Some y)) at.plain
+    ∙ ap (λ (c : Bool). not at.x.stopped && c) (status_same pt.kernel l (pt.view.queue m p) at.x.queue at.x.status h names at.messages) ∙ sym (ap turn.known_is_runnable at.record_is)
+
+-- the first process of the ring that can be served
+if_same : (c d : Bool) (p : Pid) (o u : Option Pid) → c ≡ d → o ≡ u → (if c then Some p else o) ≡ (if d then Some p else u)
+if_same c d p o u e f = λ i. if e i then Some p else f i
+
+runs_same : (s : OneKernel) (queue : Pid → List MsgId) (records : Pid → Option machine.Known) (ps : List Pid) → ((p : Pid) → 1 ≤ rings p ps → rule.can_go s (queue p) (kernel.alive (s.processes p)) ≡ turn.known_is_runnable (records p))
+    → rule.first_runnable s queue ps ≡ turn.first_runnable records ps
+runs_same s queue records [] h = refl
+runs_same s queue records (p ∷ ps) h =
+    if_same (rule.can_go s (queue p) (kernel.alive (s.processes p))) (turn.known_is_runnable (records p)) p (rule.first_runnable s queue ps) (turn.first_runnable records ps) (h p first)
+    (runs_same s queue records ps (λ q least. h q (let more : rings q ps ≤ rings q (p ∷ ps) = omega arith in omega (arith, least, more))))
+  where
+    first : 1 ≤ rings p (p ∷ ps)
+    first = let e : rings p (p ∷ ps) ≡ 1 + rings p ps = ap (λ (c : Bool). (if c then 1 else 0) + rings p ps) (pid_eq-same p) in omega (arith, e)
+
+-- what stands in a machine's ring is there, and lives
+pub record Rings (pt : Point) (m : ℕ) (p : Pid) : Type 0 where
+  pub server : is_server p ≡ false
+  pub here : pt.view.known m p ≡ view.Here
+  pub z : PlainProcess
+  pub alive : pt.kernel.processes p ≡ Some (Alive z)
+
+record Turns (c : Bool) (k : view.Known) : Type 0 where
+  server : c ≡ false
+  here : k ≡ view.Here
+
+turns_of : (c : Bool) (k : view.Known) → 1 ≤ rings.turns_here c k → Turns c k
+turns_of true k least = absurd (omega (arith, least))
+turns_of false view.Unknown least = absurd (omega (arith, least))
+turns_of false view.Here least = record { server = refl; here = refl }
+turns_of false (view.Frozen to) least = absurd (omega (arith, least))
+turns_of false (view.Incoming from) least = absurd (omega (arith, least))
+turns_of false (view.Forward at_ moves) least = absurd (omega (arith, least))
+turns_of false view.Ended least = absurd (omega (arith, least))
+
+rings_of : (pt : Point) (m : ℕ) (p : Pid) (o : Option Life) → pt.kernel.processes p ≡ o → is_server p ≡ false → pt.view.known m p ≡ view.Here → rings.agrees view.Here o ≡ true → Rings pt m p
+rings_of pt m p None e server here agree = cc
+rings_of pt m p (Some (kernels.Ended y)) e server here agree = cc
+rings_of pt m p (Some (Alive z)) e server here agree = record { server = server; here = here; z = z; alive = e }
+
+pub in_ring : (pt : Point) (m : ℕ) (p : Pid) → rings.KnownStands pt.kernel pt.view → 1 ≤ rings p (pt.view.ring m) → Rings pt m p
+in_ring pt m p h least =
+    let t = turns_of (is_server p) (pt.view.known m p) (subst (λ (n : ℕ). 1 ≤ n) (h.ring m p) least) in
+    rings_of pt m p (pt.kernel.processes p) refl t.server t.here (subst (λ (k : view.Known). rings.agrees k (pt.kernel.processes p) ≡ true) t.here (h.agree m p t.server))
+
+pub first_runs : (b : Boot) (pt : Point) (l : Placed) (m : ℕ) (k : KernelState) → KernelStands b pt l m k → MirrorsKernel pt.kernel l → Names l → rings.KnownStands pt.kernel pt.view
+    → rule.first_runnable pt.kernel (pt.view.queue m) (pt.view.ring m) ≡ turn.first_runnable k.records k.ring
+first_runs b pt l m k h mirrors names known =
+    runs_same pt.kernel (pt.view.queue m) k.records (pt.view.ring m) (λ p least.
+    let r = in_ring pt m p known least in
+    go_same b pt l m k p r.z mirrors names r.alive (here_of b pt l m k p r.z h mirrors r.here r.server r.alive))
+    ∙ sym (ap (turn.first_runnable k.records) h.ring)
+
+-- how far a process comes: the same count by the rule and by the machine, and what stops it
+pub data Comes (k : ℕ) (u : rule.Ran) (r : serve.Ran) : Type 0 where
+  Whole : (all : u.count ≡ k) → (is : r ≡ record { count = u.count; machine = u.machine; halt = None }) → Comes k u r
+  Called : (n : ℕ) → (regs : Regs) → (less : u.count < k) → (stops : instruction u.machine.regs u.machine.bytes ≡ row.Calls n regs)
+      → (is : r ≡ record { count = u.count; machine = record { regs = regs; bytes = u.machine.bytes }; halt = Some (halt.Call n) }) → Comes k u r
+  Faulted : (f : Fault) → (less : u.count < k) → (stops : instruction u.machine.regs u.machine.bytes ≡ row.Faults f) → (is : r ≡ record { count = u.count; machine = u.machine; halt = Some (halt.Fault f) }) → Comes k u r
+
+comes_on : (k : ℕ) (u : rule.Ran) (r : serve.Ran) → Comes k u r → Comes (suc k) (rule.one_more u) (serve.one_more r)
+comes_on k u r (Whole all is) = Whole (omega (arith, all)) (ap serve.one_more is)
+comes_on k u r (Called n regs less stops is) = Called n regs (omega (arith, less)) stops (ap serve.one_more is)
+comes_on k u r (Faulted f less stops is) = Faulted f (omega (arith, less)) stops (ap serve.one_more is)
+
+comes_row : (k : ℕ) (m : Machine) (w : Row) → instruction m.regs m.bytes ≡ w → ((n : Machine) → Comes k (rule.ran k n) (serve.ran k n)) → Comes (suc k) (rule.goes_on m (kernel.plain_row w) (rule.ran k)) (serve.after_row m w (serve.ran k))
+comes_row k m (row.Plain regs bytes) e h = let n : Machine = record { regs = regs; bytes = bytes } in comes_on k (rule.ran k n) (serve.ran k n) (h n)
+comes_row k m (row.Calls n regs) e h = Called n regs (omega arith) e refl
+comes_row k m (row.Faults f) e h = Faulted f (omega arith) e refl
+
+pub comes : (k : ℕ) (m : Machine) → Comes k (rule.ran k m) (serve.ran k m)
+comes zero m = Whole refl refl
+comes (suc k) m = comes_row k m (instruction m.regs m.bytes) refl (comes k)

@@ -1,0 +1,294 @@
+-- Where nothing is on its way between machines all is at rest.
+use Rattle.std.proofs.Common.{◌≡◌, ◌≢◌, ℕ, ◌+◌, ◌<◌, ◌≤◌, ◌==◌, ◌||◌, Bool, true, false, is_some, List, [], ◌∷◌, drop, refl, ap, ◌∙◌, sym, subst, inl, inr, nat_lt, nat_le, arith}
+use Rattle.std.specs.Prelude.{if◌then◌else◌}
+use Rattle.std.proofs.Math.Seq.{drop-length, drop-nil}
+use Rattle.std.proofs.lemmas.Bool.{cases_Bool, false≢true}
+use Rattle.std.proofs.lemmas.Bool.Decides.{nat_tests}
+use Rattle.std.specs.declared.option.Option.{Option}
+use Rattle.std.specs.declared.option.Option.TheVariants.{None, Some}
+use Rattle.dm_link.specs.declared.Pid.{Pid}
+use Rattle.dm_link.specs.Names.{pid_eq}
+use Rattle.dm_message.specs.declared.MsgId.{MsgId}
+use Rattle.dm_message.specs.declared.kind.MessageKind.{MessageKind}
+use Rattle.dm_message.specs.declared.kind.MessageKind.TheVariants as kind
+use Rattle.dm_message.specs.Kinds.{plain_kind}
+use Rattle.dm_message.specs.Plain as what
+use Rattle.dm_message.specs.Plain.{PlainMessage, PlainWhat}
+use Rattle.dm_onekernel.specs.declared.boot.Boot.{Boot}
+use Rattle.dm_onekernel.specs.Boot.{manager}
+use Rattle.dm_onekernel.specs.Kernel.{Alive}
+use Rattle.dm_onekernel.specs.PlainProcess.{PlainProcess}
+use Rattle.dm_laws.proofs.Equal.{id_eq-same}
+use Rattle.dm_laws.proofs.Sound.{not_server}
+use Rattle.dm_rule.specs.Addresses.{Receiver}
+use Rattle.dm_rule.specs.Homes.{to_of}
+use Rattle.dm_rule.specs.Phases as phases
+use Rattle.dm_rule.specs.Phases.{Phase, Nowhere, Rests, Over, Moves, knows, is_unknown, is_here, is_over, is_away, is_due, HasToken, IsToken, IsIn}
+use Rattle.dm_rule.specs.Point.{Point}
+use Rattle.dm_rule.specs.Quiet.{IsQuiet}
+use Rattle.dm_rule.specs.Spots.{Spot, Queue, Held, Inbox, Untaken, times, untaken, standing, StandsOutside}
+use Rattle.dm_rule.specs.View.{View, Told, Known, Unknown, Here, Frozen, Incoming, Forward, Ended, is_kernels}
+use Rattle.dm_rule.proofs.Groups.{stands_right}
+use Rattle.dm_rule.proofs.Letters.{kernels_fresh}
+use Rattle.dm_rule.proofs.Phases.Always.{phases_always}
+use Rattle.dm_movelaws.specs.AtRest.{AtRestAlways, IsAt, IsWaiting, is_moving}
+use Rattle.dm_rulelaws.specs.Fits.{is_server}
+use Rattle.dm_rulelaws.specs.Found.{machine_of, has_no_queue, has_nothing_held}
+use Rattle.dm_rulelaws.specs.KnownStands.{agrees}
+use Rattle.dm_movelaws.proofs.At.RestPairs.{Routed, routed_always}
+use Rattle.dm_movelaws.proofs.At.RestQueues.{Dropped, dropped_always}
+use Rattle.dm_rulelaws.proofs.Queued.{is_user}
+use Rattle.dm_rulelaws.proofs.Runs.{Run}
+use Rattle.dm_rulelaws.proofs.RunsAlways.{run_always}
+
+-- what stands somewhere stands on its way to a machine that there is
+own_by : (c : Bool) (f : Spot → ℕ) (z : Spot) → 1 ≤ f z → StandsOutside c f → c ≡ true
+own_by true f z least h = refl
+own_by false f z least h = absurd (let e : f z ≡ 0 = h z in omega (arith, least, e))
+
+told_of : (o : Option Told) → is_some o ≡ true → (t : Told) × (o ≡ Some t)
+told_of None e = cc
+told_of (Some t) e = (t, refl)
+
+within_by : (b : Boot) (pt : Point) (i : MsgId) (z : Spot) (o : Option PlainMessage) → pt.kernel.bag i ≡ o → Run b pt → 1 ≤ standing pt.view i z → (pt.addresses (Receiver i)).at < pt.kernel.machines
+within_by b pt i z (Some x) there h least = h.found.within (Receiver i) x.to (ap to_of there)
+within_by b pt i z None there h least =
+    let (t, told) = told_of (pt.view.told i) (h.found.told i z least) in
+    h.found.own_within i t told (own_by (is_kernels i) (standing pt.view i) z least (stands_right pt i h.based.phased.state None there))
+
+within : (b : Boot) (pt : Point) (i : MsgId) (z : Spot) → Run b pt → 1 ≤ standing pt.view i z → machine_of z < pt.kernel.machines
+within b pt i z h least = subst (λ (n : ℕ). n < pt.kernel.machines) (h.found.at_ i z least) (within_by b pt i z (pt.kernel.bag i) refl h least)
+
+first_times : (i : MsgId) (is xs : List MsgId) → xs ≡ i ∷ is → 1 ≤ times i xs
+first_times i is xs e =
+    let a : times i xs ≡ times i (i ∷ is) = ap (times i) e in
+    let c : times i (i ∷ is) ≡ 1 + times i is = ap (λ (c : Bool). (if c then 1 else 0) + times i is) (id_eq-same i) in
+    omega (arith, a, c)
+
+-- no message is on its way
+no_inbox : (b : Boot) (pt : Point) (m : ℕ) (is : List MsgId) → pt.view.inbox m ≡ is → Run b pt → IsQuiet pt.kernel.machines pt.view → pt.view.inbox m ≡ []
+no_inbox b pt m [] e h quiet = e
+no_inbox b pt m (i ∷ is) e h quiet = quiet.inbox m (within b pt i (Inbox m) h (first_times i is (pt.view.inbox m) e))
+
+no_untaken : (b : Boot) (pt : Point) (x y : ℕ) (is : List MsgId) → untaken (pt.view.pair x y) ≡ is → Run b pt → Routed pt.kernel.machines pt.view → IsQuiet pt.kernel.machines pt.view → untaken (pt.view.pair x y) ≡ []
+no_untaken b pt x y [] e h routed quiet = e
+no_untaken b pt x y (i ∷ is) e h routed quiet =
+    let to = within b pt i (Untaken x y) h (first_times i is (untaken (pt.view.pair x y)) e) in
+    let p = pt.view.pair x y in
+    elim (cases_Bool (nat_lt x pt.kernel.machines)) [
+      | inl less ↦ ap (λ (n : ℕ). drop n p.ids) (quiet.taken x y (let f : x < pt.kernel.machines = grind (arith, nat_tests) in f) to) ∙ drop-length p.ids
+      | inr more ↦ ap (drop p.taken) (routed.none x y (let f : pt.kernel.machines ≤ x = grind (arith, nat_tests) in f)) ∙ drop-nil p.taken
+    ]
+
+pub record Calm (v : View) : Type 0 where
+  pub inbox : (m : ℕ) → v.inbox m ≡ []
+  pub untaken : (x y : ℕ) → untaken (v.pair x y) ≡ []
+
+calm : (b : Boot) (pt : Point) → Run b pt → Routed pt.kernel.machines pt.view → IsQuiet pt.kernel.machines pt.view → Calm pt.view
+calm b pt h routed quiet = record {
+  inbox = λ m. no_inbox b pt m (pt.view.inbox m) refl h quiet;
+  untaken = λ x y. no_untaken b pt x y (untaken (pt.view.pair x y)) refl h routed quiet;
+}
+
+-- so no process moves
+unknown_still : (k : Known) → is_unknown k ≡ true → is_moving k ≡ false
+unknown_still Unknown e = refl
+unknown_still Here e = refl
+unknown_still (Frozen to) e = absurd (false≢true e)
+unknown_still (Incoming from) e = absurd (false≢true e)
+unknown_still (Forward to moves) e = refl
+unknown_still Ended e = refl
+
+here_still : (k : Known) → is_here k ≡ true → is_moving k ≡ false
+here_still Unknown e = refl
+here_still Here e = refl
+here_still (Frozen to) e = absurd (false≢true e)
+here_still (Incoming from) e = absurd (false≢true e)
+here_still (Forward to moves) e = refl
+here_still Ended e = refl
+
+over_still : (k : Known) → is_over k ≡ true → is_moving k ≡ false
+over_still Unknown e = refl
+over_still Here e = refl
+over_still (Frozen to) e = absurd (false≢true e)
+over_still (Incoming from) e = absurd (false≢true e)
+over_still (Forward to moves) e = refl
+over_still Ended e = refl
+
+away_still : (k : Known) → is_away k ≡ true → is_moving k ≡ false
+away_still Unknown e = refl
+away_still Here e = refl
+away_still (Frozen to) e = absurd (false≢true e)
+away_still (Incoming from) e = absurd (false≢true e)
+away_still (Forward to moves) e = refl
+away_still Ended e = refl
+
+rests_still : (c : Bool) (k : Known) → (if c then is_here k else is_away k) ≡ true → is_moving k ≡ false
+rests_still true k e = here_still k e
+rests_still false k e = away_still k e
+
+ends_still : (c : Bool) (k : Known) → (if c then is_over k else is_away k) ≡ true → is_moving k ≡ false
+ends_still true k e = over_still k e
+ends_still false k e = away_still k e
+
+no_token : (v : View) (p : Pid) (k : MessageKind) (s d : ℕ) (id : MsgId) → Calm v → IsToken v p k s d id → ⊥
+no_token v p k s d id h t =
+    let stands = t.stands in
+    elim (t.ways t.spot stands) [
+      | inl box ↦ let f : standing v id t.spot ≡ 0 = ap (standing v id) box ∙ ap (times id) (h.inbox (phases.receiver_in k s d)) in omega (arith, stands, f)
+      | inr way ↦ let f : standing v id t.spot ≡ 0 = ap (standing v id) way ∙ ap (times id) (h.untaken (phases.sender_in k s d) (phases.receiver_in k s d)) in omega (arith, stands, f)
+    ]
+
+phase_still : (v : View) (p : Pid) (phase : Phase) (m : ℕ) → Calm v → IsIn v p phase → is_due phase ≡ false → is_moving (v.known m p) ≡ false
+phase_still v p Nowhere m h is due = unknown_still (v.known m p) (is.known m)
+phase_still v p (Rests n) m h is due = rests_still (n == m) (v.known m p) (is.known m)
+phase_still v p (Over n) m h is due = ends_still (n == m) (v.known m p) (is.known m)
+phase_still v p (Moves k s d None) m h is due = absurd (false≢true (sym due))
+phase_still v p (Moves k s d (Some id)) m h is due =
+    absurd (no_token v p k s d id h is.token)
+
+still_held : (k : Known) → is_moving k ≡ false → has_nothing_held k ≡ true
+still_held Unknown e = refl
+still_held Here e = refl
+still_held (Frozen to) e = sym e
+still_held (Incoming from) e = sym e
+still_held (Forward to moves) e = refl
+still_held Ended e = refl
+
+-- a queue is where a process is
+still_queue : (k : Known) → is_moving k ≡ false → has_no_queue k ≡ false → (k ≡ Ended → ⊥) → k ≡ Here
+still_queue Unknown e f lives = absurd (false≢true (sym f))
+still_queue Here e f lives = refl
+still_queue (Frozen to) e f lives = absurd (false≢true (sym e))
+still_queue (Incoming from) e f lives = absurd (false≢true (sym f))
+still_queue (Forward to moves) e f lives = absurd (false≢true (sym f))
+still_queue Ended e f lives = absurd (lives refl)
+
+user_kind : (w : PlainWhat) → is_user w ≡ true → plain_kind w ≡ kind.User
+user_kind (what.User x1 x2 x3 x4) e = refl
+user_kind what.Stop e = absurd (false≢true e)
+user_kind what.Resume e = absurd (false≢true e)
+user_kind what.Kill e = absurd (false≢true e)
+user_kind (what.Read x1 x2) e = absurd (false≢true e)
+user_kind (what.Write x1 x2) e = absurd (false≢true e)
+user_kind (what.Block x1) e = absurd (false≢true e)
+user_kind what.Written e = absurd (false≢true e)
+user_kind what.Gone e = absurd (false≢true e)
+user_kind (what.Create x1 x2) e = absurd (false≢true e)
+user_kind (what.Created x1) e = absurd (false≢true e)
+user_kind what.NoRoom e = absurd (false≢true e)
+user_kind (what.Move x1) e = absurd (false≢true e)
+user_kind (what.Moved x1) e = absurd (false≢true e)
+
+-- all that stands stands in a queue
+pub record Rest (pt : Point) : Type 0 where
+  pub calm : Calm pt.view
+  pub still : (m : ℕ) (p : Pid) → is_moving (pt.view.known m p) ≡ false
+  pub held : (m : ℕ) (p : Pid) → pt.view.held m p ≡ []
+  pub dropped : Dropped pt.view
+
+waits_in : (b : Boot) (pt : Point) (i : MsgId) (x : PlainMessage) (m : ℕ) (p : Pid) → Run b pt → Rest pt → pt.kernel.bag i ≡ Some x → standing pt.view i (Queue m p) ≡ 1 → ((z : Spot) → z ≢ Queue m p → standing pt.view i z ≡ 0) → IsWaiting pt i x
+waits_in b pt i x m p h rest there one others =
+    let q = h.based.queued m p i (omega (arith, one)) in
+    let k = q.is x there in
+    let same : p ≡ x.to = sym k.0 in
+    let full : has_no_queue (pt.view.known m p) ≡ false = elim (cases_Bool (has_no_queue (pt.view.known m p))) [
+      | inl none ↦ absurd (let f : times i (pt.view.queue m p) ≡ 0 = ap (times i) (h.based.lists.queue m p none) in omega (arith, one, f))
+      | inr some ↦ some
+    ] in
+    record {
+      machine = m;
+      user = user_kind x.what k.1;
+      here = subst (λ (r : Pid). pt.view.known m r ≡ Here) same
+          (still_queue (pt.view.known m p) (rest.still m p) full (λ ended. let f : times i (pt.view.queue m p) ≡ 0 = ap (times i) (rest.dropped.queue m p ended) in omega (arith, one, f)));
+      queued = subst (λ (r : Pid). standing pt.view i (Queue m r) ≡ 1) same one;
+      alone = subst (λ (r : Pid). (z : Spot) → z ≢ Queue m r → standing pt.view i z ≡ 0) same others;
+    }
+
+nothing_one : (i : MsgId) (xs : List MsgId) → xs ≡ [] → times i xs ≡ 1 → ⊥
+nothing_one i xs e one = let f : times i xs ≡ 0 = ap (times i) e in omega (arith, one, f)
+
+waits_at : (b : Boot) (pt : Point) (i : MsgId) (x : PlainMessage) (z : Spot) → Run b pt → Rest pt → pt.kernel.bag i ≡ Some x → standing pt.view i z ≡ 1 → ((y : Spot) → y ≢ z → standing pt.view i y ≡ 0) → IsWaiting pt i x
+waits_at b pt i x (Queue m p) h rest there one others = waits_in b pt i x m p h rest there one others
+waits_at b pt i x (Held m p) h rest there one others = absurd (nothing_one i (pt.view.held m p) (rest.held m p) one)
+waits_at b pt i x (Inbox m) h rest there one others = absurd (nothing_one i (pt.view.inbox m) (rest.calm.inbox m) one)
+waits_at b pt i x (Untaken c d) h rest there one others = absurd (nothing_one i (untaken (pt.view.pair c d)) (rest.calm.untaken c d) one)
+
+own_queue : (b : Boot) (pt : Point) (i : MsgId) (m : ℕ) (p : Pid) → Run b pt → is_kernels i ≡ true → standing pt.view i (Queue m p) ≡ 0
+own_queue b pt i m p h own = elim (cases_Bool (nat_le 1 (times i (pt.view.queue m p)))) [
+  | inl some ↦
+      let state = h.based.phased.state in
+      let q = h.based.queued m p i (let f : 1 ≤ times i (pt.view.queue m p) = grind (arith, nat_tests) in f) in
+      let entered = q.entered in
+      absurd (let zero_ = kernels_fresh state.r state.e pt.kernel i state.sound own in omega (arith, entered, zero_))
+  | inr none ↦ let f : times i (pt.view.queue m p) ≡ 0 = grind (arith, nat_tests) in f
+]
+
+own_nowhere : (b : Boot) (pt : Point) (i : MsgId) (z : Spot) → Run b pt → Rest pt → is_kernels i ≡ true → standing pt.view i z ≡ 0
+own_nowhere b pt i (Queue m p) h rest own = own_queue b pt i m p h own
+own_nowhere b pt i (Held m p) h rest own = ap (times i) (rest.held m p)
+own_nowhere b pt i (Inbox m) h rest own = ap (times i) (rest.calm.inbox m)
+own_nowhere b pt i (Untaken c d) h rest own = ap (times i) (rest.calm.untaken c d)
+
+-- where a living process is
+is_here_is : (k : Known) → is_here k ≡ true → k ≡ Here
+is_here_is Unknown e = absurd (false≢true e)
+is_here_is Here e = refl
+is_here_is (Frozen to) e = absurd (false≢true e)
+is_here_is (Incoming from) e = absurd (false≢true e)
+is_here_is (Forward to moves) e = absurd (false≢true e)
+is_here_is Ended e = absurd (false≢true e)
+
+is_unknown_is : (k : Known) → is_unknown k ≡ true → k ≡ Unknown
+is_unknown_is Unknown e = refl
+is_unknown_is Here e = absurd (false≢true e)
+is_unknown_is (Frozen to) e = absurd (false≢true e)
+is_unknown_is (Incoming from) e = absurd (false≢true e)
+is_unknown_is (Forward to moves) e = absurd (false≢true e)
+is_unknown_is Ended e = absurd (false≢true e)
+
+over_dead : (k : Known) (x : PlainProcess) → is_over k ≡ true → agrees k (Some (Alive x)) ≡ true → ⊥
+over_dead Unknown x e f = absurd (false≢true e)
+over_dead Here x e f = absurd (false≢true e)
+over_dead (Frozen to) x e f = absurd (false≢true e)
+over_dead (Incoming from) x e f = absurd (false≢true e)
+over_dead (Forward to moves) x e f = absurd (false≢true e)
+over_dead Ended x e f = absurd (false≢true f)
+
+self : (n : ℕ) → (n == n) ≡ true
+self n = grind (arith, nat_tests)
+
+phase_at : (v : View) (p : Pid) (x : PlainProcess) (phase : Phase) → Calm v → v.known p.home p ≢ Unknown → ((m : ℕ) → agrees (v.known m p) (Some (Alive x)) ≡ true) → IsIn v p phase → is_due phase ≡ false → IsAt v p
+phase_at v p x Nowhere h home alive is due = absurd (home (is_unknown_is (v.known p.home p) (is.known p.home)))
+phase_at v p x (Rests n) h home alive is due = record {
+  machine = n;
+  here = is_here_is (v.known n p) (sym (ap (λ (c : Bool). if c then is_here (v.known n p) else is_away (v.known n p)) (self n)) ∙ is.known n);
+  away = λ m off. sym (ap (λ (c : Bool). if c then is_here (v.known m p) else is_away (v.known m p)) off) ∙ is.known m;
+}
+phase_at v p x (Over n) h home alive is due = absurd (over_dead (v.known n p) x (sym (ap (λ (c : Bool). if c then is_over (v.known n p) else is_away (v.known n p)) (self n)) ∙ is.known n) (alive n))
+phase_at v p x (Moves k s d None) h home alive is due = absurd (false≢true (sym due))
+phase_at v p x (Moves k s d (Some id)) h home alive is due = absurd (no_token v p k s d id h is.token)
+
+lives_at : (b : Boot) (pt : Point) (p : Pid) (x : PlainProcess) (phase : Phase) → Run b pt → Calm pt.view → pt.kernel.processes p ≡ Some (Alive x) → IsIn pt.view p phase → is_due phase ≡ false → IsAt pt.view p
+lives_at b pt p x phase h calm_ alive is due =
+    let k = not_server pt.kernel p x alive h.based.phased.state.sound.made in
+    let server : is_server p ≡ false = ap (λ (c : Bool). c || pid_eq p manager) k.0 ∙ k.1 in
+    phase_at pt.view p x phase calm_ (h.based.known.home p server (ap is_some alive)) (λ m. sym (ap (agrees (pt.view.known m p)) alive) ∙ h.based.known.agree m p server) is due
+
+pub at_rest_always : AtRestAlways
+at_rest_always b es pt valid leads quiet =
+    let h = (run_always b es pt valid leads).run in
+    let routed = subst (λ (n : ℕ). Routed n pt.view) (sym h.based.machines) (routed_always b es pt valid leads) in
+    let calm_ = calm b pt h routed quiet in
+    let still : (m : ℕ) (p : Pid) → is_moving (pt.view.known m p) ≡ false = λ m p. let (phase, is, due) = phases_always b es pt p valid leads in phase_still pt.view p phase m calm_ is due in
+    let held : (m : ℕ) (p : Pid) → pt.view.held m p ≡ [] = λ m p. h.based.lists.held m p (still_held (pt.view.known m p) (still m p)) in
+    let rest : Rest pt = record { calm = calm_; still = still; held = held; dropped = dropped_always b es pt valid leads } in
+    record {
+      lives = λ p x alive. let (phase, is, due) = phases_always b es pt p valid leads in lives_at b pt p x phase h calm_ alive is due;
+      still = still;
+      held = held;
+      inbox = calm_.inbox;
+      untaken = calm_.untaken;
+      waiting = λ i x there. let (z, one, others) = stands_right pt i h.based.phased.state (Some x) there in waits_at b pt i x z h rest there one others;
+      own = λ i z own. own_nowhere b pt i z h rest own;
+    }

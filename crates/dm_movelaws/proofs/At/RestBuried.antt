@@ -1,0 +1,178 @@
+-- Where a process has ended nothing comes to its queue: each group keeps it.
+use Rattle.std.proofs.Common.{◌≡◌, ℕ, ◌+◌, ◌==◌, Bool, true, false, List, [], ◌∷◌, ◌++◌, refl, ap, ◌∙◌, sym, subst, inl, inr}
+use Rattle.std.specs.Prelude.{if◌then◌else◌}
+use Rattle.std.proofs.lemmas.Bool.{cases_Bool, false≢true}
+use Rattle.std.specs.declared.option.Option.{Option}
+use Rattle.std.specs.declared.option.Option.TheVariants.{None, Some}
+use Rattle.dm_link.specs.declared.Pid.{Pid}
+use Rattle.dm_message.specs.declared.MsgId.{MsgId}
+use Rattle.dm_onekernel.specs.declared.boot.Boot.{Boot}
+use Rattle.dm_onekernel.specs.declared.label.Label.{Label}
+use Rattle.dm_onekernel.specs.declared.label.Label.TheVariants as label
+use Rattle.dm_onekernel.specs.PlainProcess.{PlainProcess}
+use Rattle.dm_onekernel.specs.Kernel.{Life, Alive, OneKernel}
+use Rattle.dm_onekernel.specs.Kernel as kernels
+use Rattle.dm_onekernel.specs.Step as kernel
+use Rattle.dm_schedule.specs.declared.Step.{Step}
+use Rattle.dm_laws.proofs.Grown.{LifeGrows}
+use Rattle.dm_laws.proofs.Runs.{after_step}
+use Rattle.dm_line.specs.declared.line.Line.TheVariants as line
+use Rattle.dm_line.specs.declared.line.Stage.TheVariants as stage
+use Rattle.dm_rule.specs.Parts.{Spelled}
+use Rattle.dm_rule.specs.Phases.{is_away}
+use Rattle.dm_rule.specs.Point.{Point, kernel_after, label_of}
+use Rattle.dm_rule.specs.Rule.{group_of}
+use Rattle.dm_line.specs.Sets.{at_record, without_id, without_front}
+use Rattle.dm_rule.specs.View.{View, Told, Known, Unknown, Here, Frozen, Incoming, Forward, Ended, handled, receiver_of, served_told, view_after, target_of, front_told, front_of, gone_to}
+use Rattle.dm_rule.specs.View as view
+use Rattle.dm_rule.proofs.Phases.Always.{Phased}
+use Rattle.dm_rule.proofs.Telling.{Sane}
+use Rattle.dm_rulelaws.specs.Fits.{is_server}
+use Rattle.dm_rulelaws.specs.KnownStands.{KnownStands, agrees}
+use Rattle.dm_rulelaws.proofs.Based.Groups.{group_keeps}
+use Rattle.dm_rulelaws.proofs.Based.Loud.{Loud, keeps_by}
+use Rattle.dm_rulelaws.proofs.Based.Sets.{set_all, killed_or}
+
+abbrev pub Knows : Type 0
+Knows = ℕ → Pid → Known
+
+abbrev pub is_dead : Option Life → Bool
+is_dead None = false
+is_dead (Some (Alive x)) = false
+is_dead (Some (kernels.Ended y)) = true
+
+-- what had ended before has ended, and has no queue
+pub record Buried (before : Knows) (s : OneKernel) (v : View) : Type 0 where
+  pub known : (n : ℕ) (q : Pid) → before n q ≡ Ended → v.known n q ≡ Ended
+  pub queue : (n : ℕ) (q : Pid) → before n q ≡ Ended → v.queue n q ≡ []
+  pub dead : (n : ℕ) (q : Pid) → before n q ≡ Ended → is_dead (s.processes q) ≡ true
+
+-- what has ended stays so
+dead_grows : (a b : Option Life) → LifeGrows a b → is_dead a ≡ true → is_dead b ≡ true
+dead_grows None b h e = absurd (false≢true e)
+dead_grows (Some (Alive x)) b h e = absurd (false≢true e)
+dead_grows (Some (kernels.Ended y)) b h e = ap is_dead h
+
+abbrev Dies : OneKernel → OneKernel → Type 0
+Dies s t = (q : Pid) → is_dead (s.processes q) ≡ true → is_dead (t.processes q) ≡ true
+
+dies_label : (pt : Point) (t : OneKernel) (l : Label) → Sane pt → kernel.step pt.kernel l ≡ Some t → Dies pt.kernel t
+dies_label pt t l h e q dead = dead_grows (pt.kernel.processes q) (t.processes q) ((after_step h.r h.e pt.kernel t l e h.sound).grown.lives q) dead
+
+dies_by : (pt : Point) (t : OneKernel) (o : Option Label) → Sane pt → kernel_after pt.kernel o ≡ Some t → Dies pt.kernel t
+dies_by pt t None h e q dead = sym (ap (λ (k : OneKernel). is_dead (k.processes q)) (let f : pt.kernel ≡ t = cc in f)) ∙ dead
+dies_by pt t (Some l) h e q dead = dies_label pt t l h e q dead
+
+as_ : (before : Knows) (s t : OneKernel) (v w : View) → Dies s t → w.known ≡ v.known → w.queue ≡ v.queue → Buried before s v → Buried before t w
+as_ before s t v w dies known queue h = record {
+  known = λ n q e. ap (λ (f : Knows). f n q) known ∙ h.known n q e;
+  queue = λ n q e. ap (λ (f : ℕ → Pid → List MsgId). f n q) queue ∙ h.queue n q e;
+  dead = λ n q e. dies q (h.dead n q e);
+}
+
+learns : (before : Knows) (s t : OneKernel) (v w : View) (p : Pid) (k : Known) → Dies s t → w.known ≡ at_record v.known v.acting p k → w.queue ≡ v.queue → (before v.acting p ≡ Ended → k ≡ Ended) → Buried before s v → Buried before t w
+learns before s t v w p k dies known queue new h = record {
+  known = λ n q e. ap (λ (f : Knows). f n q) known ∙ set_all (λ m r x. before m r ≡ Ended → x ≡ Ended) v.known v.acting p k new (λ m r off. h.known m r) n q e;
+  queue = λ n q e. ap (λ (f : ℕ → Pid → List MsgId). f n q) queue ∙ h.queue n q e;
+  dead = λ n q e. dies q (h.dead n q e);
+}
+
+queues : (before : Knows) (s t : OneKernel) (v w : View) (p : Pid) (xs : List MsgId) → Dies s t → w.known ≡ v.known → w.queue ≡ at_record v.queue v.acting p xs → (before v.acting p ≡ Ended → xs ≡ []) → Buried before s v → Buried before t w
+queues before s t v w p xs dies known queue new h = record {
+  known = λ n q e. ap (λ (f : Knows). f n q) known ∙ h.known n q e;
+  queue = λ n q e. ap (λ (f : ℕ → Pid → List MsgId). f n q) queue ∙ set_all (λ m r ys. before m r ≡ Ended → ys ≡ []) v.queue v.acting p xs new (λ m r off. h.queue m r) n q e;
+  dead = λ n q e. dies q (h.dead n q e);
+}
+
+same : (s : OneKernel) → Dies s s
+same s q e = e
+
+not_ended : (before : Knows) (s : OneKernel) (v : View) (p : Pid) (k : Known) → Buried before s v → v.known v.acting p ≡ k → (k ≡ Ended → ⊥) → before v.acting p ≡ Ended → ⊥
+not_ended before s v p k h is off e = off (sym is ∙ h.known v.acting p e)
+
+here_off : Here ≡ Ended → ⊥
+here_off e = cc
+
+unknown_off : Unknown ≡ Ended → ⊥
+unknown_off e = cc
+
+frozen_off : (to : ℕ) → Frozen to ≡ Ended → ⊥
+frozen_off to e = cc
+
+lives_off : (before : Knows) (s : OneKernel) (v : View) (p : Pid) (x : PlainProcess) → Buried before s v → s.processes p ≡ Some (Alive x) → before v.acting p ≡ Ended → ⊥
+lives_off before s v p x h alive e = false≢true (sym (ap is_dead alive) ∙ h.dead v.acting p e)
+
+dropped : (before : Knows) (s t : OneKernel) (v : View) (id : MsgId) (o : Option Pid) → Dies s t → Buried before s v → Buried before t (view.dropped_for (handled v id) id o)
+dropped before s t v id None dies h = as_ before s t v (handled v id) dies refl refl h
+dropped before s t v id (Some p) dies h =
+    queues before s t v (view.dropped_for (handled v id) id (Some p)) p (without_front id (v.queue v.acting p)) dies refl refl (λ e. ap (without_front id) (h.queue v.acting p e)) h
+
+served : (before : Knows) (s t : OneKernel) (v : View) (id : MsgId) (o : Option Told) → Dies s t → Buried before s v → Buried before t (served_told (handled v id) o)
+served before s t v id None dies h = as_ before s t v (handled v id) dies refl refl h
+served before s t v id (Some u) dies h =
+    killed_or (Buried before t) u.kind (handled v id) u.receiver
+    (λ k. learns before s t v (view.ended (handled v id) u.receiver) u.receiver Ended dies refl refl (λ e. refl) h)
+    (λ k. as_ before s t v (handled v id) dies refl refl h)
+
+queued : (before : Knows) (s : OneKernel) (v : View) (id : MsgId) (o : Option Told) → ((t : Told) → o ≡ Some t → v.known v.acting t.receiver ≡ Here) → Buried before s v → Buried before s (view.queued_for (handled v id) id (receiver_of o))
+queued before s v id None here h = as_ before s s v (handled v id) (same s) refl refl h
+queued before s v id (Some t) here h =
+    queues before s s v (view.queued_for (handled v id) id (Some t.receiver)) t.receiver (v.queue v.acting t.receiver ++ id ∷ []) (same s) refl refl (λ e. absurd (not_ended before s v t.receiver Here h (here t refl) here_off e)) h
+
+held : (before : Knows) (s : OneKernel) (v : View) (id : MsgId) (o : Option Told) → Buried before s v → Buried before s (view.held_for (handled v id) id (receiver_of o))
+held before s v id None h = as_ before s s v (handled v id) (same s) refl refl h
+held before s v id (Some t) h = as_ before s s v (view.held_for (handled v id) id (Some t.receiver)) (same s) refl refl h
+
+loud : (before : Knows) → Loud (λ pt. Buried before pt.kernel pt.view)
+loud before = record {
+  rides = record {
+    put = λ pt a b i k q h. record { known = h.known; queue = h.queue; dead = h.dead };
+    packet = λ pt a b k l h. record { known = h.known; queue = h.queue; dead = h.dead };
+  };
+  quiet = λ pt w t l e s told alike sane is h. subst (Buried before t) (sym e) (as_ before pt.kernel t pt.view w (dies_by pt t (label_of l) sane is) s.known s.queue h);
+  ran = λ pt t p k here alike sane is h. as_ before pt.kernel t pt.view (view_after pt.view (line.Label (label.Ran p k))) (dies_label pt t (label.Ran p k) sane is) refl refl h;
+  receive = λ pt t p id here alike sane is h.
+      queues before pt.kernel t pt.view (view_after pt.view (line.Label (label.Receive p id))) p (without_id id (pt.view.queue pt.view.acting p)) (dies_label pt t (label.Receive p id) sane is) refl refl (λ e. ap (without_id id) (h.queue pt.view.acting p e)) h;
+  refuse = λ pt t p id c here alike sane is h. as_ before pt.kernel t pt.view (view_after pt.view (line.Label (label.Refuse p id c))) (dies_label pt t (label.Refuse p id c) sane is) refl refl h;
+  end = λ pt t p y rests sane is h. learns before pt.kernel t pt.view (view_after pt.view (line.Label (label.End p y))) p Ended (dies_label pt t (label.End p y) sane is) refl refl (λ e. refl) h;
+  dropped = λ pt t id alike sane is h. dropped before pt.kernel t pt.view id (receiver_of (pt.view.told id)) (dies_label pt t (label.Dropped id) sane is) h;
+  served = λ pt t id serves sane is h. served before pt.kernel t pt.view id (pt.view.told id) (dies_label pt t (label.Served id) sane is) h;
+  created = λ pt t id p unborn sane is h.
+      learns before pt.kernel t pt.view (view_after pt.view (line.Label (label.Created id p))) p Here (dies_label pt t (label.Created id p) sane is) refl refl (λ e. absurd (not_ended before pt.kernel pt.view p Unknown h (unborn.unknown pt.view.acting) unknown_off e)) h;
+  queued = λ pt id need sane h. queued before pt.kernel pt.view id (pt.view.told id) (λ t e. (need t e).here) h;
+  held = λ pt id need sane h. held before pt.kernel pt.view id (pt.view.told id) h;
+  frozen = λ pt p lives here h.
+      learns before pt.kernel pt.kernel pt.view (view.after_stage pt.view p stage.Frozen) p (Frozen (target_of (front_told pt.view (pt.view.inbox pt.view.acting)))) (same pt.kernel) refl refl (λ e. absurd (not_ended before pt.kernel pt.view p Here h here here_off e)) h;
+  accepted = λ pt p lives away h.
+      learns before pt.kernel pt.kernel pt.view (view.after_stage pt.view p stage.Accepted) p (Incoming (front_of (pt.view.inbox pt.view.acting))) (same pt.kernel) refl refl
+      (λ e. absurd (false≢true (sym (ap is_away (h.known pt.view.acting p e)) ∙ away))) h;
+  left = λ pt p leaves h.
+      learns before pt.kernel pt.kernel pt.view (view.after_stage pt.view p stage.Left) p (gone_to (pt.view.known pt.view.acting p) (pt.view.moves p + 1)) (same pt.kernel) refl refl
+      (λ e. absurd (not_ended before pt.kernel pt.view p (Frozen leaves.to) h leaves.frozen (frozen_off leaves.to) e)) h;
+  restarted = λ pt p lives off h.
+      learns before pt.kernel pt.kernel pt.view (view.after_stage pt.view p stage.Restarted) p Here (same pt.kernel) refl refl (λ e. absurd (lives_off before pt.kernel pt.view p lives.process h lives.alive e)) h;
+  stays_ = λ pt p lives off h. learns before pt.kernel pt.kernel pt.view (view_after pt.view (line.Stays p)) p Here (same pt.kernel) refl refl (λ e. absurd (lives_off before pt.kernel pt.view p lives.process h lives.alive e)) h;
+  sent_on = λ pt p n h. queues before pt.kernel pt.kernel pt.view (view_after pt.view (line.SentOn p n)) p [] (same pt.kernel) refl refl (λ e. refl) h;
+}
+
+-- where a group begins
+server_lives : (m : ℕ) (c : Bool) → (if c then Here else Unknown) ≡ Ended → ⊥
+server_lives m true e = here_off e
+server_lives m false e = unknown_off e
+
+agrees_dead : (o : Option Life) → agrees Ended o ≡ true → is_dead o ≡ true
+agrees_dead None e = e
+agrees_dead (Some (Alive x)) e = e
+agrees_dead (Some (kernels.Ended y)) e = e
+
+pub dead_by : (s : OneKernel) (v : View) (n : ℕ) (q : Pid) → KnownStands s v → v.known n q ≡ Ended → is_dead (s.processes q) ≡ true
+dead_by s v n q h e = elim (cases_Bool (is_server q)) [
+  | inl server ↦ absurd (server_lives n (n == 0) (sym (h.server n q server) ∙ e))
+  | inr other ↦ agrees_dead (s.processes q) (sym (ap (λ (k : Known). agrees k (s.processes q)) e) ∙ h.agree n q other)
+]
+
+pub buried_group : (b : Boot) (pt : Point) (d : Step) (w : Spelled) → group_of b pt d ≡ Some w → Phased pt → KnownStands pt.kernel pt.view → ((n : ℕ) (q : Pid) → pt.view.known n q ≡ Ended → pt.view.queue n q ≡ []) → Buried pt.view.known w.point.kernel w.point.view
+buried_group b pt d w is phased known h =
+    let before = pt.view.known in
+    group_keeps (λ o. Buried before o.kernel o.view) (keeps_by (λ o. Buried before o.kernel o.view) (loud before)) b pt d w is phased known
+    (record { known = λ n q e. e; queue = h; dead = λ n q e. dead_by pt.kernel pt.view n q known e })

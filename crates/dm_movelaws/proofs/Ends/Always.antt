@@ -1,0 +1,118 @@
+-- Wherever the rule leads, each directive to move a process has at most one end, and one where nothing is on its way.
+use Rattle.std.proofs.Common.{◌≡◌, ℕ, ◌+◌, ◌==◌, ◌&&◌, ◌||◌, Bool, true, false, List, [], ◌∷◌, length, refl, ap, ◌∙◌, sym, subst, inl, inr, arith}
+use Rattle.std.specs.Prelude.{if◌then◌else◌}
+use Rattle.std.specs.declared.option.Option.TheVariants.{None, Some}
+use Rattle.std.proofs.lemmas.Bool.{false≢true}
+use Rattle.dm_link.specs.declared.Pid.{Pid}
+use Rattle.dm_link.specs.Names.{pid_eq}
+use Rattle.dm_message.specs.declared.MsgId.{MsgId}
+use Rattle.dm_onekernel.specs.declared.boot.Boot.{Boot}
+use Rattle.dm_onekernel.specs.declared.boot.BootProcess.{BootProcess}
+use Rattle.dm_onekernel.specs.Boot.{IsValid, switchboard, manager}
+use Rattle.dm_schedule.specs.declared.Step.{Step}
+use Rattle.dm_line.specs.declared.line.Line.{Line}
+use Rattle.dm_rule.specs.Laws.{IsStep}
+use Rattle.dm_rule.specs.Point.{Point, first_point}
+use Rattle.dm_rule.specs.Quiet.{IsQuiet}
+use Rattle.dm_rule.specs.View.{Known, Unknown, Here, known_at, first_view}
+use Rattle.dm_rule.proofs.Groups.{fits}
+use Rattle.dm_rulelaws.specs.Order.{LeadsBy}
+use Rattle.dm_rulelaws.proofs.Goes.Runs.{Both, both_start, both_group}
+use Rattle.dm_rulelaws.proofs.RunsAlways.{run_start, run_group}
+use Rattle.dm_movelaws.specs.AtRest.{is_moving}
+use Rattle.dm_movelaws.specs.Ends.{asks, ends, count, EndsAlways}
+use Rattle.dm_movelaws.proofs.Ends.Smooth.{Extends}
+use Rattle.dm_movelaws.proofs.Ends.Moving.{moving_in, waits_or}
+use Rattle.dm_movelaws.proofs.Ends.Open.{Opens}
+use Rattle.dm_movelaws.proofs.Ends.Parts.{count-append}
+use Rattle.dm_movelaws.proofs.Ends.Groups.{group_balance}
+use Rattle.dm_movelaws.proofs.Ends.Sources.{Sources, group_acts}
+use Rattle.dm_movelaws.proofs.Ends.Quiet.{quiet_stays, quiet_empty}
+
+-- how many moves are under way
+abbrev moving_at : (b : Boot) (pt : Point) → Both b pt → Pid → ℕ
+moving_at b pt h p = moving_in (h.run.based.phased.phases.of p)
+
+-- what comes of a run
+record Ran (p : Pid) (b : Boot) (pt end : Point) (ls : List Line) (n : ℕ) : Type 0 where
+  both : Both b end
+  grows : Extends pt.view.told end.view.told
+  sources : Sources (length b.machines) end.view
+  left : List MsgId
+  opens : Opens p end.view left
+  sum : count (asks p) ls + n ≡ count (ends end.view.told p) ls + (length left + moving_at b end both p)
+
+none_ran : (p : Pid) (b : Boot) (pt : Point) (ls : List Line) (ids : List MsgId) (h : Both b pt) → Sources (length b.machines) pt.view → Opens p pt.view ids → ls ≡ [] → Ran p b pt pt ls (length ids + moving_at b pt h p)
+none_ran p b pt ls ids h sources opens none = record {
+  both = h;
+  grows = λ i t e. e;
+  sources = sources;
+  left = ids;
+  opens = opens;
+  sum = (let a : count (asks p) ls ≡ 0 = ap (count (asks p)) none in let c : count (ends pt.view.told p) ls ≡ 0 = ap (count (ends pt.view.told p)) none in omega (arith, a, c));
+}
+
+step_for : (b : Boot) (pt : Point) (d : Step) → Both b pt → IsStep pt.kernel.machines d → IsStep (length b.machines) d
+step_for b pt d h fit = subst (λ (n : ℕ). IsStep n d) h.run.based.machines fit
+
+ran : (p : Pid) (b : Boot) (es : List Step) (pt end : Point) (ls : List Line) (ids : List MsgId) → IsValid b → (h : Both b pt) → Sources (length b.machines) pt.view → Opens p pt.view ids → LeadsBy b pt es ls end → Ran p b pt end ls (length ids + moving_at b pt h p)
+ran p b [] pt end ls ids valid h sources opens (none, at) = subst (λ (x : Point). Ran p b pt x ls (length ids + moving_at b pt h p)) at (none_ran p b pt ls ids h sources opens none)
+ran p b (d ∷ ds) pt end ls ids valid h sources opens (w, rest, fit, is, split, more) =
+    let based = h.run.based in
+    let next : Both b w.point = both_group run_group b pt d w valid fit is h in
+    let acts = group_acts (length b.machines) b pt d w (step_for b pt d h fit) is sources in
+    let g = group_balance p b pt d w based.phased.phases next.run.based.phased.phases ids based.phased based.known (fits pt.view based.phased.pairs) is opens in
+    let r = ran p b ds w.point end rest g.left valid next acts.sources g.opens more in
+    record {
+      both = r.both;
+      grows = λ i t e. r.grows i t (acts.grows i t e);
+      sources = r.sources;
+      left = r.left;
+      opens = r.opens;
+      sum = (let f = end.view.told in
+          let a : count (asks p) ls ≡ count (asks p) w.lines + count (asks p) rest = ap (count (asks p)) split ∙ count-append (asks p) w.lines rest in
+          let c : count (ends f p) ls ≡ count (ends f p) w.lines + count (ends f p) rest = ap (count (ends f p)) split ∙ count-append (ends f p) w.lines rest in
+          let x = g.sum f r.grows in
+          let y = r.sum in
+          omega (arith, a, c, x, y));
+    }
+
+-- where a run begins nothing moves
+here_or : (c : Bool) (k : Known) → is_moving k ≡ false → is_moving (if c then Here else k) ≡ false
+here_or true k e = refl
+here_or false k e = e
+
+known_rests : (ps : List BootProcess) (m : ℕ) (q : Pid) → is_moving (known_at ps m q) ≡ false
+known_rests [] m q = here_or ((m == 0) && (pid_eq q switchboard || pid_eq q manager)) Unknown refl
+known_rests (p ∷ ps) m q = here_or (pid_eq p.pid q && (p.pid.home == m)) (known_at ps m q) (known_rests ps m q)
+
+start_stays : (b : Boot) (p : Pid) (h : Both b (first_point b)) → moving_at b (first_point b) h p ≡ 0
+start_stays b p h =
+    let phases = h.run.based.phased.phases in
+    elim (waits_or (first_view b) p (phases.of p) (phases.each p)) [
+      | inl x ↦ absurd (false≢true (sym (known_rests b.processes x.machine p) ∙ x.waits))
+      | inr x ↦ x.none
+    ]
+
+start_opens : (b : Boot) (p : Pid) → Opens p (first_view b) []
+start_opens b p = record { each = λ i least. absurd (omega (arith, least)); all = λ i is. absurd (let e = is.is in none_some is.told e) }
+  where
+    none_some : {X : Type 0} (x : X) → None ≡ Some x → ⊥
+    none_some x e = cc
+
+pub ends_always : EndsAlways
+ends_always b es ls pt p valid leads =
+    let h = both_start run_start b valid in
+    let r = ran p b es (first_point b) pt ls [] valid h (λ x y le. refl) (start_opens b p) leads in
+    let zero_ = start_stays b p h in
+    let sum = r.sum in
+    record {
+      few = omega (arith, zero_, sum);
+      all = λ quiet.
+          let n = length b.machines in
+          let is = r.both.run.based.machines in
+          let still : IsQuiet n pt.view = subst (λ (k : ℕ). IsQuiet k pt.view) is quiet in
+          let none = quiet_empty p b pt r.both.run n r.left is still r.sources r.opens in
+          let rests = quiet_stays b pt r.both.run n is still r.sources p in
+          omega (arith, zero_, sum, none, rests);
+    }

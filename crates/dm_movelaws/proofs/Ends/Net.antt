@@ -1,0 +1,248 @@
+-- Heads, deliveries and ticks leave all requests to move a process under way.
+use Rattle.std.proofs.Common.{◌≡◌, ◌⊎◌, ℕ, zero, suc, ◌+◌, ◌≤◌, ◌==◌, ◌&&◌, Bool, true, false, not, filter, List, [], ◌∷◌, ◌++◌, drop, length, refl, ap, ◌∙◌, sym, subst, inl, inr, arith}
+use Rattle.std.specs.Prelude.{if◌then◌else◌, slice_get}
+use Rattle.std.specs.declared.option.Option.{Option}
+use Rattle.std.specs.declared.option.Option.TheVariants.{None, Some}
+use Rattle.std.proofs.lemmas.Bool.{cases_Bool}
+use Rattle.dm_link.specs.declared.Pid.{Pid}
+use Rattle.dm_message.specs.declared.MsgId.{MsgId}
+use Rattle.dm_schedule.specs.declared.Step.{Step}
+use Rattle.dm_schedule.specs.declared.Step.TheVariants as step
+use Rattle.dm_line.specs.declared.line.Line.{Line}
+use Rattle.dm_line.specs.declared.line.Line.TheVariants as line
+use Rattle.dm_line.specs.Sets.{at_machine, at_pair}
+use Rattle.dm_rule.specs.View.{View, Pair, Told, view_after, after_head, taken_id, with_pair}
+use Rattle.dm_rule.specs.Point.{Point, moved}
+use Rattle.dm_rule.specs.Parts.{Part, Says, Routes, Again, Owns, Transmits, Spelled, packet_line, spelled}
+use Rattle.dm_rule.specs.Spots.{Spot, Queue, Held, Inbox, Untaken, times, untaken, ids_at, standing}
+use Rattle.dm_rule.proofs.Standing.{times-append}
+use Rattle.dm_rule.proofs.Once.{one_of}
+use Rattle.dm_rule.proofs.Lines.{parts, eq_is, eq_self, at_place, past_place, pair_keeps}
+use Rattle.dm_rule.proofs.States.{says_next, transmits_next, said}
+use Rattle.dm_rule.proofs.Groups.{IsNetLine, IsNet, early_off, acked_off, turn_off, tick_off, deliver_off, migrate_off}
+use Rattle.dm_movelaws.specs.Ends.{asks, ends}
+use Rattle.dm_movelaws.proofs.Ends.Smooth.{Somewhere, Smooth, Still, smooth_same, smooth_trans, smooth_still, moves_none}
+use Rattle.dm_movelaws.proofs.Ends.Still.{still_trans}
+use Rattle.dm_movelaws.proofs.Ends.Parts.{packet_smooth, part_count, zero_if}
+
+pub head_smooth : (p : Pid) (v : View) (s : Step) → Smooth p v (after_head v s)
+head_smooth p v (step.Turn m) = smooth_still p v (after_head v (step.Turn m)) (λ i. refl) (λ i z. ap (times i) (turn_off v m z))
+head_smooth p v (step.Tick m) = smooth_still p v (after_head v (step.Tick m)) (λ i. refl) (λ i z. ap (times i) (tick_off v m z))
+head_smooth p v (step.Deliver a b k) = smooth_still p v (after_head v (step.Deliver a b k)) (λ i. refl) (λ i z. ap (times i) (deliver_off v a b k z))
+head_smooth p v (step.Migrate q m) = smooth_still p v (after_head v (step.Migrate q m)) (λ i. refl) (λ i z. ap (times i) (migrate_off v q m z))
+
+pub head_still : (p : Pid) (v : View) (s : Step) → Still p v (after_head v s)
+head_still p v (step.Turn m) n = refl
+head_still p v (step.Tick m) n = refl
+head_still p v (step.Deliver a b k) n = refl
+head_still p v (step.Migrate q m) n = refl
+
+-- a message is taken: it comes from the stream to the inbox
+abbrev one_taken : Pair → ℕ → Pair
+one_taken p n = record p { taken = p.taken + 1; kept = filter (λ k. not (k == n)) p.kept }
+
+abbrev taken_view : View → ℕ → ℕ → ℕ → View
+taken_view v a b n = with_pair v a b (one_taken (v.pair a b) n)
+
+none_taken : (p : Pair) (n : ℕ) → slice_get p.ids p.taken ≡ None → untaken (one_taken p n) ≡ untaken p
+none_taken p n is =
+    let k = past_place p.ids p.taken is in
+    let next : p.taken + 1 ≡ suc p.taken = omega arith in
+    ap (λ m. drop m p.ids) next ∙ k.1 ∙ sym k.0
+
+taken_front : (p : Pair) (n : ℕ) (i : MsgId) → slice_get p.ids p.taken ≡ Some i → untaken p ≡ i ∷ untaken (one_taken p n)
+taken_front p n i is =
+    let next : suc p.taken ≡ p.taken + 1 = omega arith in
+    at_place p.ids p.taken i is ∙ ap (λ m. i ∷ drop m p.ids) next
+
+none_off : (v : View) (a b n : ℕ) (z : Spot) → untaken (one_taken (v.pair a b) n) ≡ untaken (v.pair a b) → ids_at (taken_view v a b n) z ≡ ids_at v z
+none_off v a b n (Queue m p) same = refl
+none_off v a b n (Held m p) same = refl
+none_off v a b n (Inbox m) same = refl
+none_off v a b n (Untaken c d) same = pair_keeps v.pair a b (one_taken (v.pair a b) n) same c d
+
+pub zero_cases : (n : ℕ) → (n ≡ 0) ⊎ (1 ≤ n)
+zero_cases zero = inl refl
+zero_cases (suc n) = inr (omega arith)
+
+-- the stream has one less, and the inbox one more
+stream_back : (v : View) (a b n : ℕ) (i j : MsgId) (c d : ℕ) → untaken (v.pair a b) ≡ i ∷ untaken (one_taken (v.pair a b) n) → 1 ≤ times j (untaken (at_pair v.pair a b (one_taken (v.pair a b) n) c d)) → 1 ≤ times j (untaken (v.pair c d))
+stream_back v a b n i j c d front st = elim (cases_Bool ((a == c) && (b == d))) [
+  | inl same ↦
+      let both = parts (a == c) (b == d) same in
+      let now : times j (untaken (at_pair v.pair a b (one_taken (v.pair a b) n) c d)) ≡ times j (untaken (one_taken (v.pair a b) n)) = ap (λ (t : Bool). times j (untaken (if t then one_taken (v.pair a b) n else v.pair c d))) same in
+      let was : times j (untaken (v.pair a b)) ≡ times j (i ∷ untaken (one_taken (v.pair a b) n)) = ap (times j) front in
+      subst (λ (k : ℕ). 1 ≤ times j (untaken (v.pair c k))) (eq_is b d both.1) (subst (λ (k : ℕ). 1 ≤ times j (untaken (v.pair k b))) (eq_is a c both.0) (omega (arith, st, now, was)))
+  | inr off ↦ subst (λ k. 1 ≤ k) (ap (λ (t : Bool). times j (untaken (if t then one_taken (v.pair a b) n else v.pair c d))) off) st
+]
+
+inbox_back : (v : View) (a b n : ℕ) (i j : MsgId) (m : ℕ) → untaken (v.pair a b) ≡ i ∷ untaken (one_taken (v.pair a b) n) → 1 ≤ times j (at_machine v.inbox b (v.inbox b ++ i ∷ []) m) → Somewhere v j
+inbox_back v a b n i j m front st = elim (cases_Bool (b == m)) [
+  | inl same ↦
+      let bm : b ≡ m = eq_is b m same in
+      let now : times j (at_machine v.inbox b (v.inbox b ++ i ∷ []) m) ≡ times j (v.inbox b ++ i ∷ []) = ap (λ (c : Bool). times j (if c then v.inbox b ++ i ∷ [] else v.inbox m)) same in
+      let sum = times-append j (v.inbox b) (i ∷ []) in
+      elim (zero_cases (times j (v.inbox b))) [
+        | inl none ↦
+            let was : times j (untaken (v.pair a b)) ≡ times j (i ∷ untaken (one_taken (v.pair a b) n)) = ap (times j) front in
+            (Untaken a b, omega (arith, st, now, sum, none, was))
+        | inr some ↦ (Inbox b, some)
+      ]
+  | inr off ↦ (Inbox m, subst (λ k. 1 ≤ k) (ap (λ (c : Bool). times j (if c then v.inbox b ++ i ∷ [] else v.inbox m)) off) st)
+]
+
+abbrev came_view : View → ℕ → ℕ → ℕ → MsgId → View
+came_view v a b n i = record (taken_view v a b n) { inbox = at_machine v.inbox b (v.inbox b ++ i ∷ []) }
+
+taken_back : (v : View) (a b n : ℕ) (i j : MsgId) → untaken (v.pair a b) ≡ i ∷ untaken (one_taken (v.pair a b) n) → (z : Spot) → 1 ≤ standing (came_view v a b n i) j z → Somewhere v j
+taken_back v a b n i j front (Queue m p) st = (Queue m p, st)
+taken_back v a b n i j front (Held m p) st = (Held m p, st)
+taken_back v a b n i j front (Inbox m) st = inbox_back v a b n i j m front st
+taken_back v a b n i j front (Untaken c d) st = (Untaken c d, stream_back v a b n i j c d front st)
+
+in_inbox : (v : View) (a b n : ℕ) (i j : MsgId) (m : ℕ) → (b == m) ≡ true → 1 ≤ times j (v.inbox b) + one_of j i → 1 ≤ standing (came_view v a b n i) j (Inbox m)
+in_inbox v a b n i j m same st =
+    let now : times j (at_machine v.inbox b (v.inbox b ++ i ∷ []) m) ≡ times j (v.inbox b ++ i ∷ []) = ap (λ (c : Bool). times j (if c then v.inbox b ++ i ∷ [] else v.inbox m)) same in
+    let sum = times-append j (v.inbox b) (i ∷ []) in
+    omega (arith, st, now, sum)
+
+taken_on : (v : View) (a b n : ℕ) (i j : MsgId) → untaken (v.pair a b) ≡ i ∷ untaken (one_taken (v.pair a b) n) → (z : Spot) → 1 ≤ standing v j z → Somewhere (came_view v a b n i) j
+taken_on v a b n i j front (Queue m p) st = (Queue m p, st)
+taken_on v a b n i j front (Held m p) st = (Held m p, st)
+taken_on v a b n i j front (Inbox m) st = elim (cases_Bool (b == m)) [
+  | inl same ↦
+      let here : 1 ≤ times j (v.inbox b) = subst (λ (k : ℕ). 1 ≤ times j (v.inbox k)) (sym (eq_is b m same)) st in
+      (Inbox m, in_inbox v a b n i j m same (omega (arith, here)))
+  | inr off ↦ (Inbox m, subst (λ k. 1 ≤ k) (sym (ap (λ (c : Bool). times j (if c then v.inbox b ++ i ∷ [] else v.inbox m)) off)) st)
+]
+taken_on v a b n i j front (Untaken c d) st = elim (cases_Bool ((a == c) && (b == d))) [
+  | inl same ↦
+      let both = parts (a == c) (b == d) same in
+      let here : 1 ≤ times j (untaken (v.pair a b)) = subst (λ (k : ℕ). 1 ≤ times j (untaken (v.pair k b))) (sym (eq_is a c both.0)) (subst (λ (k : ℕ). 1 ≤ times j (untaken (v.pair c k))) (sym (eq_is b d both.1)) st) in
+      let was : times j (untaken (v.pair a b)) ≡ times j (i ∷ untaken (one_taken (v.pair a b) n)) = ap (times j) front in
+      let now : times j (untaken (at_pair v.pair a b (one_taken (v.pair a b) n) c d)) ≡ times j (untaken (one_taken (v.pair a b) n)) = ap (λ (t : Bool). times j (untaken (if t then one_taken (v.pair a b) n else v.pair c d))) same in
+      elim (zero_cases (one_of j i)) [
+        | inl none ↦ (Untaken c d, omega (arith, here, was, now, none))
+        | inr some ↦ (Inbox b, in_inbox v a b n i j b (eq_self b) (omega (arith, some)))
+      ]
+  | inr off ↦ (Untaken c d, subst (λ k. 1 ≤ k) (sym (ap (λ (t : Bool). times j (untaken (if t then one_taken (v.pair a b) n else v.pair c d))) off)) st)
+]
+
+taken_by : (p : Pid) (v : View) (a b n : ℕ) (o : Option MsgId) → slice_get (v.pair a b).ids (v.pair a b).taken ≡ o → Smooth p v (taken_id (taken_view v a b n) b o)
+taken_by p v a b n None is = smooth_still p v (taken_view v a b n) (λ i. refl) (λ i z. ap (times i) (none_off v a b n z (none_taken (v.pair a b) n is)))
+taken_by p v a b n (Some i) is =
+    let front = taken_front (v.pair a b) n i is in
+    record { kept = λ j t e. e; fresh = λ j t e c. e; on = λ j t e c s. taken_on v a b n i j front s.0 s.1; back = λ j t e c s. taken_back v a b n i j front s.0 s.1 }
+
+taken_still : (p : Pid) (v : View) (b : ℕ) (o : Option MsgId) → Still p v (taken_id v b o)
+taken_still p v b None m = refl
+taken_still p v b (Some i) m = refl
+
+net_smooth : (p : Pid) (v : View) (l : Line) → IsNetLine l → Smooth p v (view_after v l)
+net_smooth p v (line.Taken a b n) h = taken_by p v a b n (slice_get (v.pair a b).ids (v.pair a b).taken) refl
+net_smooth p v (line.Old a b n) h = smooth_same p v
+net_smooth p v (line.Early a b n) h = moves_none p v (line.Early a b n) refl (λ z. early_off v a b n z)
+net_smooth p v (line.Acked a b n) h = moves_none p v (line.Acked a b n) refl (λ z. acked_off v a b n z)
+net_smooth p v line.Nothing h = smooth_same p v
+net_smooth p v (line.Resent m n) h = smooth_same p v
+net_smooth p v (line.Head d) h = absurd h
+net_smooth p v (line.Idle m) h = absurd h
+net_smooth p v (line.Label l) h = absurd h
+net_smooth p v (line.Put a b i c q) h = absurd h
+net_smooth p v (line.Packet a b c l) h = absurd h
+net_smooth p v (line.Queued i) h = absurd h
+net_smooth p v (line.Held i) h = absurd h
+net_smooth p v (line.Forwarded i m) h = absurd h
+net_smooth p v (line.Updated i n) h = absurd h
+net_smooth p v (line.Migration st q) h = absurd h
+net_smooth p v (line.SentOn q n) h = absurd h
+net_smooth p v (line.Lacks q a b) h = absurd h
+net_smooth p v (line.Stays q) h = absurd h
+net_smooth p v (line.Here i) h = absurd h
+net_smooth p v (line.NoMove i) h = absurd h
+net_smooth p v (line.Proto i) h = absurd h
+net_smooth p v (line.NoChild q) h = absurd h
+net_smooth p v (line.Pinned q) h = absurd h
+
+net_still : (p : Pid) (v : View) (l : Line) → IsNetLine l → Still p v (view_after v l)
+net_still p v (line.Taken a b n) h = λ m. taken_still p (taken_view v a b n) b (slice_get (v.pair a b).ids (v.pair a b).taken) m
+net_still p v (line.Old a b n) h = λ m. refl
+net_still p v (line.Early a b n) h = λ m. refl
+net_still p v (line.Acked a b n) h = λ m. refl
+net_still p v line.Nothing h = λ m. refl
+net_still p v (line.Resent m n) h = λ k. refl
+net_still p v (line.Head d) h = absurd h
+net_still p v (line.Idle m) h = absurd h
+net_still p v (line.Label l) h = absurd h
+net_still p v (line.Put a b i c q) h = absurd h
+net_still p v (line.Packet a b c l) h = absurd h
+net_still p v (line.Queued i) h = absurd h
+net_still p v (line.Held i) h = absurd h
+net_still p v (line.Forwarded i m) h = absurd h
+net_still p v (line.Updated i n) h = absurd h
+net_still p v (line.Migration st q) h = absurd h
+net_still p v (line.SentOn q n) h = absurd h
+net_still p v (line.Lacks q a b) h = absurd h
+net_still p v (line.Stays q) h = absurd h
+net_still p v (line.Here i) h = absurd h
+net_still p v (line.NoMove i) h = absurd h
+net_still p v (line.Proto i) h = absurd h
+net_still p v (line.NoChild q) h = absurd h
+net_still p v (line.Pinned q) h = absurd h
+
+-- what a group keeps
+pub record Level (p : Pid) (v w : View) : Type 0 where
+  pub smooth : Smooth p v w
+  pub still : Still p v w
+
+pub level_trans : (p : Pid) (u v w : View) → Level p u v → Level p v w → Level p u w
+level_trans p u v w h k = record { smooth = smooth_trans p u v w h.smooth k.smooth; still = still_trans p u v w h.still k.still }
+
+pub net_level : (p : Pid) (ps : List Part) (pt : Point) (w : Spelled) → IsNet ps → spelled pt ps ≡ Some w → Level p pt.view w.point.view
+net_level p [] pt w h e = subst (λ (q : Point). Level p pt.view q.view) (said pt w e) (record { smooth = smooth_same p pt.view; still = λ m. refl })
+net_level p (Says l ∷ ps) pt w h e =
+    let k = says_next pt l ps w e in
+    let first : Level p pt.view (view_after pt.view l) = record { smooth = net_smooth p pt.view l h.0; still = net_still p pt.view l h.0 } in
+    subst (λ (q : Point). Level p pt.view q.view) k.point (level_trans p pt.view (view_after pt.view l) k.rest.point.view first (net_level p ps (moved pt l k.s) k.rest h.1 k.more))
+net_level p (Routes i ∷ ps) pt w h e = absurd h.0
+net_level p (Again i b ∷ ps) pt w h e = absurd h.0
+net_level p (Owns k q b ∷ ps) pt w h e = absurd h.0
+net_level p (Transmits a b l ∷ ps) pt w h e =
+    let k = transmits_next pt a b l ps w e in
+    let x = packet_line pt.view a b l in
+    let first : Level p pt.view (view_after pt.view x) = record { smooth = packet_smooth p pt.view a b (length (pt.view.pair a b).wire) l; still = λ m. refl } in
+    subst (λ (q : Point). Level p pt.view q.view) k.point (level_trans p pt.view (view_after pt.view x) k.rest.point.view first (net_level p ps (moved pt x pt.kernel) k.rest h.1 k.more))
+
+-- and their lines are no directives and end no request
+abbrev Neither : (f : Line → Bool) → Type 0
+Neither f = (l : Line) → IsNetLine l → f l ≡ false
+
+net_none : (f : Line → Bool) → Neither f → (ps : List Part) → IsNet ps → part_count f ps ≡ 0
+net_none f n [] h = refl
+net_none f n (Says l ∷ ps) h =
+    let a = zero_if (f l) (n l h.0) in
+    let b = net_none f n ps h.1 in
+    omega (arith, a, b)
+net_none f n (Routes i ∷ ps) h = absurd h.0
+net_none f n (Again i b ∷ ps) h = absurd h.0
+net_none f n (Owns k q b ∷ ps) h = absurd h.0
+net_none f n (Transmits a b l ∷ ps) h = net_none f n ps h.1
+
+net_line_asks : (p : Pid) → Neither (asks p)
+net_line_asks p (line.Head d) h = absurd h
+net_line_asks p l h = refl
+
+net_line_ends : (g : MsgId → Option Told) (p : Pid) → Neither (ends g p)
+net_line_ends g p (line.Taken a b n) h = refl
+net_line_ends g p (line.Old a b n) h = refl
+net_line_ends g p (line.Early a b n) h = refl
+net_line_ends g p (line.Acked a b n) h = refl
+net_line_ends g p line.Nothing h = refl
+net_line_ends g p (line.Resent m n) h = refl
+net_line_ends g p l h = absurd h
+
+pub net_asks : (p : Pid) (ps : List Part) → IsNet ps → part_count (asks p) ps ≡ 0
+net_asks p ps h = net_none (asks p) (net_line_asks p) ps h
+
+pub net_ends : (g : MsgId → Option Told) (p : Pid) (ps : List Part) → IsNet ps → part_count (ends g p) ps ≡ 0
+net_ends g p ps h = net_none (ends g p) (net_line_ends g p) ps h

@@ -1,0 +1,302 @@
+-- Parts that leave all requests to move a process where they stand, and end none; and the lines of parts, counted.
+use Rattle.std.proofs.Common.{◌≡◌, ℕ, ◌+◌, ◌==◌, ◌&&◌, Bool, true, false, List, [], ◌∷◌, ◌++◌, length, refl, ap, ◌∙◌, sym, subst, arith}
+use Rattle.std.specs.Prelude.{⊤, if◌then◌else◌}
+use Rattle.std.specs.declared.option.Option.{Option}
+use Rattle.std.specs.declared.option.Option.TheVariants.{None, Some}
+use Rattle.dm_link.specs.declared.Pid.{Pid}
+use Rattle.dm_link.specs.Names.{pid_eq}
+use Rattle.dm_message.specs.declared.MsgId.{MsgId}
+use Rattle.dm_message.specs.declared.kind.MessageKind.{MessageKind}
+use Rattle.dm_message.specs.Kinds.{plain_kind}
+use Rattle.dm_onekernel.specs.Options.{bind}
+use Rattle.dm_laws.proofs.Steps.{bind-is}
+use Rattle.dm_line.specs.declared.line.Line.{Line}
+use Rattle.dm_line.specs.declared.line.Line.TheVariants as line
+use Rattle.dm_line.specs.declared.line.Load.{Load}
+use Rattle.dm_line.specs.declared.line.Load.TheVariants as load
+use Rattle.dm_line.specs.declared.line.Stage.TheVariants as stage
+use Rattle.dm_rule.specs.View.{View, Told, view_after, own_id, after_put}
+use Rattle.dm_rule.specs.View as view
+use Rattle.dm_rule.specs.Addresses.{Receiver}
+use Rattle.dm_rule.specs.Point.{Point, moved, after}
+use Rattle.dm_rule.specs.Parts.{Part, Says, Routes, Again, Owns, Transmits, Spelled, lines_of, puts, goes_out, packet_line, behind, spelled}
+use Rattle.dm_rule.specs.Spots.{Spot, Queue, Held, Inbox, Untaken, ids_at}
+use Rattle.dm_rule.proofs.Hushed.{is_put}
+use Rattle.dm_rule.proofs.Lines.{pair_keeps}
+use Rattle.dm_rule.proofs.Pairs.Lines.{touches, pair_same}
+use Rattle.dm_rule.proofs.States.{PairsFit, put_told_off}
+use Rattle.dm_rule.proofs.Said.{fits_as}
+use Rattle.dm_rule.proofs.Moves.Sent.{fits_put, fits_packet}
+use Rattle.dm_rule.proofs.Telling.{Sane, Sayable, part_sane}
+use Rattle.dm_rule.proofs.Phases.Lines.{put_spots, put_at}
+use Rattle.dm_rulelaws.proofs.Based.Needs.{Needs, NeedsPart, Walks, Steps, Said, said_by}
+use Rattle.dm_movelaws.specs.Ends.{asks, ends, count}
+use Rattle.dm_movelaws.proofs.Ends.Smooth.{asks_for, is_migrate, plain_not, Extends, Smooth, Still, Plain, smooth_same, smooth_trans, smooth_others, moves_none, plain_in_bag, own_untold}
+use Rattle.dm_movelaws.proofs.Ends.Lines.{Tame, QuietLine, Foreign, tame_plain, line_smooth}
+use Rattle.dm_movelaws.proofs.Ends.Still.{still_same, still_trans, line_still, quiet_ends}
+
+-- a put of a message that is no request to move this process
+first_plain : (p : Pid) (o : Option Told) (k : MessageKind) (q : Pid) (a : view.About) (t : Told) → Some (view.first_told o (record { kind = k; receiver = q; about = a })) ≡ Some t → (is_migrate k && pid_eq p q) ≡ false → ((u : Told) → o ≡ Some u → asks_for p u ≡ false)
+    → asks_for p t ≡ false
+first_plain p None k q a t e plain was = let f : record { kind = k; receiver = q; about = a } ≡ t = cc in subst (λ (s : Told). asks_for p s ≡ false) f plain
+first_plain p (Some u) k q a t e plain was = let f : u ≡ t = cc in subst (λ (s : Told). asks_for p s ≡ false) f (was u refl)
+
+pub first_kept : (o : Option Told) (u t : Told) → o ≡ Some t → Some (view.first_told o u) ≡ Some t
+first_kept None u t e = cc
+first_kept (Some s) u t e = e
+
+pub put_smooth : (p : Pid) (v : View) (a b : ℕ) (i : MsgId) (k : MessageKind) (q : Pid) → PairsFit v → (is_migrate k && pid_eq p q) ≡ false → Plain p v i → Smooth p v (after_put v a b i k q)
+put_smooth p v a b i k q fits plain was =
+    let u : Told = record { kind = k; receiver = q; about = v.topic } in
+    smooth_others p v (after_put v a b i k q) i was (λ t is. first_plain p (v.told i) k q v.topic t (sym (put_at v a b i k q) ∙ is) plain was) (λ t is. put_at v a b i k q ∙ first_kept (v.told i) u t is)
+    (record { told = λ j apart. put_told_off v a b i j k q apart; spots = λ j apart z. put_spots v a b i j k q fits apart z })
+
+packet_off : (v : View) (a b k : ℕ) (l : Load) (z : Spot) → ids_at (view_after v (line.Packet a b k l)) z ≡ ids_at v z
+packet_off v a b k l (Queue m p) = refl
+packet_off v a b k l (Held m p) = refl
+packet_off v a b k l (Inbox m) = refl
+packet_off v a b k l (Untaken c d) = pair_keeps v.pair a b _ refl c d
+
+pub packet_smooth : (p : Pid) (v : View) (a b k : ℕ) (l : Load) → Smooth p v (view_after v (line.Packet a b k l))
+packet_smooth p v a b k l = moves_none p v (line.Packet a b k l) refl (λ z. packet_off v a b k l z)
+
+-- parts
+abbrev pub Quiet : Pid → View → Part → Type 0
+Quiet p v (Says l) = QuietLine p v l
+Quiet p v (Routes i) = ⊤
+Quiet p v (Again i b) = Tame p v i
+Quiet p v (Owns k q b) = (is_migrate k && pid_eq p q) ≡ false
+Quiet p v (Transmits a b l) = ⊤
+
+abbrev pub AllQuiet : Pid → View → List Part → Type 0
+AllQuiet p v [] = ⊤
+AllQuiet p v (x ∷ ps) = Quiet p v x × AllQuiet p v ps
+
+-- what is quiet stays so
+tame_on : (p : Pid) (v w : View) (i : MsgId) → Smooth p v w → Tame p v i → Tame p w i
+tame_on p v w i c h = record { what = h.what; told = c.kept i h.what h.told; plain = h.plain }
+
+foreign_on : (p : Pid) (v w : View) (i : MsgId) → Smooth p v w → Foreign p v i → Foreign p w i
+foreign_on p v w i c h = record { what = h.what; told = c.kept i h.what h.told; other = h.other }
+
+line_on : (p : Pid) (v w : View) (l : Line) → Smooth p v w → QuietLine p v l → QuietLine p w l
+line_on p v w (line.Queued i) c h = tame_on p v w i c h
+line_on p v w (line.Held i) c h = tame_on p v w i c h
+line_on p v w (line.Forwarded i m) c h = tame_on p v w i c h
+line_on p v w (line.Updated i n) c h = tame_on p v w i c h
+line_on p v w (line.Proto i) c h = tame_on p v w i c h
+line_on p v w (line.Here i) c h = foreign_on p v w i c h
+line_on p v w (line.NoMove i) c h = foreign_on p v w i c h
+line_on p v w (line.Migration stage.Asked q) c h = h
+line_on p v w (line.Migration stage.Frozen q) c h = h
+line_on p v w (line.Migration stage.Accepted q) c h = h
+line_on p v w (line.Migration stage.StateTaken q) c h = h
+line_on p v w (line.Migration stage.MemoryTaken q) c h = h
+line_on p v w (line.Migration stage.Left q) c h = h
+line_on p v w (line.Migration stage.Restarted q) c h = h
+line_on p v w l c h = h
+
+quiet_on : (p : Pid) (v w : View) (x : Part) → Smooth p v w → Quiet p v x → Quiet p w x
+quiet_on p v w (Says l) c h = line_on p v w l c h
+quiet_on p v w (Routes i) c h = h
+quiet_on p v w (Again i b) c h = tame_on p v w i c h
+quiet_on p v w (Owns k q b) c h = h
+quiet_on p v w (Transmits a b l) c h = h
+
+quiet_touches : (p : Pid) (v : View) (l : Line) → QuietLine p v l → touches l ≡ false
+quiet_touches p v (line.Head s) h = absurd h
+quiet_touches p v (line.Put a b i k q) h = absurd h
+quiet_touches p v (line.Packet a b k l) h = absurd h
+quiet_touches p v (line.Taken a b n) h = absurd h
+quiet_touches p v (line.Early a b n) h = absurd h
+quiet_touches p v (line.Acked a b n) h = absurd h
+quiet_touches p v l h = refl
+
+quiet_put : (p : Pid) (v : View) (l : Line) → QuietLine p v l → is_put l ≡ false
+quiet_put p v (line.Put a b i k q) h = absurd h
+quiet_put p v l h = refl
+
+-- what is kept through parts
+pub record Settled (p : Pid) (v : View) (pt : Point) : Type 0 where
+  pub smooth : Smooth p v pt.view
+  pub still : Still p v pt.view
+  pub sane : Sane pt
+  pub fits : PairsFit pt.view
+
+pub record Rest (p : Pid) (v w : View) : Type 0 where
+  pub smooth : Smooth p v w
+  pub still : Still p v w
+  pub fits : PairsFit w
+
+packet_or_none : (p : Pid) (v : View) (pt next : Point) (c d : Bool) (a b k : ℕ) (l : Load) → Rest p v pt.view → after pt (if c then [] else if d then line.Packet a b k l ∷ [] else []) ≡ Some next → Rest p v next.view
+packet_or_none p v pt next true d a b k l h is = let f : pt ≡ next = cc in subst (λ (q : Point). Rest p v q.view) f h
+packet_or_none p v pt next false false a b k l h is = let f : pt ≡ next = cc in subst (λ (q : Point). Rest p v q.view) f h
+packet_or_none p v pt next false true a b k l h is =
+    let f : moved pt (line.Packet a b k l) pt.kernel ≡ next = cc in
+    let w = view_after pt.view (line.Packet a b k l) in
+    let r : Rest p v w = record { smooth = smooth_trans p v pt.view w h.smooth (packet_smooth p pt.view a b k l); still = h.still; fits = fits_packet pt.view a b k l h.fits } in
+    subst (λ (q : Point). Rest p v q.view) f r
+
+puts_rest : (p : Pid) (pt next : Point) (b : ℕ) (i : MsgId) (k : MessageKind) (q : Pid) (ls : List Line) → PairsFit pt.view → (is_migrate k && pid_eq p q) ≡ false → Plain p pt.view i → Some (puts pt.view b i k q) ≡ Some ls → after pt ls ≡ Some next → Rest p pt.view next.view
+puts_rest p pt next b i k q ls fits e plain is leads =
+    let v = pt.view in
+    let f : puts v b i k q ≡ ls = cc in
+    let mid = moved pt (line.Put v.acting b i k q) pt.kernel in
+    packet_or_none p v mid next (v.acting == b) (goes_out (v.pair v.acting b)) v.acting b (length (v.pair v.acting b).wire) (load.Data (length (v.pair v.acting b).ids))
+    (record { smooth = put_smooth p v v.acting b i k q fits e plain; still = λ m. refl; fits = fits_put v v.acting b i k q fits }) (ap (after pt) f ∙ leads)
+
+says_rest : (p : Pid) (pt next : Point) (l : Line) → Sane pt → PairsFit pt.view → QuietLine p pt.view l → Needs pt l → Said pt l next → Rest p pt.view next.view
+says_rest p pt next l h fits quiet need k =
+    let w = view_after pt.view l in
+    let r : Rest p pt.view w = record { smooth = line_smooth p pt k.kernel l h quiet k.step; still = line_still p pt l quiet need; fits = fits_as pt.view w (pair_same pt.view l (quiet_touches p pt.view l quiet)) fits } in
+    subst (λ (q : Point). Rest p pt.view q.view) k.is r
+
+untold_plain : (p : Pid) (v : View) (i : MsgId) → v.told i ≡ None → Plain p v i
+untold_plain p v i none t told = absurd (let f : None ≡ Some t = sym none ∙ told in cc)
+
+first_off : (b c : Bool) → b ≡ false → (b && c) ≡ false
+first_off b c e = ap (λ (x : Bool). x && c) e
+
+part_rest : (p : Pid) (pt next : Point) (x : Part) → Sane pt → PairsFit pt.view → Quiet p pt.view x → NeedsPart pt x → Steps pt x next → Rest p pt.view next.view
+part_rest p pt next (Says l) h fits quiet need s = says_rest p pt next l h fits quiet need (said_by pt next l s)
+part_rest p pt next (Routes i) h fits quiet need s =
+    let (m, there, last) = bind-is (pt.kernel.bag i) (λ m. Some (puts pt.view (pt.addresses (Receiver i)).at i (plain_kind m.what) m.to)) s.lines s.are in
+    puts_rest p pt next (pt.addresses (Receiver i)).at i (plain_kind m.what) m.to s.lines fits (first_off (is_migrate (plain_kind m.what)) (pid_eq p m.to) (plain_not m.what)) (plain_in_bag p pt i m h there) last s.leads
+part_rest p pt next (Again i b) h fits quiet need s =
+    let (t, there, last) = bind-is (pt.view.told i) (λ t. Some (puts pt.view b i t.kind t.receiver)) s.lines s.are in
+    puts_rest p pt next b i t.kind t.receiver s.lines fits (tame_plain p pt.view i quiet t there) (tame_plain p pt.view i quiet) last s.leads
+part_rest p pt next (Owns k q b) h fits quiet need s = puts_rest p pt next b (own_id pt.view) k q s.lines fits quiet (untold_plain p pt.view (own_id pt.view) (own_untold pt h)) s.are s.leads
+part_rest p pt next (Transmits a b l) h fits quiet need s =
+    let lines_are = s.are in
+    let f : packet_line pt.view a b l ∷ [] ≡ s.lines = cc in
+    packet_or_none p pt.view pt next false true a b (length (pt.view.pair a b).wire) l (record { smooth = smooth_same p pt.view; still = λ m. refl; fits = fits }) (ap (after pt) f ∙ s.leads)
+
+sayable_of : (p : Pid) (v : View) (x : Part) → Quiet p v x → Sayable x
+sayable_of p v (Says l) h = quiet_put p v l h
+sayable_of p v (Routes i) h = tt
+sayable_of p v (Again i b) h = tt
+sayable_of p v (Owns k q b) h = tt
+sayable_of p v (Transmits a b l) h = tt
+
+pub settled_same : (p : Pid) (pt : Point) → Sane pt → PairsFit pt.view → Settled p pt.view pt
+settled_same p pt sane fits = record { smooth = smooth_same p pt.view; still = still_same p pt.view; sane = sane; fits = fits }
+
+pub parts_settle : (p : Pid) (ps : List Part) (v : View) (pt : Point) (w : Spelled) → AllQuiet p v ps → Walks pt ps → Settled p v pt → spelled pt ps ≡ Some w → Settled p v w.point
+parts_settle p [] v pt w quiet walks h is = let f : record { lines = []; point = pt } ≡ w = cc in subst (λ (x : Spelled). Settled p v x.point) f h
+parts_settle p (x ∷ ps) v pt w quiet walks h is =
+    let (ls, lines, rest) = bind-is (lines_of pt x) (λ (xs : List Line). bind (after pt xs) (λ (q : Point). bind (spelled q ps) (λ (z : Spelled). Some (behind xs z)))) w is in
+    let (next, leads, last) = bind-is (after pt ls) (λ (q : Point). bind (spelled q ps) (λ (z : Spelled). Some (behind ls z))) w rest in
+    let (z, more, end) = bind-is (spelled next ps) (λ (y : Spelled). Some (behind ls y)) w last in
+    let f : behind ls z ≡ w = cc in
+    let here : Quiet p pt.view x = quiet_on p v pt.view x h.smooth quiet.0 in
+    let s : Steps pt x next = record { lines = ls; are = lines; leads = leads } in
+    let c = part_rest p pt next x h.sane h.fits here walks.0 s in
+    let there : Settled p v next = record {
+      smooth = smooth_trans p v pt.view next.view h.smooth c.smooth;
+      still = still_trans p v pt.view next.view h.still c.still;
+      sane = part_sane pt next x ls (sayable_of p pt.view x here) lines leads h.sane;
+      fits = c.fits;
+    } in
+    subst (λ (y : Spelled). Settled p v y.point) f (parts_settle p ps v next z quiet.1 (walks.1 next s) there more)
+
+-- the lines of parts, counted
+abbrev pub one_if : (Line → Bool) → Line → ℕ
+one_if f l = if f l then 1 else 0
+
+abbrev pub part_count : (Line → Bool) → List Part → ℕ
+part_count f [] = 0
+part_count f (Says l ∷ ps) = one_if f l + part_count f ps
+part_count f (Routes i ∷ ps) = part_count f ps
+part_count f (Again i b ∷ ps) = part_count f ps
+part_count f (Owns k q b ∷ ps) = part_count f ps
+part_count f (Transmits a b l ∷ ps) = part_count f ps
+
+-- puts and packets don't count
+pub record Silent (f : Line → Bool) : Type 0 where
+  pub put : (a b : ℕ) (i : MsgId) (k : MessageKind) (q : Pid) → f (line.Put a b i k q) ≡ false
+  pub packet : (a b k : ℕ) (l : Load) → f (line.Packet a b k l) ≡ false
+
+pub asks_silent : (p : Pid) → Silent (asks p)
+asks_silent p = record { put = λ a b i k q. refl; packet = λ a b k l. refl }
+
+pub ends_silent : (g : MsgId → Option Told) (p : Pid) → Silent (ends g p)
+ends_silent g p = record { put = λ a b i k q. refl; packet = λ a b k l. refl }
+
+pub count-append : (f : Line → Bool) (xs ys : List Line) → count f (xs ++ ys) ≡ count f xs + count f ys
+count-append f [] ys = omega arith
+count-append f (x ∷ xs) ys = let h = count-append f xs ys in omega (arith, h)
+
+abbrev pub unit_if : Bool → ℕ
+unit_if c = if c then 1 else 0
+
+pub zero_if : (c : Bool) → c ≡ false → unit_if c ≡ 0
+zero_if c e = ap unit_if e
+
+puts_zero : (f : Line → Bool) (v : View) (b : ℕ) (i : MsgId) (k : MessageKind) (q : Pid) (c d : Bool) → Silent f → count f (line.Put v.acting b i k q ∷ (if c then [] else if d then packet_line v v.acting b (load.Data (length (v.pair v.acting b).ids)) ∷ [] else [])) ≡ 0
+puts_zero f v b i k q true d h = let x = zero_if (f (line.Put v.acting b i k q)) (h.put v.acting b i k q) in omega (arith, x)
+puts_zero f v b i k q false false h = let x = zero_if (f (line.Put v.acting b i k q)) (h.put v.acting b i k q) in omega (arith, x)
+puts_zero f v b i k q false true h =
+    let l = packet_line v v.acting b (load.Data (length (v.pair v.acting b).ids)) in
+    let x = zero_if (f (line.Put v.acting b i k q)) (h.put v.acting b i k q) in
+    let y = zero_if (f l) (h.packet v.acting b (length (v.pair v.acting b).wire) (load.Data (length (v.pair v.acting b).ids))) in
+    omega (arith, x, y)
+
+puts_count : (f : Line → Bool) (v : View) (b : ℕ) (i : MsgId) (k : MessageKind) (q : Pid) (ls : List Line) → Silent f → Some (puts v b i k q) ≡ Some ls → count f ls ≡ 0
+puts_count f v b i k q ls h is =
+    let g : puts v b i k q ≡ ls = cc in
+    subst (λ (xs : List Line). count f xs ≡ 0) g (puts_zero f v b i k q (v.acting == b) (goes_out (v.pair v.acting b)) h)
+
+one_count : (f : Line → Bool) (l : Line) (ls : List Line) → Some (l ∷ []) ≡ Some ls → count f ls ≡ one_if f l
+one_count f l ls is = let g : l ∷ [] ≡ ls = cc in sym (ap (count f) g) ∙ (omega arith)
+
+lines_count : (f : Line → Bool) (pt : Point) (x : Part) (ps : List Part) (ls : List Line) → Silent f → lines_of pt x ≡ Some ls → count f ls + part_count f ps ≡ part_count f (x ∷ ps)
+lines_count f pt (Says l) ps ls h is = let e = one_count f l ls is in omega (arith, e)
+lines_count f pt (Routes i) ps ls h is =
+    let (m, there, last) = bind-is (pt.kernel.bag i) (λ m. Some (puts pt.view (pt.addresses (Receiver i)).at i (plain_kind m.what) m.to)) ls is in
+    let e = puts_count f pt.view (pt.addresses (Receiver i)).at i (plain_kind m.what) m.to ls h last in
+    omega (arith, e)
+lines_count f pt (Again i b) ps ls h is =
+    let (t, there, last) = bind-is (pt.view.told i) (λ t. Some (puts pt.view b i t.kind t.receiver)) ls is in
+    let e = puts_count f pt.view b i t.kind t.receiver ls h last in
+    omega (arith, e)
+lines_count f pt (Owns k q b) ps ls h is = let e = puts_count f pt.view b (own_id pt.view) k q ls h is in omega (arith, e)
+lines_count f pt (Transmits a b l) ps ls h is =
+    let e = one_count f (packet_line pt.view a b l) ls is in
+    let z = zero_if (f (packet_line pt.view a b l)) (h.packet a b (length (pt.view.pair a b).wire) l) in
+    omega (arith, e, z)
+
+pub parts_count : (f : Line → Bool) → Silent f → (ps : List Part) (pt : Point) (w : Spelled) → spelled pt ps ≡ Some w → count f w.lines ≡ part_count f ps
+parts_count f h [] pt w is = let g : record { lines = []; point = pt } ≡ w = cc in sym (ap (λ (x : Spelled). count f x.lines) g)
+parts_count f h (x ∷ ps) pt w is =
+    let (ls, lines, rest) = bind-is (lines_of pt x) (λ (xs : List Line). bind (after pt xs) (λ (q : Point). bind (spelled q ps) (λ (z : Spelled). Some (behind xs z)))) w is in
+    let (next, leads, last) = bind-is (after pt ls) (λ (q : Point). bind (spelled q ps) (λ (z : Spelled). Some (behind ls z))) w rest in
+    let (z, more, end) = bind-is (spelled next ps) (λ (y : Spelled). Some (behind ls y)) w last in
+    let g : behind ls z ≡ w = cc in
+    sym (ap (λ (y : Spelled). count f y.lines) g) ∙ count-append f ls z.lines ∙ ap (λ n. count f ls + n) (parts_count f h ps next z more) ∙ lines_count f pt x ps ls h lines
+
+-- quiet parts end none, and are no directive
+pub quiet_count : (p : Pid) (v : View) (ps : List Part) (f : MsgId → Option Told) → AllQuiet p v ps → Extends v.told f → part_count (ends f p) ps ≡ 0
+quiet_count p v [] f quiet ext = refl
+quiet_count p v (Says l ∷ ps) f quiet ext =
+    let a = zero_if (ends f p l) (quiet_ends p v l f quiet.0 ext) in
+    let b = quiet_count p v ps f quiet.1 ext in
+    omega (arith, a, b)
+quiet_count p v (Routes i ∷ ps) f quiet ext = quiet_count p v ps f quiet.1 ext
+quiet_count p v (Again i b ∷ ps) f quiet ext = quiet_count p v ps f quiet.1 ext
+quiet_count p v (Owns k q b ∷ ps) f quiet ext = quiet_count p v ps f quiet.1 ext
+quiet_count p v (Transmits a b l ∷ ps) f quiet ext = quiet_count p v ps f quiet.1 ext
+
+line_asks : (p : Pid) (v : View) (l : Line) → QuietLine p v l → asks p l ≡ false
+line_asks p v (line.Head d) h = absurd h
+line_asks p v l h = refl
+
+pub quiet_asks : (p : Pid) (v : View) (ps : List Part) → AllQuiet p v ps → part_count (asks p) ps ≡ 0
+quiet_asks p v [] quiet = refl
+quiet_asks p v (Says l ∷ ps) quiet =
+    let a = zero_if (asks p l) (line_asks p v l quiet.0) in
+    let b = quiet_asks p v ps quiet.1 in
+    omega (arith, a, b)
+quiet_asks p v (Routes i ∷ ps) quiet = quiet_asks p v ps quiet.1
+quiet_asks p v (Again i b ∷ ps) quiet = quiet_asks p v ps quiet.1
+quiet_asks p v (Owns k q b ∷ ps) quiet = quiet_asks p v ps quiet.1
+quiet_asks p v (Transmits a b l ∷ ps) quiet = quiet_asks p v ps quiet.1

@@ -1,0 +1,316 @@
+-- Messages that go on, those that are held, and those that come back from a held list: all stand somewhere again.
+use Rattle.std.proofs.Common.{◌≡◌, ◌⊎◌, ℕ, ◌≤◌, ◌==◌, ◌&&◌, Bool, true, false, List, [], ◌∷◌, ◌++◌, length, refl, ap, ◌∙◌, sym, subst, inl, inr, arith}
+use Rattle.std.specs.Prelude.{if◌then◌else◌}
+use Rattle.std.specs.declared.option.Option.{Option}
+use Rattle.std.specs.declared.option.Option.TheVariants.{None, Some}
+use Rattle.std.proofs.lemmas.Bool.{cases_Bool, false≢true}
+use Rattle.dm_link.specs.declared.Pid.{Pid}
+use Rattle.dm_link.specs.Names.{pid_eq}
+use Rattle.dm_message.specs.declared.MsgId.{MsgId}
+use Rattle.dm_message.specs.declared.kind.MessageKind.{MessageKind}
+use Rattle.dm_message.specs.Ids.{id_eq}
+use Rattle.dm_onekernel.specs.Options.{bind}
+use Rattle.dm_laws.proofs.Equal.{id_eq-is, id_eq-same}
+use Rattle.dm_laws.proofs.Steps.{bind-is}
+use Rattle.dm_line.specs.declared.line.Line.{Line}
+use Rattle.dm_line.specs.declared.line.Line.TheVariants as line
+use Rattle.dm_line.specs.declared.line.Load.TheVariants as load
+use Rattle.dm_line.specs.Sets.{at_machine, at_record}
+use Rattle.dm_rule.specs.View.{View, Told, Known, Here, view_after, after_put, handled, handled_first, held_for, forwarded_for, receiver_of, released, with_ring, knowing}
+use Rattle.dm_rule.specs.View as view
+use Rattle.dm_rule.specs.Point.{Point, moved, after}
+use Rattle.dm_rule.specs.Parts.{Part, Again, Spelled, lines_of, puts, goes_out, packet_line, behind, spelled}
+use Rattle.dm_rule.specs.Migrating.{sends_on}
+use Rattle.dm_rule.specs.Spots.{Spot, Queue, Held, Inbox, Untaken, times, ids_at, standing}
+use Rattle.dm_rule.proofs.Lines.{at_record_at, parts, eq_is, eq_self}
+use Rattle.dm_rule.proofs.Moves.Sent.{fits_put, fits_packet}
+use Rattle.dm_rule.proofs.Once.{one_of}
+use Rattle.dm_rule.proofs.Phases.Lines.{handled_spots, held_spots, put_spots, put_at}
+use Rattle.dm_rule.proofs.Phases.Put.{put_there, put_spot}
+use Rattle.dm_rule.proofs.Standing.{times-append}
+use Rattle.dm_rule.proofs.States.{PairsFit, PacketsKeep, put_told_off}
+use Rattle.dm_rule.proofs.Telling.{Sane, part_sane}
+use Rattle.dm_laws.proofs.Equal.{pid_eq-is}
+use Rattle.dm_movelaws.proofs.Ends.Smooth.{asks_for, Somewhere, Smooth, Plain, smooth_trans, smooth_still, smooth_others, stands_as, stands_was, told_by}
+use Rattle.dm_movelaws.proofs.Ends.Net.{zero_cases}
+use Rattle.dm_movelaws.proofs.Ends.Parts.{first_kept, packet_smooth, part_count}
+use Rattle.dm_movelaws.proofs.Ends.Rows.{front_one, first_spots}
+
+-- one message stands elsewhere, and the others where they stood
+pub smooth_moves : (p : Pid) (v w : View) (i : MsgId) → ((j : MsgId) → w.told j ≡ v.told j) → Somewhere v i → Somewhere w i → ((j : MsgId) → id_eq i j ≡ false → (z : Spot) → standing w j z ≡ standing v j z) → Smooth p v w
+smooth_moves p v w i told was now spots = record {
+  kept = λ j t e. told j ∙ e;
+  fresh = λ j t e a. sym (told j) ∙ e;
+  on = λ j t e a s. elim (cases_Bool (id_eq i j)) [
+    | inl same ↦ subst (λ (x : MsgId). Somewhere w x) (id_eq-is i j same) now
+    | inr apart ↦ stands_as v w j (spots j apart) s
+  ];
+  back = λ j t e a s. elim (cases_Bool (id_eq i j)) [
+    | inl same ↦ subst (λ (x : MsgId). Somewhere v x) (id_eq-is i j same) was
+    | inr apart ↦ stands_was v w j (spots j apart) s
+  ];
+}
+
+-- a message is held
+last_there : (i : MsgId) (xs : List MsgId) → 1 ≤ times i (xs ++ i ∷ [])
+last_there i xs =
+    let a = times-append i xs (i ∷ []) in
+    let one : one_of i i ≡ 1 = ap (λ (c : Bool). if c then 1 else 0) (id_eq-same i) in
+    omega (arith, a, one)
+
+held_there : (v : View) (i : MsgId) (o : Option Pid) (q : Pid) → o ≡ Some q → Somewhere (held_for v i o) i
+held_there v i None q e = cc
+held_there v i (Some r) q e = (Held v.acting r, subst (λ n. 1 ≤ n) (sym (ap (times i) (at_record_at v.held v.acting r (v.held v.acting r ++ i ∷ [])))) (last_there i (v.held v.acting r)))
+
+pub held_smooth : (p : Pid) (v : View) (i : MsgId) (is : List MsgId) (t : Told) → v.inbox v.acting ≡ i ∷ is → v.told i ≡ Some t → Smooth p v (view_after v (line.Held i))
+held_smooth p v i is t front told =
+    let o = receiver_of (v.told i) in
+    smooth_moves p v (view_after v (line.Held i)) i (told_by v (line.Held i) refl) (Inbox v.acting, front_one v v.acting i is front) (held_there (handled v i) i o t.receiver (ap receiver_of told))
+    (λ j e z. held_spots (handled v i) i j o e z ∙ handled_spots v i j e z)
+
+-- a message that was told of is put again
+pub again_told : (v : View) (a b : ℕ) (i : MsgId) (t : Told) → v.told i ≡ Some t → (j : MsgId) → (after_put v a b i t.kind t.receiver).told j ≡ v.told j
+again_told v a b i t is j = elim (cases_Bool (id_eq i j)) [
+  | inl same ↦
+      let ij : i ≡ j = id_eq-is i j same in
+      let u : Told = record { kind = t.kind; receiver = t.receiver; about = v.topic } in
+      subst (λ (x : MsgId). (after_put v a b i t.kind t.receiver).told x ≡ v.told x) ij (put_at v a b i t.kind t.receiver ∙ first_kept (v.told i) u t is ∙ sym is)
+  | inr apart ↦ put_told_off v a b i j t.kind t.receiver apart
+]
+
+-- a put and its packet
+puts_by : (P : Point → Type 0) (keeps : PacketsKeep P) (pt next : Point) (b : ℕ) (i : MsgId) (k : MessageKind) (q : Pid) (c d : Bool) → P (moved pt (line.Put pt.view.acting b i k q) pt.kernel)
+    → after pt (line.Put pt.view.acting b i k q ∷ (if c then [] else if d then packet_line pt.view pt.view.acting b (load.Data (length (pt.view.pair pt.view.acting b).ids)) ∷ [] else [])) ≡ Some next → P next
+puts_by P keeps pt next b i k q true d h is =
+    let f : moved pt (line.Put pt.view.acting b i k q) pt.kernel ≡ next = cc in subst P f h
+puts_by P keeps pt next b i k q false false h is =
+    let f : moved pt (line.Put pt.view.acting b i k q) pt.kernel ≡ next = cc in subst P f h
+puts_by P keeps pt next b i k q false true h is =
+    let n = length (pt.view.pair pt.view.acting b).wire in
+    let l = load.Data (length (pt.view.pair pt.view.acting b).ids) in
+    let mid = moved pt (line.Put pt.view.acting b i k q) pt.kernel in
+    let f : moved mid (line.Packet pt.view.acting b n l) mid.kernel ≡ next = cc in
+    subst P f (keeps mid pt.view.acting b n l h)
+
+pub puts_lead : (P : Point → Type 0) (keeps : PacketsKeep P) (pt next : Point) (b : ℕ) (i : MsgId) (k : MessageKind) (q : Pid) (ls : List Line) → P (moved pt (line.Put pt.view.acting b i k q) pt.kernel) → Some (puts pt.view b i k q) ≡ Some ls → after pt ls ≡ Some next → P next
+puts_lead P keeps pt next b i k q ls h is leads =
+    let f : puts pt.view b i k q ≡ ls = cc in
+    puts_by P keeps pt next b i k q (pt.view.acting == b) (goes_out (pt.view.pair pt.view.acting b)) h (ap (after pt) f ∙ leads)
+
+-- messages on the way from their lists to their puts
+pub record Sending (p : Pid) (v : View) (js : List MsgId) (w : View) : Type 0 where
+  pub told : (i : MsgId) → w.told i ≡ v.told i
+  pub on : (i : MsgId) (t : Told) → v.told i ≡ Some t → asks_for p t ≡ true → Somewhere v i → Somewhere w i ⊎ (1 ≤ times i js)
+  pub back : (i : MsgId) (t : Told) → v.told i ≡ Some t → asks_for p t ≡ true → Somewhere w i → Somewhere v i
+  pub from : (i : MsgId) (t : Told) → v.told i ≡ Some t → asks_for p t ≡ true → 1 ≤ times i js → Somewhere v i
+  pub known : (m : ℕ) (q : Pid) → w.known m q ≡ v.known m q
+  pub fits : PairsFit w
+  pub acting : w.acting ≡ v.acting
+
+pub sending_packet : (p : Pid) (v : View) (js : List MsgId) → PacketsKeep (λ q. Sending p v js q.view)
+sending_packet p v js q a b k l h =
+    let w = view_after q.view (line.Packet a b k l) in
+    let s = packet_smooth p q.view a b k l in
+    record {
+      told = h.told;
+      on = λ i t e c st. elim (h.on i t e c st) [
+        | inl x ↦ inl (s.on i t (h.told i ∙ e) c x)
+        | inr x ↦ inr x
+      ];
+      back = λ i t e c st. h.back i t e c (s.back i t (h.told i ∙ e) c st);
+      from = h.from;
+      known = h.known;
+      fits = fits_packet q.view a b k l h.fits;
+      acting = h.acting;
+    }
+
+one_apart : (i j : MsgId) → id_eq i j ≡ false → one_of i j ≡ 0
+one_apart i j e = ap (λ (c : Bool). if c then 1 else 0) e
+
+pub sending_put : (p : Pid) (v : View) (j : MsgId) (js : List MsgId) (w : View) (b : ℕ) (u : Told) → w.told j ≡ Some u → Sending p v (j ∷ js) w → Sending p v js (after_put w w.acting b j u.kind u.receiver)
+sending_put p v j js w b u told h =
+    let n = after_put w w.acting b j u.kind u.receiver in
+    let same = again_told w w.acting b j u told in
+    let spots : (i : MsgId) → id_eq j i ≡ false → (z : Spot) → standing n i z ≡ standing w i z = λ i e z. put_spots w w.acting b j i u.kind u.receiver h.fits e z in
+    let there : Somewhere n j = (put_spot w.acting b, put_there w w.acting b j u.kind u.receiver h.fits) in
+    let first : one_of j j ≡ 1 = ap (λ (c : Bool). if c then 1 else 0) (id_eq-same j) in
+    record {
+      told = λ i. same i ∙ h.told i;
+      on = λ i t e c st. elim (cases_Bool (id_eq i j)) [
+        | inl is ↦ inl (subst (λ (x : MsgId). Somewhere n x) (sym (id_eq-is i j is)) there)
+        | inr apart ↦ elim (h.on i t e c st) [
+          | inl x ↦ elim (cases_Bool (id_eq j i)) [
+            | inl is ↦ inl (subst (λ (y : MsgId). Somewhere n y) (id_eq-is j i is) there)
+            | inr off ↦ inl (stands_as w n i (spots i off) x)
+          ]
+          | inr x ↦ let none = one_apart i j apart in inr (omega (arith, x, none))
+        ]
+      ];
+      back = λ i t e c st. elim (cases_Bool (id_eq j i)) [
+        | inl is ↦
+            let ji : j ≡ i = id_eq-is j i is in
+            let listed : 1 ≤ times i (j ∷ js) = subst (λ (x : MsgId). 1 ≤ times x (j ∷ js)) ji (omega (arith, first)) in
+            h.from i t e c listed
+        | inr off ↦ h.back i t e c (stands_was w n i (spots i off) st)
+      ];
+      from = λ i t e c least. h.from i t e c (omega (arith, least));
+      known = h.known;
+      fits = fits_put w w.acting b j u.kind u.receiver h.fits;
+      acting = h.acting;
+    }
+
+-- all are put again
+pub record Sent (p : Pid) (v : View) (ps : List Part) (w : Spelled) : Type 0 where
+  pub next : Point
+  pub sending : Sending p v [] next.view
+  pub sane : Sane next
+  pub rest : Spelled
+  pub more : spelled next ps ≡ Some rest
+  pub point : rest.point ≡ w.point
+
+pub all_sent : (p : Pid) (v : View) (js : List MsgId) (b : ℕ) (ps : List Part) (pt : Point) (w : Spelled) → Sending p v js pt.view → Sane pt → spelled pt (sends_on b js ++ ps) ≡ Some w → Sent p v ps w
+all_sent p v [] b ps pt w h sane e = record { next = pt; sending = h; sane = sane; rest = w; more = e; point = refl }
+all_sent p v (j ∷ js) b ps pt w h sane e =
+    let qs = sends_on b js ++ ps in
+    let (ls, lines, rest) = bind-is (lines_of pt (Again j b)) (λ (xs : List Line). bind (after pt xs) (λ (q : Point). bind (spelled q qs) (λ (z : Spelled). Some (behind xs z)))) w e in
+    let (next, leads, last) = bind-is (after pt ls) (λ (q : Point). bind (spelled q qs) (λ (z : Spelled). Some (behind ls z))) w rest in
+    let (z, more, end) = bind-is (spelled next qs) (λ (y : Spelled). Some (behind ls y)) w last in
+    let f : behind ls z ≡ w = cc in
+    let (t, there, is) = bind-is (pt.view.told j) (λ (t : Told). Some (puts pt.view b j t.kind t.receiver)) ls lines in
+    let step : Sending p v js next.view = puts_lead (λ (q : Point). Sending p v js q.view) (sending_packet p v js) pt next b j t.kind t.receiver ls (sending_put p v j js pt.view b t there h) is leads in
+    let r = all_sent p v js b ps next z step (part_sane pt next (Again j b) ls tt lines leads sane) more in
+    record { next = r.next; sending = r.sending; sane = r.sane; rest = r.rest; more = r.more; point = ◌∙◌ {a = r.rest.point} r.point (ap (λ (x : Spelled). x.point) f) }
+
+pub sent_smooth : (p : Pid) (v w : View) → Sending p v [] w → Smooth p v w
+sent_smooth p v w h = record {
+  kept = λ i t e. h.told i ∙ e;
+  fresh = λ i t e a. sym (h.told i) ∙ e;
+  on = λ i t e a s. elim (h.on i t e a s) [
+    | inl x ↦ x
+    | inr x ↦ absurd (omega (arith, x))
+  ];
+  back = h.back;
+}
+
+pub sends_count : (f : Line → Bool) (b : ℕ) (js : List MsgId) (ps : List Part) → part_count f (sends_on b js ++ ps) ≡ part_count f ps
+sends_count f b [] ps = refl
+sends_count f b (j ∷ js) ps = sends_count f b js ps
+
+-- what begins: the front goes, and the lists of a process are emptied
+emptied_on : (f : ℕ → Pid → List MsgId) (a : ℕ) (q : Pid) (i : MsgId) (m : ℕ) (r : Pid) → 1 ≤ times i (f m r) → (1 ≤ times i (at_record f a q [] m r)) ⊎ (1 ≤ times i (f a q))
+emptied_on f a q i m r least = elim (cases_Bool ((a == m) && pid_eq q r)) [
+  | inl same ↦
+      let both = parts (a == m) (pid_eq q r) same in
+      inr (subst (λ (n : ℕ). 1 ≤ times i (f n q)) (sym (eq_is a m both.0)) (subst (λ (x : Pid). 1 ≤ times i (f m x)) (sym (pid_eq-is q r both.1)) least))
+  | inr apart ↦ inl (subst (λ n. 1 ≤ n) (sym (ap (λ (c : Bool). times i (if c then [] else f m r)) apart)) least)
+]
+
+emptied_back : (f : ℕ → Pid → List MsgId) (a : ℕ) (q : Pid) (i : MsgId) (m : ℕ) (r : Pid) → 1 ≤ times i (at_record f a q [] m r) → 1 ≤ times i (f m r)
+emptied_back f a q i m r least = elim (cases_Bool ((a == m) && pid_eq q r)) [
+  | inl same ↦ absurd (let none : times i (at_record f a q [] m r) ≡ 0 = ap (λ (c : Bool). times i (if c then [] else f m r)) same in omega (arith, least, none))
+  | inr apart ↦ subst (λ n. 1 ≤ n) (ap (λ (c : Bool). times i (if c then [] else f m r)) apart) least
+]
+
+abbrev sent_view : View → Pid → ℕ → View
+sent_view v q n = view_after v (line.SentOn q n)
+
+both_first : (i : MsgId) (xs ys : List MsgId) → 1 ≤ times i xs → 1 ≤ times i (xs ++ ys)
+both_first i xs ys least = let a = times-append i xs ys in omega (arith, a, least)
+
+both_second : (i : MsgId) (xs ys : List MsgId) → 1 ≤ times i ys → 1 ≤ times i (xs ++ ys)
+both_second i xs ys least = let a = times-append i xs ys in omega (arith, a, least)
+
+sent_on : (v : View) (q : Pid) (n : ℕ) (i : MsgId) → ((z : Spot) → standing (handled_first v) i z ≡ standing v i z) → (z : Spot) → 1 ≤ standing v i z → Somewhere (sent_view v q n) i ⊎ (1 ≤ times i (v.queue v.acting q ++ v.held v.acting q))
+sent_on v q n i same (Queue m r) st = elim (emptied_on v.queue v.acting q i m r st) [
+  | inl x ↦ inl (Queue m r, x)
+  | inr x ↦ inr (both_first i (v.queue v.acting q) (v.held v.acting q) x)
+]
+sent_on v q n i same (Held m r) st = elim (emptied_on v.held v.acting q i m r st) [
+  | inl x ↦ inl (Held m r, x)
+  | inr x ↦ inr (both_second i (v.queue v.acting q) (v.held v.acting q) x)
+]
+sent_on v q n i same (Inbox m) st = inl (Inbox m, subst (λ k. 1 ≤ k) (sym (same (Inbox m))) st)
+sent_on v q n i same (Untaken a b) st = inl (Untaken a b, st)
+
+sent_back : (v : View) (q : Pid) (n : ℕ) (i : MsgId) → ((z : Spot) → standing (handled_first v) i z ≡ standing v i z) → (z : Spot) → 1 ≤ standing (sent_view v q n) i z → Somewhere v i
+sent_back v q n i same (Queue m r) st = (Queue m r, emptied_back v.queue v.acting q i m r st)
+sent_back v q n i same (Held m r) st = (Held m r, emptied_back v.held v.acting q i m r st)
+sent_back v q n i same (Inbox m) st = (Inbox m, subst (λ k. 1 ≤ k) (same (Inbox m)) st)
+sent_back v q n i same (Untaken a b) st = (Untaken a b, st)
+
+both_stand : (v : View) (q : Pid) (i : MsgId) → 1 ≤ times i (v.queue v.acting q ++ v.held v.acting q) → Somewhere v i
+both_stand v q i least =
+    let sum = times-append i (v.queue v.acting q) (v.held v.acting q) in
+    elim (zero_cases (times i (v.queue v.acting q))) [
+      | inl none ↦ (Held v.acting q, omega (arith, least, sum, none))
+      | inr some ↦ (Queue v.acting q, some)
+    ]
+
+other_front : (p : Pid) (v : View) (i j : MsgId) (t : Told) → Plain p v i → v.told j ≡ Some t → asks_for p t ≡ true → id_eq i j ≡ false
+other_front p v i j t plain told a = elim (cases_Bool (id_eq i j)) [
+  | inl same ↦ absurd (false≢true (sym (plain t (ap v.told (id_eq-is i j same) ∙ told)) ∙ a))
+  | inr apart ↦ apart
+]
+
+pub sent_begins : (p : Pid) (v : View) (q : Pid) (n : ℕ) (i : MsgId) (is : List MsgId) → v.inbox v.acting ≡ i ∷ is → Plain p v i → PairsFit v → Sending p v (v.queue v.acting q ++ v.held v.acting q) (sent_view v q n)
+sent_begins p v q n i is front plain fits =
+    let same : (j : MsgId) → id_eq i j ≡ false → (z : Spot) → standing (handled_first v) j z ≡ standing v j z = first_spots v (handled_first v) i is front (λ z. refl) in
+    record {
+      told = λ j. refl;
+      on = λ j t e a s. sent_on v q n j (same j (other_front p v i j t plain e a)) s.0 s.1;
+      back = λ j t e a s. sent_back v q n j (same j (other_front p v i j t plain e a)) s.0 s.1;
+      from = λ j t e a least. both_stand v q j least;
+      known = λ m r. refl;
+      fits = record { within = fits.within; home = fits.home };
+      acting = refl;
+    }
+
+-- the held messages of a process come to the front of the inbox
+released_on : (v : View) (q : Pid) (i : MsgId) (z : Spot) → 1 ≤ standing v i z → Somewhere (released v q) i
+released_on v q i (Queue m r) st = (Queue m r, st)
+released_on v q i (Held m r) st = elim (emptied_on v.held v.acting q i m r st) [
+  | inl x ↦ (Held m r, x)
+  | inr x ↦ (
+    Inbox v.acting,
+    subst (λ k. 1 ≤ k) (sym (ap (λ (c : Bool). times i (if c then v.held v.acting q ++ v.inbox v.acting else v.inbox v.acting)) (eq_self v.acting))) (both_first i (v.held v.acting q) (v.inbox v.acting) x),
+  )
+]
+released_on v q i (Inbox m) st = elim (cases_Bool (v.acting == m)) [
+  | inl same ↦
+      let here : 1 ≤ times i (v.inbox v.acting) = subst (λ (k : ℕ). 1 ≤ times i (v.inbox k)) (sym (eq_is v.acting m same)) st in
+      (Inbox m, subst (λ k. 1 ≤ k) (sym (ap (λ (c : Bool). times i (if c then v.held v.acting q ++ v.inbox v.acting else v.inbox m)) same)) (both_second i (v.held v.acting q) (v.inbox v.acting) here))
+  | inr off ↦ (Inbox m, subst (λ k. 1 ≤ k) (sym (ap (λ (c : Bool). times i (if c then v.held v.acting q ++ v.inbox v.acting else v.inbox m)) off)) st)
+]
+released_on v q i (Untaken a b) st = (Untaken a b, st)
+
+released_back : (v : View) (q : Pid) (i : MsgId) (z : Spot) → 1 ≤ standing (released v q) i z → Somewhere v i
+released_back v q i (Queue m r) st = (Queue m r, st)
+released_back v q i (Held m r) st = (Held m r, emptied_back v.held v.acting q i m r st)
+released_back v q i (Inbox m) st = elim (cases_Bool (v.acting == m)) [
+  | inl same ↦
+      let now : times i (at_machine v.inbox v.acting (v.held v.acting q ++ v.inbox v.acting) m) ≡ times i (v.held v.acting q ++ v.inbox v.acting) = ap (λ (c : Bool). times i (if c then v.held v.acting q ++ v.inbox v.acting else v.inbox m)) same in
+      let sum = times-append i (v.held v.acting q) (v.inbox v.acting) in
+      elim (zero_cases (times i (v.held v.acting q))) [
+        | inl none ↦ (Inbox v.acting, omega (arith, st, now, sum, none))
+        | inr some ↦ (Held v.acting q, some)
+      ]
+  | inr off ↦ (Inbox m, subst (λ k. 1 ≤ k) (ap (λ (c : Bool). times i (if c then v.held v.acting q ++ v.inbox v.acting else v.inbox m)) off) st)
+]
+released_back v q i (Untaken a b) st = (Untaken a b, st)
+
+pub released_smooth : (p : Pid) (v : View) (q : Pid) → Smooth p v (released v q)
+released_smooth p v q = record { kept = λ i t e. e; fresh = λ i t e a. e; on = λ i t e a s. released_on v q i s.0 s.1; back = λ i t e a s. released_back v q i s.0 s.1 }
+
+pub handled_smooth : (p : Pid) (v : View) (i : MsgId) (is : List MsgId) → v.inbox v.acting ≡ i ∷ is → Plain p v i → Smooth p v (handled_first v)
+handled_smooth p v i is front plain = smooth_others p v (handled_first v) i plain plain (λ t e. e) (record { told = λ j a. refl; spots = first_spots v (handled_first v) i is front (λ z. refl) })
+
+here_off : (v : View) (q : Pid) (ring : List Pid) (z : Spot) → ids_at (with_ring (knowing v q Here) ring) z ≡ ids_at v z
+here_off v q ring (Queue m r) = refl
+here_off v q ring (Held m r) = refl
+here_off v q ring (Inbox m) = refl
+here_off v q ring (Untaken a b) = refl
+
+pub rejoins_smooth : (p : Pid) (v : View) (q : Pid) → Smooth p v (view.rejoins v q)
+rejoins_smooth p v q =
+    let u = with_ring (knowing v q Here) (v.ring v.acting ++ q ∷ []) in
+    smooth_trans p v u (released u q) (smooth_still p v u (λ i. refl) (λ i z. ap (times i) (here_off v q (v.ring v.acting ++ q ∷ []) z))) (released_smooth p u q)

@@ -1,0 +1,305 @@
+-- Messages come only from machines that there are; and what was told stays.
+use Rattle.std.proofs.Common.{◌≡◌, ℕ, ◌<◌, ◌≤◌, ◌==◌, ◌&&◌, Bool, true, false, List, [], ◌∷◌, refl, ap, ◌∙◌, sym, subst, inl, inr, arith}
+use Rattle.std.specs.Prelude.{⊤, if◌then◌else◌, slice_get}
+use Rattle.std.specs.declared.option.Option.{Option}
+use Rattle.std.specs.declared.option.Option.TheVariants.{None, Some}
+use Rattle.std.proofs.lemmas.Bool.{cases_Bool, false≢true}
+use Rattle.dm_link.specs.declared.Pid.{Pid}
+use Rattle.dm_message.specs.declared.MsgId.{MsgId}
+use Rattle.dm_message.specs.declared.kind.MessageKind.{MessageKind}
+use Rattle.dm_message.specs.Ids.{id_eq}
+use Rattle.dm_message.specs.Kinds.{plain_kind}
+use Rattle.dm_onekernel.specs.declared.boot.Boot.{Boot}
+use Rattle.dm_onekernel.specs.Options.{bind}
+use Rattle.dm_schedule.specs.declared.Step.{Step}
+use Rattle.dm_schedule.specs.declared.Step.TheVariants as step
+use Rattle.dm_laws.proofs.Equal.{id_eq-is}
+use Rattle.dm_laws.proofs.Steps.{bind-is}
+use Rattle.dm_line.specs.declared.line.Line.{Line}
+use Rattle.dm_line.specs.declared.line.Line.TheVariants as line
+use Rattle.dm_line.specs.declared.line.Stage.TheVariants as stage
+use Rattle.dm_line.specs.Sets.{at_pair}
+use Rattle.dm_rule.specs.Addresses.{Receiver}
+use Rattle.dm_rule.specs.Laws.{IsStep}
+use Rattle.dm_rule.specs.Migrating.{migrates}
+use Rattle.dm_rule.specs.View.{View, Pair, Told, About, NothingElse, Target, Of, view_after, after_head, after_put, handled, receiver_of, own_id}
+use Rattle.dm_rule.specs.View as view
+use Rattle.dm_rule.specs.Point.{Point, moved, after}
+use Rattle.dm_rule.specs.Parts.{Part, Says, Routes, Again, Owns, Transmits, Spelled, lines_of, puts, packet_line, behind, spelled}
+use Rattle.dm_rule.specs.Rule as rule
+use Rattle.dm_rule.specs.Rule.{group_of}
+use Rattle.dm_rule.proofs.Groups.{group_is, IsNetLine, IsNet, arrives_net, resends_net}
+use Rattle.dm_rule.proofs.Homes.Lines.{acting_label}
+use Rattle.dm_rule.proofs.Hushed.{is_put}
+use Rattle.dm_rule.proofs.Lines.{eq_is}
+use Rattle.dm_rule.proofs.Pairs.Lines.{touches, pair_same, taken_pair, AllFit}
+use Rattle.dm_rule.proofs.Pairs.Migrating.{migrates_fit}
+use Rattle.dm_rule.proofs.Pairs.Turns.{turns_fit}
+use Rattle.dm_rule.proofs.Phases.Lines.{put_at}
+use Rattle.dm_rule.proofs.States.{PacketsKeep, put_told_off, says_next, transmits_next, said}
+use Rattle.dm_rulelaws.proofs.Based.Needs.{begun}
+use Rattle.dm_movelaws.proofs.Ends.Smooth.{Extends, told_by}
+use Rattle.dm_movelaws.proofs.Ends.Lines.{follows_or}
+use Rattle.dm_movelaws.proofs.Ends.Parts.{first_kept}
+use Rattle.dm_movelaws.proofs.Ends.Sends.{puts_lead}
+
+-- nothing was routed from another machine
+abbrev pub Sources : ℕ → View → Type 0
+Sources n v = (a b : ℕ) → n ≤ a → (v.pair a b).ids ≡ []
+
+-- a pair that keeps what was routed
+pair_ids : (f : ℕ → ℕ → Pair) (a b : ℕ) (p : Pair) → p.ids ≡ (f a b).ids → (c d : ℕ) → (at_pair f a b p c d).ids ≡ (f c d).ids
+pair_ids f a b p e c d = elim (cases_Bool ((a == c) && (b == d))) [
+  | inl same ↦ ap (λ (t : Bool). (if t then p else f c d).ids) same ∙ e ∙ ap (λ (n : ℕ). (f n b).ids) (eq_is a c (left_of (a == c) (b == d) same)) ∙ ap (λ (n : ℕ). (f c n).ids) (eq_is b d (right_of (a == c) (b == d) same))
+  | inr apart ↦ ap (λ (t : Bool). (if t then p else f c d).ids) apart
+]
+  where
+    left_of : (x y : Bool) → (x && y) ≡ true → x ≡ true
+    left_of true y h = refl
+    left_of false y h = absurd (false≢true h)
+
+    right_of : (x y : Bool) → (x && y) ≡ true → y ≡ true
+    right_of true y h = h
+    right_of false y h = absurd (false≢true h)
+
+head_ids : (v : View) (d : Step) (a b : ℕ) → ((after_head v d).pair a b).ids ≡ (v.pair a b).ids
+head_ids v (step.Turn m) a b = refl
+head_ids v (step.Tick m) a b = refl
+head_ids v (step.Deliver x y k) a b = pair_ids v.pair x y (view.marked (v.pair x y) k) refl a b
+head_ids v (step.Migrate p m) a b = refl
+
+line_ids : (v : View) (l : Line) → is_put l ≡ false → (a b : ℕ) → ((view_after v l).pair a b).ids ≡ (v.pair a b).ids
+line_ids v (line.Head d) e a b = head_ids v d a b
+line_ids v (line.Put x y i k q) e a b = absurd (false≢true (sym e))
+line_ids v (line.Packet x y k l) e a b = pair_ids v.pair x y _ refl a b
+line_ids v (line.Taken x y n) e a b = ap (λ (f : ℕ → ℕ → Pair). (f a b).ids) (taken_pair (view.with_pair v x y _) y (view.oldest (v.pair x y))) ∙ pair_ids v.pair x y _ refl a b
+line_ids v (line.Early x y n) e a b = pair_ids v.pair x y _ refl a b
+line_ids v (line.Acked x y n) e a b = pair_ids v.pair y x _ refl a b
+line_ids v (line.Idle m) e a b = ap (λ (f : ℕ → ℕ → Pair). (f a b).ids) (pair_same v (line.Idle m) refl)
+line_ids v (line.Label l) e a b = ap (λ (f : ℕ → ℕ → Pair). (f a b).ids) (pair_same v (line.Label l) refl)
+line_ids v (line.Old x y n) e a b = refl
+line_ids v line.Nothing e a b = refl
+line_ids v (line.Resent m n) e a b = refl
+line_ids v (line.Queued i) e a b = ap (λ (f : ℕ → ℕ → Pair). (f a b).ids) (pair_same v (line.Queued i) refl)
+line_ids v (line.Held i) e a b = ap (λ (f : ℕ → ℕ → Pair). (f a b).ids) (pair_same v (line.Held i) refl)
+line_ids v (line.Forwarded i m) e a b = ap (λ (f : ℕ → ℕ → Pair). (f a b).ids) (pair_same v (line.Forwarded i m) refl)
+line_ids v (line.Updated i n) e a b = refl
+line_ids v (line.Migration s p) e a b = ap (λ (f : ℕ → ℕ → Pair). (f a b).ids) (pair_same v (line.Migration s p) refl)
+line_ids v (line.SentOn p n) e a b = refl
+line_ids v (line.Lacks p x y) e a b = refl
+line_ids v (line.Stays p) e a b = refl
+line_ids v (line.Here i) e a b = refl
+line_ids v (line.NoMove i) e a b = refl
+line_ids v (line.Proto i) e a b = ap (λ (f : ℕ → ℕ → Pair). (f a b).ids) (pair_same v (line.Proto i) refl)
+line_ids v (line.NoChild p) e a b = refl
+line_ids v (line.Pinned p) e a b = refl
+
+-- no line but a head sets the machine that acts
+abbrev is_head : Line → Bool
+is_head (line.Head d) = true
+is_head l = false
+
+taken_acting : (v : View) (b : ℕ) (o : Option MsgId) → (view.taken_id v b o).acting ≡ v.acting
+taken_acting v b None = refl
+taken_acting v b (Some i) = refl
+
+queued_acting : (v : View) (i : MsgId) (o : Option Pid) → (view.queued_for v i o).acting ≡ v.acting
+queued_acting v i None = refl
+queued_acting v i (Some q) = refl
+
+held_acting : (v : View) (i : MsgId) (o : Option Pid) → (view.held_for v i o).acting ≡ v.acting
+held_acting v i None = refl
+held_acting v i (Some q) = refl
+
+forwarded_acting : (v : View) (o : Option Pid) → (view.forwarded_for v o).acting ≡ v.acting
+forwarded_acting v None = refl
+forwarded_acting v (Some q) = refl
+
+asks_acting : (v : View) (a : About) → (view.asks_on v a).acting ≡ v.acting
+asks_acting v NothingElse = refl
+asks_acting v (Target m) = refl
+asks_acting v (Of q) = refl
+asks_acting v (view.Place q at moves) = refl
+
+proto_acting : (v : View) (o : Option Told) → (view.after_proto v o).acting ≡ v.acting
+proto_acting v None = refl
+proto_acting v (Some t) = follows_or (λ (w : View). w.acting ≡ v.acting) v t.about t.kind refl (asks_acting v t.about)
+
+line_acting : (v : View) (l : Line) → is_head l ≡ false → (view_after v l).acting ≡ v.acting
+line_acting v (line.Head d) e = absurd (false≢true (sym e))
+line_acting v (line.Put x y i k q) e = refl
+line_acting v (line.Packet x y k l) e = refl
+line_acting v (line.Taken x y n) e = taken_acting (view.with_pair v x y _) y (view.oldest (v.pair x y))
+line_acting v (line.Early x y n) e = refl
+line_acting v (line.Acked x y n) e = refl
+line_acting v (line.Idle m) e = refl
+line_acting v (line.Label l) e = acting_label v l
+line_acting v (line.Old x y n) e = refl
+line_acting v line.Nothing e = refl
+line_acting v (line.Resent m n) e = refl
+line_acting v (line.Queued i) e = queued_acting (handled v i) i (receiver_of (v.told i))
+line_acting v (line.Held i) e = held_acting (handled v i) i (receiver_of (v.told i))
+line_acting v (line.Forwarded i m) e = forwarded_acting (handled v i) (receiver_of (v.told i))
+line_acting v (line.Updated i n) e = refl
+line_acting v (line.Migration stage.Frozen p) e = refl
+line_acting v (line.Migration stage.Asked p) e = refl
+line_acting v (line.Migration stage.Accepted p) e = refl
+line_acting v (line.Migration stage.StateTaken p) e = refl
+line_acting v (line.Migration stage.MemoryTaken p) e = refl
+line_acting v (line.Migration stage.Left p) e = refl
+line_acting v (line.Migration stage.Restarted p) e = refl
+line_acting v (line.SentOn p n) e = refl
+line_acting v (line.Lacks p x y) e = refl
+line_acting v (line.Stays p) e = refl
+line_acting v (line.Here i) e = refl
+line_acting v (line.NoMove i) e = refl
+line_acting v (line.Proto i) e = proto_acting (handled v i) (v.told i)
+line_acting v (line.NoChild p) e = refl
+line_acting v (line.Pinned p) e = refl
+
+-- what stands between the lines of a group
+pub record Acts (n : ℕ) (f : MsgId → Option Told) (v : View) : Type 0 where
+  pub acting : v.acting < n
+  pub sources : Sources n v
+  pub grows : Extends f v.told
+
+line_acts : (n : ℕ) (f : MsgId → Option Told) (v : View) (l : Line) → is_head l ≡ false → is_put l ≡ false → Acts n f v → Acts n f (view_after v l)
+line_acts n f v l head quiet h = record {
+  acting = subst (λ (m : ℕ). m < n) (sym (line_acting v l head)) h.acting;
+  sources = λ a b le. line_ids v l quiet a b ∙ h.sources a b le;
+  grows = λ i t e. told_by v l quiet i ∙ h.grows i t e;
+}
+
+other_source : (a c n : ℕ) → a < n → n ≤ c → (a == c) ≡ false
+other_source a c n less le = elim (cases_Bool (a == c)) [
+  | inl same ↦ absurd (let e : a ≡ c = eq_is a c same in omega (arith, e, less, le))
+  | inr apart ↦ apart
+]
+
+put_grows : (v : View) (a b : ℕ) (i : MsgId) (k : MessageKind) (q : Pid) → Extends v.told (after_put v a b i k q).told
+put_grows v a b i k q j t e = elim (cases_Bool (id_eq i j)) [
+  | inl same ↦
+      let ij : i ≡ j = id_eq-is i j same in
+      let u : Told = record { kind = k; receiver = q; about = v.topic } in
+      subst (λ (x : MsgId). (after_put v a b i k q).told x ≡ Some t) ij (put_at v a b i k q ∙ first_kept (v.told i) u t (ap v.told ij ∙ e))
+  | inr apart ↦ put_told_off v a b i j k q apart ∙ e
+]
+
+put_acts : (n : ℕ) (f : MsgId → Option Told) (v : View) (b : ℕ) (i : MsgId) (k : MessageKind) (q : Pid) → Acts n f v → Acts n f (after_put v v.acting b i k q)
+put_acts n f v b i k q h = record {
+  acting = h.acting;
+  sources = λ c d le. ap (λ (t : Bool). (if t && (b == d) then view.routed_on v.acting b (v.pair v.acting b) i else v.pair c d).ids) (other_source v.acting c n h.acting le) ∙ h.sources c d le;
+  grows = λ j t e. put_grows v v.acting b i k q j t (h.grows j t e);
+}
+
+-- parts
+abbrev Goes : Part → Type 0
+Goes (Says l) = (is_head l ≡ false) × (is_put l ≡ false)
+Goes (Routes i) = ⊤
+Goes (Again i b) = ⊤
+Goes (Owns k q b) = ⊤
+Goes (Transmits a b l) = ⊤
+
+abbrev AllGo : List Part → Type 0
+AllGo [] = ⊤
+AllGo (x ∷ ps) = Goes x × AllGo ps
+
+acts_packet : (n : ℕ) (f : MsgId → Option Told) → PacketsKeep (λ q. Acts n f q.view)
+acts_packet n f q a b k l h = line_acts n f q.view (line.Packet a b k l) refl refl h
+
+-- a part that puts a message
+record ActsNext (n : ℕ) (f : MsgId → Option Told) (ps : List Part) (w : Spelled) : Type 0 where
+  next : Point
+  acts : Acts n f next.view
+  rest : Spelled
+  more : spelled next ps ≡ Some rest
+  point : rest.point ≡ w.point
+
+acts_next : (n : ℕ) (f : MsgId → Option Told) (x : Part) (ps : List Part) (pt : Point) (w : Spelled) → ((ls : List Line) (next : Point) → lines_of pt x ≡ Some ls → after pt ls ≡ Some next → Acts n f next.view) → spelled pt (x ∷ ps) ≡ Some w → ActsNext n f ps w
+acts_next n f x ps pt w go e =
+    let (ls, lines, rest) = bind-is (lines_of pt x) (λ (xs : List Line). bind (after pt xs) (λ (q : Point). bind (spelled q ps) (λ (z : Spelled). Some (behind xs z)))) w e in
+    let (next, leads, last) = bind-is (after pt ls) (λ (q : Point). bind (spelled q ps) (λ (z : Spelled). Some (behind ls z))) w rest in
+    let (z, more, end) = bind-is (spelled next ps) (λ (y : Spelled). Some (behind ls y)) w last in
+    let g : behind ls z ≡ w = cc in
+    record { next = next; acts = go ls next lines leads; rest = z; more = more; point = ap (λ (y : Spelled). y.point) g }
+
+put_lines : (n : ℕ) (f : MsgId → Option Told) (pt next : Point) (b : ℕ) (i : MsgId) (k : MessageKind) (q : Pid) (ls : List Line) → Acts n f pt.view → Some (puts pt.view b i k q) ≡ Some ls → after pt ls ≡ Some next → Acts n f next.view
+put_lines n f pt next b i k q ls h is leads = puts_lead (λ (x : Point). Acts n f x.view) (acts_packet n f) pt next b i k q ls (put_acts n f pt.view b i k q h) is leads
+
+parts_act : (n : ℕ) (f : MsgId → Option Told) (ps : List Part) (pt : Point) (w : Spelled) → AllGo ps → Acts n f pt.view → spelled pt ps ≡ Some w → Acts n f w.point.view
+parts_act n f [] pt w ok h e = subst (λ (q : Point). Acts n f q.view) (said pt w e) h
+parts_act n f (Says l ∷ ps) pt w ok h e =
+    let k = says_next pt l ps w e in
+    subst (λ (q : Point). Acts n f q.view) k.point (parts_act n f ps (moved pt l k.s) k.rest ok.1 (line_acts n f pt.view l ok.0.0 ok.0.1 h) k.more)
+parts_act n f (Transmits a b l ∷ ps) pt w ok h e =
+    let k = transmits_next pt a b l ps w e in
+    let x = packet_line pt.view a b l in
+    subst (λ (q : Point). Acts n f q.view) k.point (parts_act n f ps (moved pt x pt.kernel) k.rest ok.1 (line_acts n f pt.view x refl refl h) k.more)
+parts_act n f (Routes i ∷ ps) pt w ok h e =
+    let k = acts_next n f (Routes i) ps pt w (λ ls next lines leads.
+    let (m, there, last) = bind-is (pt.kernel.bag i) (λ m. Some (puts pt.view (pt.addresses (Receiver i)).at i (plain_kind m.what) m.to)) ls lines in
+    put_lines n f pt next (pt.addresses (Receiver i)).at i (plain_kind m.what) m.to ls h last leads) e in
+    subst (λ (q : Point). Acts n f q.view) k.point (parts_act n f ps k.next k.rest ok.1 k.acts k.more)
+parts_act n f (Again i b ∷ ps) pt w ok h e =
+    let k = acts_next n f (Again i b) ps pt w (λ ls next lines leads.
+    let (t, there, last) = bind-is (pt.view.told i) (λ t. Some (puts pt.view b i t.kind t.receiver)) ls lines in
+    put_lines n f pt next b i t.kind t.receiver ls h last leads) e in
+    subst (λ (q : Point). Acts n f q.view) k.point (parts_act n f ps k.next k.rest ok.1 k.acts k.more)
+parts_act n f (Owns c q b ∷ ps) pt w ok h e =
+    let k = acts_next n f (Owns c q b) ps pt w (λ ls next lines leads. put_lines n f pt next b (own_id pt.view) c q ls h lines leads) e in
+    subst (λ (q : Point). Acts n f q.view) k.point (parts_act n f ps k.next k.rest ok.1 k.acts k.more)
+
+-- what the parts of a group are
+fit_goes : (l : Line) → touches l ≡ false → (is_head l ≡ false) × (is_put l ≡ false)
+fit_goes (line.Head d) e = absurd (false≢true (sym e))
+fit_goes (line.Put a b i k q) e = absurd (false≢true (sym e))
+fit_goes l e = (refl, refl)
+
+fit_go : (f : ℕ → ℕ → Pair) (ps : List Part) → AllFit f ps → AllGo ps
+fit_go f [] h = tt
+fit_go f (Says l ∷ ps) h = (fit_goes l h.0, fit_go f ps h.1)
+fit_go f (Routes i ∷ ps) h = (tt, fit_go f ps h.1)
+fit_go f (Again i b ∷ ps) h = (tt, fit_go f ps h.1)
+fit_go f (Owns k q b ∷ ps) h = (tt, fit_go f ps h.1)
+fit_go f (Transmits a b l ∷ ps) h = (tt, fit_go f ps h.1)
+
+net_goes : (l : Line) → IsNetLine l → (is_head l ≡ false) × (is_put l ≡ false)
+net_goes (line.Head d) e = absurd e
+net_goes (line.Put a b i k q) e = absurd e
+net_goes l e = (refl, refl)
+
+net_go : (ps : List Part) → IsNet ps → AllGo ps
+net_go [] h = tt
+net_go (Says l ∷ ps) h = (net_goes l h.0, net_go ps h.1)
+net_go (Routes i ∷ ps) h = absurd h.0
+net_go (Again i b ∷ ps) h = absurd h.0
+net_go (Owns k q b ∷ ps) h = absurd h.0
+net_go (Transmits a b l ∷ ps) h = (tt, net_go ps h.1)
+
+outcome_go : (b : Boot) (pt : Point) (d : Step) (ps : List Part) → rule.outcome b pt d ≡ Some ps → AllGo ps
+outcome_go b pt (step.Turn m) ps e = fit_go pt.view.pair ps (turns_fit pt.view.pair b pt m (pt.view.inbox m) ps e)
+outcome_go b pt (step.Tick m) ps e =
+    let qs = Says (line.Resent m (rule.outstanding pt.view m pt.kernel.machines)) ∷ rule.resends pt.view m pt.kernel.machines in
+    let f : qs ≡ ps = cc in
+    subst AllGo f (net_go qs (tt, resends_net pt.view m pt.kernel.machines))
+outcome_go b pt (step.Deliver a c k) ps e =
+    let qs = rule.arrives a c (pt.view.pair a c) (pt.view.pair c a) (slice_get (pt.view.pair a c).wire k) in
+    let f : qs ≡ ps = cc in
+    subst AllGo f (net_go qs (arrives_net a c (pt.view.pair a c) (pt.view.pair c a) (slice_get (pt.view.pair a c).wire k)))
+outcome_go b pt (step.Migrate q m) ps e =
+    let f : migrates pt q ≡ ps = cc in
+    subst AllGo f (fit_go pt.view.pair (migrates pt q) (migrates_fit pt.view.pair pt q))
+
+-- a directive acts on a machine that there is
+actor_less : (n : ℕ) (v : View) (d : Step) → IsStep n d → (after_head v d).acting < n
+actor_less n v (step.Turn m) h = h
+actor_less n v (step.Tick m) h = h
+actor_less n v (step.Deliver a b k) h = h.1
+actor_less n v (step.Migrate p m) h = omega (arith, h)
+
+-- each group
+pub group_acts : (n : ℕ) (b : Boot) (pt : Point) (d : Step) (w : Spelled) → IsStep n d → group_of b pt d ≡ Some w → Sources n pt.view → Acts n pt.view.told w.point.view
+group_acts n b pt d w fit e h =
+    let g = group_is b pt d w e in
+    let start : Acts n pt.view.told (begun pt d).view = record { acting = actor_less n pt.view d fit; sources = λ x y le. head_ids pt.view d x y ∙ h x y le; grows = λ i t told. told_by pt.view (line.Head d) refl i ∙ told } in
+    subst (λ (q : Point). Acts n pt.view.told q.view) g.point (parts_act n pt.view.told g.parts (begun pt d) g.rest (outcome_go b pt d g.parts g.is) start g.said)

@@ -1,0 +1,122 @@
+-- Where all is at rest, a process that was told of a forward has links that lead to where the other is.
+use Rattle.std.proofs.Common.{◌≡◌, ◌≢◌, ℕ, ◌+◌, ◌<◌, ◌≤◌, ◌==◌, Bool, true, false, List, [], ◌∷◌, ◌++◌, is_some, refl, ap, ◌∙◌, sym, subst, arith}
+use Rattle.std.specs.Prelude.{if◌then◌else◌, slice_get}
+use Rattle.std.proofs.lemmas.Bool.{false≢true}
+use Rattle.std.proofs.lemmas.Option.{slice_get_within}
+use Rattle.std.specs.declared.option.Option.{Option}
+use Rattle.std.specs.declared.option.Option.TheVariants.{None, Some}
+use Rattle.dm_link.specs.declared.Pid.{Pid}
+use Rattle.dm_link.specs.Names.{Place}
+use Rattle.dm_message.specs.declared.MsgId.{MsgId}
+use Rattle.dm_onekernel.specs.declared.boot.Boot.{Boot}
+use Rattle.dm_onekernel.specs.Kernel.{Life, Alive, OneKernel}
+use Rattle.dm_onekernel.specs.Kernel as kernels
+use Rattle.dm_laws.specs.Laws.{receptions}
+use Rattle.dm_laws.proofs.Grown.{LifeGrows}
+use Rattle.dm_laws.proofs.Runs.{reached}
+use Rattle.dm_laws.proofs.Sound.{Sound}
+use Rattle.dm_schedule.specs.declared.Step.{Step}
+use Rattle.dm_schedule.specs.declared.Step.TheVariants as step
+use Rattle.dm_rule.specs.Laws.{IsStep, Leads}
+use Rattle.dm_rule.specs.Point.{Point, first_point, labels}
+use Rattle.dm_rule.specs.Trails.{Trails}
+use Rattle.dm_rule.specs.View.{View, Known, Unknown, Here, Forward, actor}
+use Rattle.dm_rulelaws.specs.Fits.{is_server}
+use Rattle.dm_rulelaws.specs.KnownStands.{KnownStands, agrees}
+use Rattle.dm_rulelaws.proofs.RunLabels.{group_replay}
+use Rattle.dm_rulelaws.proofs.RunsAlways.{run_always}
+use Rattle.dm_movelaws.specs.AtRest.{AtRest}
+use Rattle.dm_movelaws.specs.Links.{IsThere, CountsPromise}
+use Rattle.dm_movelaws.specs.Promise.{update_of, IsUnderWay}
+use Rattle.dm_movelaws.proofs.At.RestAlways.{at_rest_always}
+use Rattle.dm_movelaws.proofs.Forwards.Told.{forwards_tell}
+use Rattle.dm_movelaws.proofs.Promise.Always.{promises_always}
+use Rattle.dm_movelaws.proofs.Promise.Finds.{lines_by, leads_append}
+use Rattle.dm_movelaws.proofs.Promise.Kept.{lines_told}
+use Rattle.dm_movelaws.proofs.Promise.Trail.{OnTrail}
+use Rattle.dm_movelaws.proofs.Trail.Known.{trail_known}
+
+-- a process that was made stays made
+life_stays : (a b : Option Life) → LifeGrows a b → is_some a ≡ true → is_some b ≡ true
+life_stays None b g e = absurd (false≢true e)
+life_stays (Some (kernels.Ended y)) b g e = ap is_some g
+life_stays (Some (Alive x)) None g e = absurd g
+life_stays (Some (Alive x)) (Some l) g e = refl
+
+made_on : (b : Boot) (es : List Step) (pt end : Point) (q : Pid) (r e : MsgId → ℕ) → Leads b pt es end → Sound r e pt.kernel → is_some (pt.kernel.processes q) ≡ true → is_some (end.kernel.processes q) ≡ true
+made_on b [] pt end q r e leads h there = ap (λ (x : Point). is_some (x.kernel.processes q)) (sym leads) ∙ there
+made_on b (d ∷ es) pt end q r e (w, fit, is, rest) h there =
+    let k = reached r e pt.kernel w.point.kernel (labels w.lines) (group_replay b pt d w is) h in
+    made_on b es w.point end q (λ i. r i + receptions i (labels w.lines)) k.e' rest k.sound (life_stays (pt.kernel.processes q) (w.point.kernel.processes q) (k.grown.lives q) there)
+
+-- what a machine forwards for is a process that was made
+server_stays : (m : ℕ) (c : Bool) (to moves : ℕ) → (if c then Here else Unknown) ≡ Forward to moves → ⊥
+server_stays m true to moves e = cc
+server_stays m false to moves e = cc
+
+no_server : (s : OneKernel) (v : View) (m : ℕ) (q : Pid) (to moves : ℕ) (c : Bool) → is_server q ≡ c → KnownStands s v → v.known m q ≡ Forward to moves → c ≡ false
+no_server s v m q to moves true is h e = absurd (server_stays m (m == 0) to moves (sym (h.server m q is) ∙ e))
+no_server s v m q to moves false is h e = refl
+
+made_there : (to moves : ℕ) (o : Option Life) → agrees (Forward to moves) o ≡ true → is_some o ≡ true
+made_there to moves None e = absurd (false≢true e)
+made_there to moves (Some l) e = refl
+
+-- a machine has one forwarding address for it
+one_count : (to m n : ℕ) → Forward to m ≡ Forward to n → m ≡ n
+one_count to m n e = cc
+
+same_some : (m n : ℕ) → Some m ≡ Some n → m ≡ n
+same_some m n e = cc
+
+turn_fits : (n : ℕ) (d : Step) → d ≡ step.Turn (actor d) → actor d < n → IsStep n d
+turn_fits n d e h = subst (IsStep n) (sym e) h
+
+forwarded_made : (s : OneKernel) (v : View) (m : ℕ) (q : Pid) (to moves : ℕ) → KnownStands s v → v.known m q ≡ Forward to moves → (is_server q ≡ false) × (is_some (s.processes q) ≡ true)
+forwarded_made s v m q to moves h known =
+    let server = no_server s v m q to moves (is_server q) refl h known in
+    (server, made_there to moves (s.processes q) (sym (ap (λ (k : Known). agrees k (s.processes q)) known) ∙ h.agree m q server))
+
+forwarded_some : (v : View) (m : ℕ) (q : Pid) (to moves : ℕ) → v.known m q ≡ Forward to moves → v.known m q ≢ Unknown
+forwarded_some v m q to moves known e = let f : Forward to moves ≡ Unknown = sym known ∙ e in cc
+
+-- where all is at rest, a process is where the update tells, or has moved on
+record AtPlace (v : View) (q : Pid) (place : Place) : Type 0 where
+  least : place.moves ≤ v.moves q
+  there : v.moves q ≡ place.moves → IsThere v q place.at
+
+at_place : (pt : Point) (t : Trails) (id : MsgId) (p q : Pid) (place : Place) → OnTrail pt t → AtRest pt → pt.view.told id ≡ Some (update_of p q place) → pt.view.known q.home q ≢ Unknown → AtPlace pt.view q place
+at_place pt t id p q place on rest told known =
+    let (m, now, there) = on.there q q.home (λ n. rest.still n q) known in
+    let said : slice_get (t q) place.moves ≡ Some place.at = on.about id (update_of p q place) q place.at place.moves told refl in
+    let within = slice_get_within (t q) place.moves place.at said in
+    let long = on.long q (λ n. rest.still n q) in
+    record { least = omega (arith, within, long); there = λ same. subst (IsThere pt.view q) (same_some m place.at (sym now ∙ ap (slice_get (t q)) same ∙ said)) there }
+
+-- wherever the rule leads
+pub counts_promise : CountsPromise
+counts_promise b before between start pt d sent p q place valid comes forwards known goes quiet =
+    let run = (run_always b before start valid comes).run in
+    let t = forwards_tell b before start d sent p q place.at valid comes forwards in
+    let moves : t.moves ≡ place.moves = one_count place.at t.moves place.moves (sym t.known ∙ known) in
+    let way : IsUnderWay sent.point.view t.update p q place = subst (λ (n : ℕ). IsUnderWay sent.point.view t.update p q (record { at = place.at; moves = n })) moves t.way in
+    let fit = turn_fits start.kernel.machines d t.turn (run.found.known_within (actor d) q (forwarded_some start.view (actor d) q place.at place.moves known)) in
+    let first = before ++ d ∷ [] in
+    let told : Leads b (first_point b) first sent.point = leads_append b before (d ∷ []) (first_point b) start sent.point comes (sent, fit, forwards.is, refl) in
+    let all : Leads b (first_point b) (first ++ between) pt = leads_append b first between (first_point b) sent.point pt told goes in
+    let (server, made) = forwarded_made start.kernel start.view (actor d) q place.at place.moves run.based.known known in
+    let sane = run.based.phased.sane in
+    let home = (run_always b (first ++ between) pt valid all).run.based.known.home q server (made_on b (d ∷ between) start pt q sane.r sane.e (sent, fit, forwards.is, goes) sane.sound made) in
+    let (trails, on) = trail_known b (first ++ between) pt valid all in
+    let lines = lines_by b between sent.point pt goes in
+    let told_end = lines_told lines.lines sent.point pt t.update (update_of p q place) lines.leads way.told in
+    let at = at_place pt trails t.update p q place on (at_rest_always b (first ++ between) pt valid all quiet) told_end home in
+    let promised = promises_always b first between sent.point pt t.update p q place valid told way goes quiet in
+    record {
+      update = t.update;
+      way = way;
+      handled = promised;
+      least = at.least;
+      there = at.there;
+      links = λ same k unfilled leads. promised.place_kept k same unfilled leads;
+    }

@@ -1,0 +1,340 @@
+-- Where a group that sends a message on leads: the update for its sender is under way.
+use Rattle.std.proofs.Common.{◌≡◌, ℕ, ◌==◌, Bool, true, false, List, [], ◌∷◌, ◌++◌, length, refl, ap, ◌∙◌, sym, subst}
+use Rattle.std.specs.Prelude.{if◌then◌else◌}
+use Rattle.std.specs.declared.option.Option.{Option}
+use Rattle.std.specs.declared.option.Option.TheVariants.{None, Some}
+use Rattle.dm_link.specs.declared.Pid.{Pid}
+use Rattle.dm_link.specs.Names.{Place}
+use Rattle.dm_message.specs.declared.MsgId.{MsgId}
+use Rattle.dm_message.specs.declared.kind.MessageKind.{MessageKind}
+use Rattle.dm_message.specs.declared.kind.MessageKind.TheVariants as kind
+use Rattle.dm_message.specs.Kinds.{plain_kind}
+use Rattle.dm_message.specs.Plain as what
+use Rattle.dm_message.specs.Plain.{PlainMessage, PlainWhat}
+use Rattle.dm_onekernel.specs.declared.boot.Boot.{Boot}
+use Rattle.dm_onekernel.specs.Boot.{manager}
+use Rattle.dm_onekernel.specs.Options.{bind}
+use Rattle.dm_laws.proofs.Steps.{bind-is}
+use Rattle.dm_schedule.specs.declared.Step.{Step}
+use Rattle.dm_schedule.specs.declared.Step.TheVariants as step
+use Rattle.dm_line.specs.declared.line.Line.{Line}
+use Rattle.dm_line.specs.declared.line.Line.TheVariants as line
+use Rattle.dm_line.specs.declared.line.Load.TheVariants as load
+use Rattle.dm_rule.specs.Addresses.{Receiver, Sender, is_told_back}
+use Rattle.dm_rule.specs.Parts.{Part, Says, Routes, Again, Owns, Transmits, Spelled, lines_of, puts, goes_out, packet_line, behind, spelled}
+use Rattle.dm_rule.specs.Point.{Point, after_line, after}
+use Rattle.dm_rule.specs.Rule as rule
+use Rattle.dm_rule.specs.Rule.{group_of}
+use Rattle.dm_rule.specs.View.{View, Told, About, Known, Forward, own_id, handled, receiver_of, actor, view_after}
+use Rattle.dm_rule.specs.View as view
+use Rattle.dm_rule.proofs.Groups.{fits}
+use Rattle.dm_rule.proofs.Moves.Sent.{fits_put, fits_packet}
+use Rattle.dm_rule.proofs.Pairs.Lines.{pair_same}
+use Rattle.dm_rule.proofs.Phases.Lines.{put_at}
+use Rattle.dm_rule.proofs.Said.{fits_as}
+use Rattle.dm_rule.proofs.States.{PairsFit}
+use Rattle.dm_rule.proofs.Telling.{Sane, part_sane}
+use Rattle.dm_rulelaws.proofs.Based.Needs.{Steps, begun, begun_sane, said_by, again_rides}
+use Rattle.dm_rulelaws.proofs.Found.Parts.{again_same, own_fresh}
+use Rattle.dm_rulelaws.proofs.Goes.Always.{front}
+use Rattle.dm_rulelaws.proofs.Runs.{Run}
+use Rattle.dm_movelaws.specs.Forwards.{Tells, ForwardsTell, RequestsTell}
+use Rattle.dm_movelaws.specs.Promise.{update_of, IsUnderWay}
+use Rattle.dm_rulelaws.proofs.RunsAlways.{run_always}
+use Rattle.dm_movelaws.proofs.Ends.Sends.{puts_lead}
+use Rattle.dm_movelaws.proofs.Forwards.Rows.{Onward, with_forward, part_forwards, forwards_of, goes_on, GoesOn, GoesOnOwn, Form, Nothing, Plain, Own, FormOf, outcome_form}
+use Rattle.dm_movelaws.proofs.Promise.Parts.{next_of}
+use Rattle.dm_movelaws.proofs.Promise.Spots.{Stands}
+use Rattle.dm_movelaws.proofs.Promise.Stands.{put_this, packet_stands}
+
+-- the messages that lines send on
+abbrev sent_on : List Line → List Onward
+sent_on [] = []
+sent_on (l ∷ ls) = with_forward l (sent_on ls)
+
+with_append : (l : Line) (xs ys : List Onward) → with_forward l (xs ++ ys) ≡ with_forward l xs ++ ys
+with_append (line.Forwarded i m) xs ys = refl
+with_append l xs ys = refl
+
+sent_append : (xs ys : List Line) → sent_on (xs ++ ys) ≡ sent_on xs ++ sent_on ys
+sent_append [] ys = refl
+sent_append (x ∷ xs) ys = ap (with_forward x) (sent_append xs ys) ∙ with_append x (sent_on xs) (sent_on ys)
+
+-- those of a group's lines are those of its parts
+puts_if : (v : View) (b : ℕ) (i : MsgId) (k : MessageKind) (q : Pid) (c d : Bool)
+    → sent_on (line.Put v.acting b i k q ∷ (if c then [] else if d then packet_line v v.acting b (load.Data (length (v.pair v.acting b).ids)) ∷ [] else [])) ≡ []
+puts_if v b i k q true d = refl
+puts_if v b i k q false true = refl
+puts_if v b i k q false false = refl
+
+puts_none : (v : View) (b : ℕ) (i : MsgId) (k : MessageKind) (q : Pid) (ls : List Line) → puts v b i k q ≡ ls → sent_on ls ≡ []
+puts_none v b i k q ls e = sym (ap sent_on e) ∙ puts_if v b i k q (v.acting == b) (goes_out (v.pair v.acting b))
+
+then_none : (ls : List Line) (fs : List Onward) → sent_on ls ≡ [] → sent_on ls ++ fs ≡ fs
+then_none ls fs e = ap (λ (xs : List Onward). xs ++ fs) e
+
+part_sends : (pt : Point) (p : Part) (ls : List Line) (fs : List Onward) → lines_of pt p ≡ Some ls → sent_on ls ++ fs ≡ part_forwards p fs
+part_sends pt (Says l) ls fs is =
+    let f : l ∷ [] ≡ ls = cc in
+    sym (ap (λ (xs : List Line). sent_on xs ++ fs) f) ∙ sym (with_append l [] fs)
+part_sends pt (Routes i) ls fs is =
+    let (m, there, last) = bind-is (pt.kernel.bag i) (λ m. Some (puts pt.view (pt.addresses (Receiver i)).at i (plain_kind m.what) m.to)) ls is in
+    then_none ls fs (puts_none pt.view (pt.addresses (Receiver i)).at i (plain_kind m.what) m.to ls (let f : puts pt.view (pt.addresses (Receiver i)).at i (plain_kind m.what) m.to ≡ ls = cc in f))
+part_sends pt (Again i b) ls fs is =
+    let (t, there, last) = bind-is (pt.view.told i) (λ t. Some (puts pt.view b i t.kind t.receiver)) ls is in
+    then_none ls fs (puts_none pt.view b i t.kind t.receiver ls (let f : puts pt.view b i t.kind t.receiver ≡ ls = cc in f))
+part_sends pt (Owns k q b) ls fs is = then_none ls fs (puts_none pt.view b (own_id pt.view) k q ls (let f : puts pt.view b (own_id pt.view) k q ≡ ls = cc in f))
+part_sends pt (Transmits a b l) ls fs is = let f : packet_line pt.view a b l ∷ [] ≡ ls = cc in then_none ls fs (sym (ap sent_on f))
+
+parts_send : (ps : List Part) (pt : Point) (w : Spelled) → spelled pt ps ≡ Some w → sent_on w.lines ≡ forwards_of ps
+parts_send [] pt w is = let f : record { lines = []; point = pt } ≡ w = cc in sym (ap (λ (x : Spelled). sent_on x.lines) f)
+parts_send (p ∷ ps) pt w is =
+    let (ls, lines, rest) = bind-is (lines_of pt p) (λ (xs : List Line). bind (after pt xs) (λ (q : Point). bind (spelled q ps) (λ (z : Spelled). Some (behind xs z)))) w is in
+    let (next, leads, last) = bind-is (after pt ls) (λ (q : Point). bind (spelled q ps) (λ (z : Spelled). Some (behind ls z))) w rest in
+    let (z, more, end) = bind-is (spelled next ps) (λ (y : Spelled). Some (behind ls y)) w last in
+    let f : behind ls z ≡ w = cc in
+    sym (ap (λ (x : Spelled). sent_on x.lines) f) ∙ sent_append ls z.lines ∙ ap (λ (fs : List Onward). sent_on ls ++ fs) (parts_send ps next z more) ∙ part_sends pt p ls (forwards_of ps) lines
+
+-- a group by its parts
+record Grouped (b : Boot) (o : Point) (d : Step) (w : Spelled) : Type 0 where
+  parts : List Part
+  is : rule.outcome b o d ≡ Some parts
+  rest : Spelled
+  said : spelled (begun o d) parts ≡ Some rest
+  whole : rule.headed (line.Head d) rest ≡ w
+
+grouped : (b : Boot) (o : Point) (d : Step) (w : Spelled) → group_of b o d ≡ Some w → Grouped b o d w
+grouped b o d w e =
+    let (parts, is, more) = bind-is (rule.outcome b o d) (λ parts. bind (after_line o (line.Head d)) (λ begun. bind (spelled begun parts) (λ w. Some (rule.headed (line.Head d) w)))) w e in
+    let (start, head, last) = bind-is (after_line o (line.Head d)) (λ begun. bind (spelled begun parts) (λ w. Some (rule.headed (line.Head d) w))) w more in
+    let (rest, told, end) = bind-is (spelled start parts) (λ w. Some (rule.headed (line.Head d) w)) w last in
+    let f : begun o d ≡ start = cc in
+    let g : rule.headed (line.Head d) rest ≡ w = cc in
+    record { parts = parts; is = is; rest = rest; said = ap (λ (x : Point). spelled x parts) f ∙ told; whole = g }
+
+-- the only one of a list
+none_there : (xs ys : List Onward) (f : Onward) → xs ++ f ∷ ys ≡ [] → ⊥
+none_there [] ys f e = cc
+none_there (x ∷ xs) ys f e = cc
+
+one_there : (xs ys : List Onward) (f g : Onward) → xs ++ f ∷ ys ≡ g ∷ [] → f ≡ g
+one_there [] ys f g e = cc
+one_there (x ∷ xs) ys f g e = let h : xs ++ f ∷ ys ≡ [] = cc in absurd (none_there xs ys f h)
+
+there_in : (b : Boot) (o : Point) (d : Step) (w : Spelled) (g : Grouped b o d w) (id : MsgId) (to : ℕ) (xs ys : List Line) → w.lines ≡ xs ++ line.Forwarded id to ∷ ys → sent_on xs ++ (id, to) ∷ sent_on ys ≡ forwards_of g.parts
+there_in b o d w g id to xs ys e =
+    sym (sent_append xs (line.Forwarded id to ∷ ys)) ∙ sym (ap sent_on e) ∙ sym (ap (λ (x : Spelled). sent_on x.lines) g.whole) ∙ parts_send g.parts (begun o d) g.rest g.said
+
+-- a group that says that a message of the bag is sent on
+record Sent (b : Boot) (o : Point) (d : Step) (w : Spelled) (id : MsgId) (to : ℕ) : Type 0 where
+  group : Grouped b o d w
+  goes : GoesOn o d group.parts
+  id_is : goes.id ≡ id
+  to_is : goes.to ≡ to
+
+same_id : (f g : Onward) → f ≡ g → f.0 ≡ g.0
+same_id f g e = ap (λ (h : Onward). h.0) e
+
+same_to : (f g : Onward) → f ≡ g → f.1 ≡ g.1
+same_to f g e = ap (λ (h : Onward). h.1) e
+
+sent_by : (b : Boot) (o : Point) (d : Step) (w : Spelled) (g : Grouped b o d w) (id : MsgId) (message : PlainMessage) (to : ℕ) (xs ys : List Line) → o.kernel.bag id ≡ Some message → w.lines ≡ xs ++ line.Forwarded id to ∷ ys → Form o d g.parts → Sent b o d w id to
+sent_by b o d w g id message to xs ys there says (Nothing none) = absurd (none_there (sent_on xs) (sent_on ys) (id, to) (there_in b o d w g id to xs ys says ∙ none))
+sent_by b o d w g id message to xs ys there says (Own h) =
+    let same = one_there (sent_on xs) (sent_on ys) (id, to) (h.id, h.to) (there_in b o d w g id to xs ys says ∙ ap forwards_of h.are ∙ goes_on o.addresses h.id h.told.kind manager h.to) in
+    let f : Some message ≡ None = sym there ∙ ap o.kernel.bag (same_id (id, to) (h.id, h.to) same) ∙ h.outside in
+    cc
+sent_by b o d w g id message to xs ys there says (Plain h) =
+    let same = one_there (sent_on xs) (sent_on ys) (id, to) (h.id, h.to) (there_in b o d w g id to xs ys says ∙ ap forwards_of h.are ∙ goes_on o.addresses h.id (plain_kind h.message.what) h.message.sender h.to) in
+    record { group = g; goes = h; id_is = sym (same_id (id, to) (h.id, h.to) same); to_is = sym (same_to (id, to) (h.id, h.to) same) }
+
+-- a group that says that a request to move a process is sent on
+record SentOwn (b : Boot) (o : Point) (d : Step) (w : Spelled) (id : MsgId) (to : ℕ) : Type 0 where
+  group : Grouped b o d w
+  goes : GoesOnOwn o d group.parts
+  id_is : goes.id ≡ id
+  to_is : goes.to ≡ to
+
+no_request : (w : PlainWhat) → plain_kind w ≡ kind.Migrate → ⊥
+no_request (what.User code channel body links) e = cc
+no_request w e = cc
+
+own_by : (b : Boot) (o : Point) (d : Step) (w : Spelled) (g : Grouped b o d w) (id : MsgId) (t : Told) (to : ℕ) (xs ys : List Line) → Sane o → o.view.told id ≡ Some t → t.kind ≡ kind.Migrate → w.lines ≡ xs ++ line.Forwarded id to ∷ ys → Form o d g.parts → SentOwn b o d w id to
+own_by b o d w g id t to xs ys sane told request says (Nothing none) = absurd (none_there (sent_on xs) (sent_on ys) (id, to) (there_in b o d w g id to xs ys says ∙ none))
+own_by b o d w g id t to xs ys sane told request says (Plain h) =
+    let same = one_there (sent_on xs) (sent_on ys) (id, to) (h.id, h.to) (there_in b o d w g id to xs ys says ∙ ap forwards_of h.are ∙ goes_on o.addresses h.id (plain_kind h.message.what) h.message.sender h.to) in
+    let was : o.view.told h.id ≡ Some t = sym (ap o.view.told (same_id (id, to) (h.id, h.to) same)) ∙ told in
+    absurd (no_request h.message.what (sym (sane.tells.kind h.id h.message t h.there was) ∙ request))
+own_by b o d w g id t to xs ys sane told request says (Own h) =
+    let same = one_there (sent_on xs) (sent_on ys) (id, to) (h.id, h.to) (there_in b o d w g id to xs ys says ∙ ap forwards_of h.are ∙ goes_on o.addresses h.id h.told.kind manager h.to) in
+    record { group = g; goes = h; id_is = sym (same_id (id, to) (h.id, h.to) same); to_is = sym (same_to (id, to) (h.id, h.to) same) }
+
+-- what the update is about
+topic_at : (v : View) (i : MsgId) (m : ℕ) (t : Told) (p : Pid) (to moves : ℕ) → v.told i ≡ Some t → t.receiver ≡ p → v.known v.acting p ≡ Forward to moves → (view_after v (line.Forwarded i m)).topic ≡ view.Place p to moves
+topic_at v i m t p to moves told receiver known =
+    ap (λ (o : Option Told). (view.forwarded_for (handled v i) (receiver_of o)).topic) told
+    ∙ ap (λ (q : Pid). view.forward_about q (v.known v.acting q)) receiver
+    ∙ ap (λ (k : Known). view.forward_about p k) known
+
+-- a kernel's own message that is put for the first time
+first_told : (o : Option Told) (u : Told) → o ≡ None → Some (view.first_told o u) ≡ Some u
+first_told None u e = refl
+first_told (Some t) u e = cc
+
+-- its name is that of the next message of the kernel where the group begins
+forwarded_own : (v : View) (o : Option Pid) → own_id (view.forwarded_for v o) ≡ own_id v
+forwarded_own v None = refl
+forwarded_own v (Some p) = refl
+
+-- between the parts of such a group: what its own message will be about, and its name
+record Ready (v : View) (a : About) (pt : Point) : Type 0 where
+  sane : Sane pt
+  fit : PairsFit pt.view
+  topic : pt.view.topic ≡ a
+  own : own_id pt.view ≡ own_id v
+
+forwarded_ready : (pt next : Point) (id : MsgId) (t : Told) (q : Pid) (to moves : ℕ) → Sane pt → PairsFit pt.view → pt.view.told id ≡ Some t → t.receiver ≡ q → pt.view.known pt.view.acting q ≡ Forward to moves → Steps pt (Says (line.Forwarded id to)) next
+    → Ready pt.view (view.Place q to moves) next
+forwarded_ready pt next id t q to moves sane fit told receiver known s =
+    let l = line.Forwarded id to in
+    let k = said_by pt next l s in
+    record {
+      sane = part_sane pt next (Says l) s.lines refl s.are s.leads sane;
+      fit = subst (λ (x : Point). PairsFit x.view) k.is (fits_as pt.view (view_after pt.view l) (pair_same pt.view l refl) fit);
+      topic = sym (ap (λ (x : Point). x.view.topic) k.is) ∙ topic_at pt.view id to t q to moves told receiver known;
+      own = sym (ap (λ (x : Point). own_id x.view) k.is) ∙ forwarded_own (handled pt.view id) (receiver_of (pt.view.told id));
+    }
+
+again_ready : (v : View) (a : About) (pt next : Point) (id : MsgId) (to : ℕ) → Steps pt (Again id to) next → Ready v a pt → Ready v a next
+again_ready v a pt next id to s h = record {
+  sane = part_sane pt next (Again id to) s.lines tt s.are s.leads h.sane;
+  fit = again_rides (λ (x : Point). PairsFit x.view) (record { put = λ x c d i m r k. fits_put x.view c d i m r k; packet = λ x c d n m k. fits_packet x.view c d n m k }) pt next id to s h.fit;
+  topic = again_rides (λ (x : Point). x.view.topic ≡ a) (record { put = λ x c d i m r k. k; packet = λ x c d n m k. k }) pt next id to s h.topic;
+  own = (again_same pt next id to s.lines s.are s.leads).own ∙ h.own;
+}
+
+-- then an update that nothing was told of before is under way
+record New (v next : View) (p q : Pid) (place : Place) : Type 0 where
+  update : MsgId
+  new : v.told update ≡ None
+  way : IsUnderWay next update p q place
+
+record Put (i : MsgId) (u : Told) (next : Point) : Type 0 where
+  told : next.view.told i ≡ Some u
+  stands : Stands next.view i
+
+put_new : (v : View) (pt next : Point) (p q : Pid) (place : Place) (b : ℕ) → v.told (own_id v) ≡ None → Ready v (view.Place q place.at place.moves) pt → Steps pt (Owns kind.Update p b) next → New v next.view p q place
+put_new v pt next p q place b new h s =
+    let i = own_id pt.view in
+    let a = view.Place q place.at place.moves in
+    let u : Told = record { kind = kind.Update; receiver = p; about = pt.view.topic } in
+    let put : Put i (update_of p q place) next =
+    puts_lead (Put i (update_of p q place)) (λ x c d k l e. record { told = e.told; stands = packet_stands x.view c d k l i e.stands }) pt next b i kind.Update p s.lines
+    (record {
+      told = put_at pt.view pt.view.acting b i kind.Update p ∙ first_told (pt.view.told i) u (own_fresh pt h.sane) ∙ ap (λ (x : About). Some (record { kind = kind.Update; receiver = p; about = x })) h.topic;
+      stands = put_this pt.view pt.view.acting b i kind.Update p h.fit;
+    }) s.are s.leads in
+    record { update = i; new = ap v.told h.own ∙ new; way = record { told = put.told; spot = put.stands.spot; stands = put.stands.least } }
+
+last_point : (pt : Point) (w : Spelled) → spelled pt [] ≡ Some w → pt ≡ w.point
+last_point pt w is = let f : record { lines = []; point = pt } ≡ w = cc in ap (λ (x : Spelled). x.point) f
+
+-- where the parts of such a group lead
+tells : (pt : Point) (w : Spelled) (id : MsgId) (sender : Pid) (place : Place) (back : ℕ) (t : Told) (q : Pid) → Sane pt → PairsFit pt.view → pt.view.told id ≡ Some t → t.receiver ≡ q → pt.view.known pt.view.acting q ≡ Forward place.at place.moves
+    → spelled pt (Says (line.Forwarded id place.at) ∷ Again id place.at ∷ Owns kind.Update sender back ∷ []) ≡ Some w → New pt.view w.point.view sender q place
+tells pt w id sender place back t q sane fit told receiver known is =
+    let last = Owns kind.Update sender back in
+    let n = next_of pt (Says (line.Forwarded id place.at)) (Again id place.at ∷ last ∷ []) w is in
+    let k = next_of n.next (Again id place.at) (last ∷ []) n.rest n.more in
+    let z = next_of k.next last [] k.rest k.more in
+    let ready = again_ready pt.view (view.Place q place.at place.moves) n.next k.next id place.at k.steps (forwarded_ready pt n.next id t q place.at place.moves sane fit told receiver known n.steps) in
+    let new = put_new pt.view k.next z.next sender q place back (own_fresh pt sane) ready z.steps in
+    let to : Point → Type 0 = λ x. New pt.view x.view sender q place in
+    subst to n.point (subst to k.point (subst to z.point (subst to (last_point z.next z.rest z.more) new)))
+
+-- it goes on, and its sender is told
+told_parts : (o : Point) (d : Step) (ps : List Part) (h : GoesOn o d ps) → is_told_back (plain_kind h.message.what) ≡ true
+    → ps ≡ Says (line.Forwarded h.id h.to) ∷ Again h.id h.to ∷ Owns kind.Update h.message.sender (o.addresses (Sender h.id)).at ∷ []
+told_parts o d ps h back =
+    h.are ∙ ap (λ (c : Bool). Says (line.Forwarded h.id h.to) ∷ Again h.id h.to ∷ (if c then Owns kind.Update h.message.sender (o.addresses (Sender h.id)).at ∷ [] else [])) back
+
+-- where the group begins
+turn_fits : (v : View) (m : ℕ) → PairsFit v → PairsFit (view.after_head v (step.Turn m))
+turn_fits v m h = record { within = h.within; home = h.home }
+
+sent_tells : (b : Boot) (o : Point) (d : Step) (w : Spelled) (g : Grouped b o d w) (h : GoesOn o d g.parts) → Run b o → is_told_back (plain_kind h.message.what) ≡ true → Tells d o w.point h.message.sender h.message.to h.to
+sent_tells b o d w g h run back =
+    let p = h.message.sender in
+    let q = h.message.to in
+    let place : Place = record { at = h.to; moves = h.moves } in
+    let sane = run.based.phased.sane in
+    let f = front b h.machine o h.id h.rest h.message h.box h.there run in
+    let begins : (begun o d).view ≡ view.after_head o.view (step.Turn h.machine) = ap (λ (e : Step). view.after_head o.view e) h.acts in
+    let known : (begun o d).view.known (begun o d).view.acting q ≡ Forward h.to h.moves = ap (λ (v : View). v.known v.acting q) begins ∙ h.known in
+    let told : (begun o d).view.told h.id ≡ Some f.told = ap (λ (v : View). v.told h.id) begins ∙ f.told_is in
+    let fit : PairsFit (begun o d).view = subst PairsFit (sym begins) (turn_fits o.view h.machine (fits o.view run.based.phased.pairs)) in
+    let said = sym (ap (spelled (begun o d)) (told_parts o d g.parts h back)) ∙ g.said in
+    let t = tells (begun o d) g.rest h.id p place (o.addresses (Sender h.id)).at f.told q (begun_sane o d sane) fit told (sane.tells.receiver h.id h.message f.told h.there f.told_is) known said in
+    record {
+      turn = h.acts ∙ ap (λ (e : Step). step.Turn (actor e)) (sym h.acts);
+      moves = h.moves;
+      known = ap (λ (e : Step). o.view.known (actor e) q) h.acts ∙ h.known;
+      update = t.update;
+      new = ap (λ (v : View). v.told t.update) (sym begins) ∙ t.new;
+      way = subst (λ (x : Spelled). IsUnderWay x.point.view t.update p q place) g.whole t.way;
+    }
+
+-- wherever the rule leads
+pub forwards_tell : ForwardsTell
+forwards_tell b es pt d w p q to valid leads f =
+    let run = (run_always b es pt valid leads).run in
+    let g = grouped b pt d w f.is in
+    let s = sent_by b pt d w g f.id f.message to f.earlier f.later f.there f.says (subst (FormOf pt d) g.is (outcome_form b pt d)) in
+    let h = s.goes in
+    let same : Some h.message ≡ Some f.message = sym h.there ∙ ap pt.kernel.bag s.id_is ∙ f.there in
+    let message : h.message ≡ f.message = cc in
+    let back : is_told_back (plain_kind h.message.what) ≡ true = ap (λ (m : PlainMessage). is_told_back (plain_kind m.what)) message ∙ f.told_back in
+    let t = sent_tells b pt d w s.group h run back in
+    let sender : h.message.sender ≡ p = ap (λ (m : PlainMessage). m.sender) message ∙ f.sender in
+    let receiver : h.message.to ≡ q = ap (λ (m : PlainMessage). m.to) message ∙ f.receiver in
+    subst (λ (n : ℕ). Tells d pt w.point p q n) s.to_is
+    (subst (λ (r : Pid). Tells d pt w.point r q h.to) sender
+    (subst (λ (r : Pid). Tells d pt w.point h.message.sender r h.to) receiver t))
+
+-- a request to move goes on, and the manager is told
+own_parts : (o : Point) (d : Step) (ps : List Part) (h : GoesOnOwn o d ps) → is_told_back h.told.kind ≡ true → ps ≡ Says (line.Forwarded h.id h.to) ∷ Again h.id h.to ∷ Owns kind.Update manager (o.addresses (Sender h.id)).at ∷ []
+own_parts o d ps h back = h.are ∙ ap (λ (c : Bool). Says (line.Forwarded h.id h.to) ∷ Again h.id h.to ∷ (if c then Owns kind.Update manager (o.addresses (Sender h.id)).at ∷ [] else [])) back
+
+own_tells : (b : Boot) (o : Point) (d : Step) (w : Spelled) (g : Grouped b o d w) (h : GoesOnOwn o d g.parts) → Run b o → is_told_back h.told.kind ≡ true → Tells d o w.point manager h.told.receiver h.to
+own_tells b o d w g h run back =
+    let q = h.told.receiver in
+    let place : Place = record { at = h.to; moves = h.moves } in
+    let sane = run.based.phased.sane in
+    let begins : (begun o d).view ≡ view.after_head o.view (step.Turn h.machine) = ap (λ (e : Step). view.after_head o.view e) h.acts in
+    let known : (begun o d).view.known (begun o d).view.acting q ≡ Forward h.to h.moves = ap (λ (v : View). v.known v.acting q) begins ∙ h.known in
+    let told : (begun o d).view.told h.id ≡ Some h.told = ap (λ (v : View). v.told h.id) begins ∙ h.told_is in
+    let fit : PairsFit (begun o d).view = subst PairsFit (sym begins) (turn_fits o.view h.machine (fits o.view run.based.phased.pairs)) in
+    let said = sym (ap (spelled (begun o d)) (own_parts o d g.parts h back)) ∙ g.said in
+    let t = tells (begun o d) g.rest h.id manager place (o.addresses (Sender h.id)).at h.told q (begun_sane o d sane) fit told refl known said in
+    record {
+      turn = h.acts ∙ ap (λ (e : Step). step.Turn (actor e)) (sym h.acts);
+      moves = h.moves;
+      known = ap (λ (e : Step). o.view.known (actor e) q) h.acts ∙ h.known;
+      update = t.update;
+      new = ap (λ (v : View). v.told t.update) (sym begins) ∙ t.new;
+      way = subst (λ (x : Spelled). IsUnderWay x.point.view t.update manager q place) g.whole t.way;
+    }
+
+-- wherever the rule leads
+pub requests_tell : RequestsTell
+requests_tell b es pt d w q to valid leads f =
+    let run = (run_always b es pt valid leads).run in
+    let g = grouped b pt d w f.is in
+    let s = own_by b pt d w g f.id f.told to f.earlier f.later run.based.phased.sane f.there f.request f.says (subst (FormOf pt d) g.is (outcome_form b pt d)) in
+    let h = s.goes in
+    let same : Some h.told ≡ Some f.told = sym h.told_is ∙ ap pt.view.told s.id_is ∙ f.there in
+    let told : h.told ≡ f.told = cc in
+    let back : is_told_back h.told.kind ≡ true = ap (λ (t : Told). is_told_back t.kind) told ∙ ap is_told_back f.request in
+    let t = own_tells b pt d w s.group h run back in
+    let receiver : h.told.receiver ≡ q = ap (λ (x : Told). x.receiver) told ∙ f.receiver in
+    subst (λ (n : ℕ). Tells d pt w.point manager q n) s.to_is (subst (λ (r : Pid). Tells d pt w.point manager r h.to) receiver t)

@@ -1,0 +1,192 @@
+-- Wherever the rule leads, each living process that moves data has the message that its status says.
+use Rattle.std.proofs.Common.{◌≡◌, ℕ, ◌+◌, ◌==◌, true, false, List, [], ◌∷◌, length, refl, ap, ◌∙◌, sym, subst, inl, inr, arith}
+use Rattle.std.specs.declared.option.Option.{Option}
+use Rattle.std.specs.declared.option.Option.TheVariants.{None, Some}
+use Rattle.std.proofs.lemmas.Bool.Decides.{nat_tests}
+use Rattle.dm_link.specs.declared.Pid.{Pid}
+use Rattle.dm_message.specs.declared.MsgId.{MsgId}
+use Rattle.dm_message.specs.Ids.{id_of}
+use Rattle.dm_message.specs.Kinds.{plain_kind}
+use Rattle.dm_message.specs.Plain as what
+use Rattle.dm_message.specs.Plain.{PlainMessage, PlainWhat}
+use Rattle.dm_process.specs.declared.process.Direction.{Direction}
+use Rattle.dm_process.specs.declared.process.Direction.TheVariants as direction
+use Rattle.dm_onekernel.specs.declared.boot.Boot.{Boot}
+use Rattle.dm_onekernel.specs.declared.label.Label.{Label}
+use Rattle.dm_onekernel.specs.PlainProcess.{PlainProcess, PlainStatus, Ready, Waiting, Moving}
+use Rattle.dm_onekernel.specs.Kernel.{Life, Alive, OneKernel}
+use Rattle.dm_onekernel.specs.Pieces.{piece_of, answer_id}
+use Rattle.dm_onekernel.specs.Service.{is_of_memory}
+use Rattle.dm_onekernel.specs.Step as kernel
+use Rattle.dm_onekernel.specs.Step.{replay}
+use Rattle.dm_schedule.specs.declared.Step.{Step}
+use Rattle.dm_rule.specs.Laws.{Leads}
+use Rattle.dm_rule.specs.Point.{Point, first_point, labels}
+use Rattle.dm_laws.specs.Laws.{entry, reception, in_bag}
+use Rattle.dm_laws.proofs.Counted.{is_piece, pending_of}
+use Rattle.dm_laws.proofs.Movers.{One}
+use Rattle.dm_laws.proofs.Runs.{after_step}
+use Rattle.dm_laws.proofs.Sound.{Sound}
+use Rattle.dm_laws.proofs.Steps.{bind-is}
+use Rattle.dm_rulelaws.specs.Fits.{piece_fits, status_awaits, awaits, WhatFits, KernelFits}
+use Rattle.dm_rulelaws.proofs.Based.Always.{based_start, based_group, based_always}
+use Rattle.dm_rulelaws.proofs.Fits.Rises.{both}
+use Rattle.dm_rulelaws.proofs.Fits.Start.{fits_step}
+use Rattle.dm_rulelaws.proofs.RunLabels.{group_replay}
+use Rattle.dm_rulelaws.proofs.Runs.{Based}
+use Rattle.dm_movelaws.specs.Movers.{asks_piece, answers_piece, AsksFor, AnswersFor, HasEnded, HasPiece, Moves, MoversHavePieces}
+use Rattle.dm_movelaws.proofs.Movers.Says.{other_end, Begins, StatusSays, Says, AllSay}
+use Rattle.dm_movelaws.proofs.Movers.Gone.{GoneEnded, step_gone}
+use Rattle.dm_movelaws.proofs.Movers.Rows.{memory_end, step_says}
+
+-- a run
+replay_says : (ls : List Label) (r e : MsgId → ℕ) (s t : OneKernel) → replay s ls ≡ Some t → KernelFits s → Sound r e s → AllSay s × GoneEnded s → AllSay t × GoneEnded t
+replay_says [] r e s t is fits sound h = let f : s ≡ t = cc in subst (λ (x : OneKernel). AllSay x × GoneEnded x) f h
+replay_says (l ∷ ls) r e s t is fits sound h =
+    let (u, first, rest) = bind-is (kernel.step s l) (λ (x : OneKernel). replay x ls) t is in
+    let next = fits_step r e s u l first sound fits in
+    let after = after_step r e s u l first sound in
+    replay_says ls (λ i. r i + reception i l) (λ i. e i + entry i s u) u t rest next after.sound (step_says r e s u l first sound next h.0, step_gone s u l first after.grown h.1)
+
+says_on : (b : Boot) (es : List Step) (pt end : Point) → Leads b pt es end → Based b pt → AllSay pt.kernel × GoneEnded pt.kernel → AllSay end.kernel × GoneEnded end.kernel
+says_on b [] pt end leads based h = subst (λ (x : Point). AllSay x.kernel × GoneEnded x.kernel) leads h
+says_on b (d ∷ es) pt end (w, fit, is, rest) based h =
+    let sane = based.phased.sane in
+    says_on b es w.point end rest (based_group b pt d w fit is based) (replay_says (labels w.lines) sane.r sane.e pt.kernel w.point.kernel (group_replay b pt d w is) based.fits sane.sound h)
+
+-- one of the two
+pair_one : (a b : Option PlainMessage) → One a b → in_bag a + in_bag b ≡ 1
+pair_one (Some m) None h = refl
+pair_one None (Some m) h = refl
+pair_one None None h = absurd h
+pair_one (Some m) (Some k) h = absurd h
+
+pair_request : (a b : Option PlainMessage) (m : PlainMessage) → One a b → a ≡ Some m → is_of_memory m.what ≡ true
+pair_request (Some k) None m h e = let f : k ≡ m = cc in sym (ap (λ (x : PlainMessage). is_of_memory x.what) f) ∙ h
+pair_request (Some k) (Some j) m h e = absurd h
+pair_request None b m h e = cc
+
+pair_answer : (a b : Option PlainMessage) (m : PlainMessage) → One a b → b ≡ Some m → is_piece m.what ≡ true
+pair_answer None (Some k) m h e = let f : k ≡ m = cc in sym (ap (λ (x : PlainMessage). is_piece x.what) f) ∙ h
+pair_answer (Some j) (Some k) m h e = absurd h
+pair_answer None None m h e = absurd h
+pair_answer (Some j) None m h e = cc
+
+-- what fits is awaited
+memory_awaits : (s : OneKernel) (i : MsgId) (m : PlainMessage) (w : PlainWhat) → is_of_memory w ≡ true → WhatFits s i m w → awaits (s.processes i.from) i.n w ≡ true
+memory_awaits s i m (what.Read base len) e h = h.1
+memory_awaits s i m (what.Write base bytes) e h = h.1
+memory_awaits s i m w e h = cc
+
+piece_awaits : (s : OneKernel) (i : MsgId) (m : PlainMessage) (w : PlainWhat) → is_piece w ≡ true → WhatFits s i m w → awaits (s.processes i.from) i.n w ≡ true
+piece_awaits s i m (what.Block bytes) e h = h.1
+piece_awaits s i m what.Written e h = h.1
+piece_awaits s i m what.Gone e h = h.1
+piece_awaits s i m w e h = cc
+
+piece_end : (m : PlainMessage) (w : PlainWhat) → is_piece w ≡ true → other_end m w ≡ Some m.sender
+piece_end m (what.Block bytes) e = refl
+piece_end m what.Written e = refl
+piece_end m what.Gone e = refl
+piece_end m w e = cc
+
+-- what a mover's status says of what it waits for
+status_fits : (st : PlainStatus) (dir : Direction) (owner : Pid) (base own left pending n : ℕ) (w : PlainWhat) → st ≡ Moving dir owner base own left pending → status_awaits st n w ≡ true → piece_fits dir left w ≡ true
+status_fits st dir owner base own left pending n w is h = (both (n == pending) (piece_fits dir left w) (sym (ap (λ (v : PlainStatus). status_awaits v n w) is) ∙ h)).1
+
+says_is : (st : PlainStatus) (dir : Direction) (owner : Pid) (base own left pending : ℕ) (q : Pid) (w : PlainWhat) → st ≡ Moving dir owner base own left pending → StatusSays st pending q w → (q ≡ owner) × Begins base left w
+says_is st dir owner base own left pending q w is h = subst (λ (v : PlainStatus). StatusSays v pending q w) is h refl
+
+asks_for : (dir : Direction) (base left : ℕ) (w : PlainWhat) → is_of_memory w ≡ true → piece_fits dir left w ≡ true → Begins base left w → AsksFor dir base left w
+asks_for direction.FromArea base left (what.Read from len) m f h = let size : len ≡ piece_of left = grind (arith, nat_tests) in λ i. what.Read (h i) (size i)
+asks_for direction.IntoArea base left (what.Write from bytes) m f h = record { bytes = bytes; is = ap (λ (n : ℕ). what.Write n bytes) h.0; size = h.1 }
+asks_for direction.FromArea base left w m f h = cc
+asks_for direction.IntoArea base left w m f h = cc
+
+answers_for : (dir : Direction) (left : ℕ) (w : PlainWhat) → is_piece w ≡ true → piece_fits dir left w ≡ true → AnswersFor dir left w
+answers_for direction.FromArea left (what.Block bytes) m f = inl (record { bytes = bytes; is = refl; size = (let size : length bytes ≡ piece_of left = grind (arith, nat_tests) in size) })
+answers_for direction.FromArea left what.Gone m f = inr refl
+answers_for direction.IntoArea left what.Written m f = inl refl
+answers_for direction.IntoArea left what.Gone m f = inr refl
+answers_for direction.FromArea left w m f = cc
+answers_for direction.IntoArea left w m f = cc
+
+has_piece : (r e : MsgId → ℕ) (s : OneKernel) (p : Pid) (x : PlainProcess) (dir : Direction) (owner : Pid) (base own left pending : ℕ) → s.processes p ≡ Some (Alive x) → x.status ≡ Moving dir owner base own left pending → Sound r e s → KernelFits s → AllSay s → GoneEnded s
+    → HasPiece s p dir owner base left pending
+has_piece r e s p x dir owner base own left pending alive status sound fits says gone =
+    let i = id_of p pending in
+    let j = answer_id i in
+    let one = sound.movers.mover p x pending alive (ap pending_of status) in
+    record {
+      one = pair_one (s.bag i) (s.bag j) one;
+      request = λ m there.
+          let memory = pair_request (s.bag i) (s.bag j) m one there in
+          let waits : status_awaits x.status pending m.what ≡ true = sym (ap (λ (o : Option Life). awaits o pending m.what) alive) ∙ memory_awaits s i m m.what memory (fits.messages i m there) in
+          let said : StatusSays x.status pending m.to m.what = subst (λ (o : Option Life). Says o pending m.to m.what) alive (says i m m.to there (memory_end m m.what memory)) in
+          let k = says_is x.status dir owner base own left pending m.to m.what status said in
+          record {
+            sender = sound.movers.senders i m there memory;
+            receiver = k.0;
+            asks = asks_for dir base left m.what memory (status_fits x.status dir owner base own left pending pending m.what status waits) k.1;
+          };
+      answer = λ m there.
+          let piece = pair_answer (s.bag i) (s.bag j) m one there in
+          let waits : status_awaits x.status pending m.what ≡ true = sym (ap (λ (o : Option Life). awaits o pending m.what) alive) ∙ piece_awaits s j m m.what piece (fits.messages j m there) in
+          let said : StatusSays x.status pending m.sender m.what = subst (λ (o : Option Life). Says o pending m.sender m.what) alive (says j m m.sender there (piece_end m m.what piece)) in
+          let sender = (says_is x.status dir owner base own left pending m.sender m.what status said).0 in
+          record {
+            sender = sender;
+            receiver = (sound.movers.returns j m there piece).0;
+            answers = answers_for dir left m.what piece (status_fits x.status dir owner base own left pending pending m.what status waits);
+            gone = λ e. subst (HasEnded s) sender (gone j m there e);
+          };
+    }
+
+-- messages of kinds
+kind_memory : (w : PlainWhat) → asks_piece (plain_kind w) ≡ true → is_of_memory w ≡ true
+kind_memory (what.Read base len) e = refl
+kind_memory (what.Write base bytes) e = refl
+kind_memory w e = cc
+
+kind_piece : (w : PlainWhat) → answers_piece (plain_kind w) ≡ true → is_piece w ≡ true
+kind_piece (what.Block bytes) e = refl
+kind_piece what.Written e = refl
+kind_piece what.Gone e = refl
+kind_piece w e = cc
+
+moves_by : (p : Pid) (x : PlainProcess) (i : MsgId) (st : PlainStatus) (w : PlainWhat) → x.status ≡ st → status_awaits st i.n w ≡ true → Moves p x (id_of p i.n)
+moves_by p x i Ready w is h = cc
+moves_by p x i (Waiting mask base size) w is h = cc
+moves_by p x i (Moving dir owner base own left pending) w is h =
+    let same : i.n ≡ pending = (let k = (both (i.n == pending) (piece_fits dir left w) h).0 in grind (arith, nat_tests)) in
+    record { dir = dir; owner = owner; base = base; own = own; left = left; pending = pending; status = is; name = ap (id_of p) same }
+
+requests_move : (r e : MsgId → ℕ) (s : OneKernel) (i : MsgId) (m : PlainMessage) (x : PlainProcess) → s.bag i ≡ Some m → is_of_memory m.what ≡ true → s.processes m.sender ≡ Some (Alive x) → Sound r e s → KernelFits s → Moves m.sender x i
+requests_move r e s i m x there memory alive sound fits =
+    let sender : m.sender ≡ i.from = sound.movers.senders i m there memory in
+    let asked : i.answer ≡ false = sound.movers.requests i m there memory in
+    let lives : s.processes i.from ≡ Some (Alive x) = sym (ap s.processes sender) ∙ alive in
+    let waits : status_awaits x.status i.n m.what ≡ true = sym (ap (λ (o : Option Life). awaits o i.n m.what) lives) ∙ memory_awaits s i m m.what memory (fits.messages i m there) in
+    let name : id_of m.sender i.n ≡ i = λ j. record { from = sender j; n = i.n; answer = sym asked j } in
+    subst (Moves m.sender x) name (moves_by m.sender x i x.status m.what refl waits)
+
+answers_move : (r e : MsgId → ℕ) (s : OneKernel) (i : MsgId) (m : PlainMessage) (x : PlainProcess) → s.bag i ≡ Some m → is_piece m.what ≡ true → s.processes m.to ≡ Some (Alive x) → Sound r e s → KernelFits s → (q : MsgId) × (i ≡ answer_id q) × Moves m.to x q
+answers_move r e s i m x there piece alive sound fits =
+    let back = sound.movers.returns i m there piece in
+    let lives : s.processes i.from ≡ Some (Alive x) = sym (ap s.processes back.0) ∙ alive in
+    let waits : status_awaits x.status i.n m.what ≡ true = sym (ap (λ (o : Option Life). awaits o i.n m.what) lives) ∙ piece_awaits s i m m.what piece (fits.messages i m there) in
+    let name : i ≡ answer_id (id_of m.to i.n) = λ j. record { from = sym back.0 j; n = i.n; answer = back.1 j } in
+    (id_of m.to i.n, name, moves_by m.to x i x.status m.what refl waits)
+
+-- wherever the rule leads
+pub movers_have_pieces : MoversHavePieces
+movers_have_pieces b es pt valid leads =
+    let based = based_always b es pt valid leads in
+    let s = pt.kernel in
+    let sane = based.phased.sane in
+    let says = says_on b es (first_point b) pt leads (based_start b valid) (λ i m q there e. absurd (let f : None ≡ Some m = there in cc), λ i m there e. absurd (let f : None ≡ Some m = there in cc)) in
+    record {
+      has = λ p x dir owner base own left pending alive status. has_piece sane.r sane.e s p x dir owner base own left pending alive status sane.sound based.fits says.0 says.1;
+      requests = λ i m x there e alive. requests_move sane.r sane.e s i m x there (kind_memory m.what e) alive sane.sound based.fits;
+      answers = λ i m x there e alive. answers_move sane.r sane.e s i m x there (kind_piece m.what e) alive sane.sound based.fits;
+    }

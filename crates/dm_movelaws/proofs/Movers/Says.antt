@@ -1,0 +1,189 @@
+-- What a message of a data move says of the mover's status: the ways in which that stays.
+use Rattle.std.proofs.Common.{◌≡◌, ℕ, ◌+◌, ◌≤◌, true, false, length, take, drop, refl, ap, ◌∙◌, sym, subst, inl, inr, nat_le, nat_lt, arith}
+use Rattle.std.specs.Prelude.{⊤}
+use Rattle.std.specs.declared.option.Option.{Option}
+use Rattle.std.specs.declared.option.Option.TheVariants.{None, Some}
+use Rattle.std.proofs.lemmas.Bool.Decides.{nat_tests}
+use Rattle.std.proofs.lemmas.List.{length-take, length-drop}
+use Rattle.dm_link.specs.declared.Pid.{Pid}
+use Rattle.dm_message.specs.declared.MsgId.{MsgId}
+use Rattle.dm_message.specs.Plain as what
+use Rattle.dm_message.specs.Plain.{PlainMessage, PlainWhat}
+use Rattle.dm_process.specs.declared.process.Direction.{Direction}
+use Rattle.dm_process.specs.declared.process.Direction.TheVariants as direction
+use Rattle.dm_onekernel.specs.declared.label.Why.{Why}
+use Rattle.dm_onekernel.specs.PlainProcess.{PlainProcess, PlainStatus, Ready, Waiting, Moving}
+use Rattle.dm_onekernel.specs.Kernel.{Life, Alive, Ended, OneKernel, with_process, with_sent}
+use Rattle.dm_onekernel.specs.Pieces as pieces
+use Rattle.dm_onekernel.specs.Pieces.{piece_of, answer_to}
+use Rattle.dm_onekernel.specs.Service.{without_message, is_of_memory}
+use Rattle.dm_laws.proofs.Counted.{is_piece, pending_of}
+use Rattle.dm_laws.proofs.Entered.{counts, is_counted}
+use Rattle.dm_laws.proofs.Movers.{stayed, came}
+use Rattle.dm_laws.proofs.Sound.{Sound, not_server, counts_process, not_counted}
+use Rattle.dm_rulelaws.specs.Fits.{Lives, has_bytes, move_fits, KernelFits}
+use Rattle.dm_rulelaws.proofs.Fits.Rises.{both, set_if, set_at}
+
+-- whom a message of a data move names as the area's owner
+abbrev pub other_end : PlainMessage → PlainWhat → Option Pid
+other_end m (what.Read base len) = Some m.to
+other_end m (what.Write base bytes) = Some m.to
+other_end m (what.Block bytes) = Some m.sender
+other_end m what.Written = Some m.sender
+other_end m what.Gone = Some m.sender
+other_end m (what.User code channel body links) = None
+other_end m what.Stop = None
+other_end m what.Resume = None
+other_end m what.Kill = None
+other_end m (what.Create image links) = None
+other_end m (what.Created child) = None
+other_end m what.NoRoom = None
+other_end m (what.Move machine) = None
+other_end m (what.Moved outcome) = None
+
+-- where a piece begins that is asked for, and how many bytes are to be written
+abbrev pub Begins : ℕ → ℕ → PlainWhat → Type 0
+Begins base left (what.Read from len) = from ≡ base
+Begins base left (what.Write from bytes) = (from ≡ base) × (length bytes ≡ piece_of left)
+Begins base left (what.Block bytes) = ⊤
+Begins base left what.Written = ⊤
+Begins base left what.Gone = ⊤
+Begins base left (what.User code channel body links) = ⊤
+Begins base left what.Stop = ⊤
+Begins base left what.Resume = ⊤
+Begins base left what.Kill = ⊤
+Begins base left (what.Create image links) = ⊤
+Begins base left (what.Created child) = ⊤
+Begins base left what.NoRoom = ⊤
+Begins base left (what.Move machine) = ⊤
+Begins base left (what.Moved outcome) = ⊤
+
+-- of a mover that waits for this number: the owner of its area, and the next piece
+abbrev pub StatusSays : PlainStatus → ℕ → Pid → PlainWhat → Type 0
+StatusSays Ready n q w = ⊤
+StatusSays (Waiting mask base size) n q w = ⊤
+StatusSays (Moving dir owner base own left pending) n q w = n ≡ pending → (q ≡ owner) × Begins base left w
+
+-- what a message under this number says, if its mover lives and waits for that number
+abbrev pub Says : Option Life → ℕ → Pid → PlainWhat → Type 0
+Says None n q w = ⊤
+Says (Some (Alive x)) n q w = StatusSays x.status n q w
+Says (Some (Ended because)) n q w = ⊤
+
+-- each message of a data move in the bag says it
+abbrev pub AllSay : OneKernel → Type 0
+AllSay s = (i : MsgId) (m : PlainMessage) (q : Pid) → s.bag i ≡ Some m → other_end m m.what ≡ Some q → Says (s.processes i.from) i.n q m.what
+
+-- nobody waits for it
+unawaited_says : (st : PlainStatus) (n : ℕ) (q : Pid) (w : PlainWhat) → (pending_of st ≡ Some n → ⊥) → StatusSays st n q w
+unawaited_says Ready n q w f = tt
+unawaited_says (Waiting mask base size) n q w f = tt
+unawaited_says (Moving dir owner base own left pending) n q w f = λ e. absurd (f (ap Some (sym e)))
+
+set_says : (s : OneKernel) (p : Pid) (l : Life) → ((i : MsgId) (m : PlainMessage) (q : Pid) → s.bag i ≡ Some m → i.from ≡ p → Says (s.processes p) i.n q m.what → Says (Some l) i.n q m.what) → AllSay s → AllSay (with_process s p l)
+set_says s p l f h i m q there e = set_if (λ (o : Option Life). Says o i.n q m.what) s p i.from l (λ same. f i m q there same) (h i m q there e)
+
+-- a process goes on waiting for the same
+pub same_says : (s : OneKernel) (p : Pid) (x y : PlainProcess) → s.processes p ≡ Some (Alive x) → y.status ≡ x.status → AllSay s → AllSay (with_process s p (Alive y))
+same_says s p x y is status h =
+    set_says s p (Alive y) (λ i m q there from k. subst (λ (st : PlainStatus). StatusSays st i.n q m.what) (sym status) (subst (λ (o : Option Life). Says o i.n q m.what) is k)) h
+
+-- it waits for nothing
+pub still_says : (s : OneKernel) (p : Pid) (y : PlainProcess) → pending_of y.status ≡ None → AllSay s → AllSay (with_process s p (Alive y))
+still_says s p y still h = set_says s p (Alive y) (λ i m q there from k. unawaited_says y.status i.n q m.what (λ e. let f : None ≡ Some i.n = sym still ∙ e in cc)) h
+
+-- it waits for a number that it gives anew
+pub fresh_says : (r e : MsgId → ℕ) (s : OneKernel) (p : Pid) (x y : PlainProcess) → s.processes p ≡ Some (Alive x) → pending_of y.status ≡ Some x.sent → Sound r e s → AllSay s → AllSay (with_process s p (Alive y))
+fresh_says r e s p x y is pending sound h =
+    set_says s p (Alive y)
+    (λ i m q there from k. unawaited_says y.status i.n q m.what (λ f.
+    let number : Some x.sent ≡ Some i.n = sym pending ∙ f in
+    let n : x.sent ≡ i.n = cc in
+    let counted : counts s i ≡ nat_lt i.n x.sent = counts_process s p i from (not_server s p x is sound.made) ∙ ap (is_counted i.n) is in
+    let fresh : counts s i ≡ false = counted ∙ (let z : nat_lt i.n x.sent ≡ false = grind (arith, nat_tests) in z) in
+    let none : None ≡ Some m = sym (not_counted r e s i fresh sound.entered) ∙ there in
+    cc)) h
+
+pub ended_says : (s : OneKernel) (p : Pid) (y : Why) → AllSay s → AllSay (with_process s p (Ended y))
+ended_says s p y h = set_says s p (Ended y) (λ i m q there from k. tt) h
+
+-- messages
+pub out_says : (s : OneKernel) (id : MsgId) → AllSay s → AllSay (without_message s id)
+out_says s id h i m q there e = h i m q (stayed s id i m there) e
+
+pub put_says : (u : OneKernel) (x : PlainMessage) → ((q : Pid) → other_end x x.what ≡ Some q → Says (u.processes x.id.from) x.id.n q x.what) → AllSay u → AllSay (with_sent u (Some x))
+put_says u x f h i m q there e = elim (came u x m i there) [
+  | inl is ↦
+      let k = f q (ap (λ (z : PlainMessage). other_end z z.what) is.0 ∙ e) in
+      subst (λ (j : MsgId). Says (u.processes j.from) j.n q m.what) is.1 (subst (λ (z : PlainMessage). Says (u.processes x.id.from) x.id.n q z.what) is.0 k)
+  | inr was ↦ h i m q was e
+]
+
+pub other_says : (u : OneKernel) (x : PlainMessage) → other_end x x.what ≡ None → AllSay u → AllSay (with_sent u (Some x))
+other_says u x none h = put_says u x (λ q e. absurd (let f : None ≡ Some q = sym none ∙ e in cc)) h
+
+pub no_end : (m : PlainMessage) (w : PlainWhat) → is_of_memory w ≡ false → is_piece w ≡ false → other_end m w ≡ None
+no_end m (what.Read base len) a b = cc
+no_end m (what.Write base bytes) a b = cc
+no_end m (what.Block bytes) a b = cc
+no_end m what.Written a b = cc
+no_end m what.Gone a b = cc
+no_end m w a b = refl
+
+-- an answer says what its request said
+status_turns : (st : PlainStatus) (n : ℕ) (q : Pid) (v w : PlainWhat) → ((base left : ℕ) → Begins base left w) → StatusSays st n q v → StatusSays st n q w
+status_turns Ready n q v w f h = tt
+status_turns (Waiting mask base size) n q v w f h = tt
+status_turns (Moving dir owner base own left pending) n q v w f h = λ e. ((h e).0, f base left)
+
+turns : (o : Option Life) (n : ℕ) (q : Pid) (v w : PlainWhat) → ((base left : ℕ) → Begins base left w) → Says o n q v → Says o n q w
+turns None n q v w f h = tt
+turns (Some (Alive x)) n q v w f h = status_turns x.status n q v w f h
+turns (Some (Ended y)) n q v w f h = tt
+
+pub answer_says : (u : OneKernel) (id : MsgId) (m : PlainMessage) (w : PlainWhat) → m.id ≡ id → Says (u.processes id.from) id.n m.to m.what → other_end (answer_to m w) w ≡ Some m.to → ((base left : ℕ) → Begins base left w) → AllSay u → AllSay (with_sent u (Some (answer_to m w)))
+answer_says u id m w name says end f h =
+    put_says u (answer_to m w)
+    (λ q e.
+    let same : Some m.to ≡ Some q = sym end ∙ e in
+    let to : m.to ≡ q = cc in
+    let k : Says (u.processes id.from) id.n m.to w = turns (u.processes id.from) id.n m.to m.what w f says in
+    subst (λ (j : MsgId). Says (u.processes j.from) j.n q w) (sym name) (subst (λ (v : Pid). Says (u.processes id.from) id.n v w) to k)) h
+
+-- a process that has sent the request for a piece
+pub record Requests (p : Pid) (m : PlainMessage) (y : PlainProcess) : Type 0 where
+  pub dir : Direction
+  pub owner : Pid
+  pub base : ℕ
+  pub own : ℕ
+  pub left : ℕ
+  pub before : PlainProcess
+  pub message : (pieces.requests p before dir owner base own left).message ≡ m
+  pub process : (pieces.requests p before dir owner base own left).process ≡ y
+
+piece_size : (own left size : ℕ) → nat_le (own + left) size ≡ true → own + piece_of left ≤ size
+piece_size own left size e = grind (arith, nat_tests)
+
+-- the request of a process whose move lies within both memories says it
+abbrev Asked : Lives → PlainMessage → PlainProcess → Type 0
+Asked ps m y = move_fits ps y y.status ≡ true → (q : Pid) → other_end m m.what ≡ Some q → Says (Some (Alive y)) m.id.n q m.what
+
+asked : (ps : Lives) (p : Pid) (z : PlainProcess) (dir : Direction) (owner : Pid) (base own left : ℕ) → Asked ps (pieces.requests p z dir owner base own left).message (pieces.requests p z dir owner base own left).process
+asked ps p z direction.FromArea owner base own left fits q e = λ n. let f : q ≡ owner = cc in (f, refl)
+asked ps p z direction.IntoArea owner base own left fits q e = λ n.
+    let f : q ≡ owner = cc in
+    let within = piece_size own left (length z.memory) (both (has_bytes (base + left) (ps owner)) (nat_le (own + left) (length z.memory)) fits).1 in
+    let a = length-take (piece_of left) (drop own z.memory) in
+    let b = length-drop own z.memory in
+    let size : length (take (piece_of left) (drop own z.memory)) ≡ piece_of left = omega (arith, a, b, within) in
+    (f, (refl, size))
+
+pub request_says : (v : OneKernel) (p : Pid) (m : PlainMessage) (y : PlainProcess) → Requests p m y → m.id.from ≡ p → KernelFits (with_sent (with_process v p (Alive y)) (Some m)) → AllSay (with_process v p (Alive y)) → AllSay (with_sent (with_process v p (Alive y)) (Some m))
+request_says v p m y w from fits h =
+    let u = with_process v p (Alive y) in
+    let at : u.processes p ≡ Some (Alive y) = set_at v p (Alive y) in
+    let move : move_fits u.processes y y.status ≡ true = (fits.processes p y at).move in
+    let first = asked u.processes p w.before w.dir w.owner w.base w.own w.left in
+    let k : Asked u.processes m y = subst (λ (z : PlainProcess). Asked u.processes m z) w.process (subst (λ (x : PlainMessage). Asked u.processes x (pieces.requests p w.before w.dir w.owner w.base w.own w.left).process) w.message first) in
+    put_says u m
+    (λ q e. subst (λ (j : Pid). Says (u.processes j) m.id.n q m.what) (sym from) (subst (λ (o : Option Life). Says o m.id.n q m.what) (sym at) (k move q e))) h

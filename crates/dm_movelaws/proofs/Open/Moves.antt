@@ -1,0 +1,118 @@
+-- The open mark among the lines of a run says in what phase a process is.
+use Rattle.std.proofs.Common.{◌≡◌, false, List, [], ◌∷◌, refl, ap, ◌∙◌, sym, subst}
+use Rattle.std.specs.declared.option.Option.{Option}
+use Rattle.std.specs.declared.option.Option.TheVariants.{None, Some}
+use Rattle.dm_link.specs.declared.Pid.{Pid}
+use Rattle.dm_message.specs.declared.kind.MessageKind.{MessageKind}
+use Rattle.dm_message.specs.declared.kind.MessageKind.TheVariants as kind
+use Rattle.dm_onekernel.specs.declared.boot.Boot.{Boot}
+use Rattle.dm_schedule.specs.declared.Step.{Step}
+use Rattle.dm_line.specs.declared.line.Line.{Line}
+use Rattle.dm_rule.specs.Laws.{Leads}
+use Rattle.dm_rule.specs.Phases.{Phase, Nowhere, Rests, Over, Moves, is_due, IsIn}
+use Rattle.dm_rule.specs.Point.{Point, first_point, after}
+use Rattle.dm_rule.specs.View.{View, first_view}
+use Rattle.dm_rule.proofs.Lines.{not_true}
+use Rattle.dm_rule.proofs.Phases.Always.{Phased, phased_start, phased_group}
+use Rattle.dm_rule.proofs.Phases.Stand.{InPhases}
+use Rattle.dm_rulelaws.specs.Order.{LeadsBy}
+use Rattle.dm_movelaws.specs.Stages.{Mark, marks, left_open}
+use Rattle.dm_movelaws.specs.Open.{open_mark, mark_by, mark_while, OpenMoves}
+use Rattle.dm_movelaws.proofs.After.{after-append, group_after}
+use Rattle.dm_movelaws.proofs.Stages.Marks.{open_after, open-append, marks-append}
+use Rattle.dm_movelaws.proofs.Stages.Spares.{mark_of, mark_in}
+use Rattle.dm_movelaws.proofs.Stages.Always.{group_marked}
+
+-- the lines of a run lead where the run leads
+pub leads_of : (b : Boot) (es : List Step) (ls : List Line) (pt end : Point) → LeadsBy b pt es ls end → Leads b pt es end
+leads_of b [] ls pt end (none, at) = at
+leads_of b (d ∷ ds) ls pt end (w, rest, fit, is, split, more) = (w, fit, is, leads_of b ds rest w.point end more)
+
+pub run_after : (b : Boot) (es : List Step) (ls : List Line) (pt end : Point) → LeadsBy b pt es ls end → after pt ls ≡ Some end
+run_after b [] ls pt end (none, at) = ap (after pt) none ∙ ap Some at
+run_after b (d ∷ ds) ls pt end (w, rest, fit, is, split, more) =
+    ap (after pt) split ∙ after-append w.lines rest pt w.point end (group_after b pt d w is) (run_after b ds rest w.point end more)
+
+-- the words of specs/ and those of proofs/ are the same
+pub open_is : (o : Option Mark) (ms : List Mark) → open_mark o ms ≡ open_after o ms
+open_is o [] = refl
+open_is o (m ∷ ms) = open_is (left_open m) ms
+
+kind_is : (k : MessageKind) → mark_of k ≡ mark_by k
+kind_is kind.Ask = refl
+kind_is kind.Refuse = refl
+kind_is kind.PullState = refl
+kind_is kind.State = refl
+kind_is kind.PullBlock = refl
+kind_is kind.Memory = refl
+kind_is kind.AllTaken = refl
+kind_is kind.Restart = refl
+kind_is kind.User = refl
+kind_is kind.Stop = refl
+kind_is kind.Resume = refl
+kind_is kind.Kill = refl
+kind_is kind.Read = refl
+kind_is kind.Write = refl
+kind_is kind.Block = refl
+kind_is kind.Written = refl
+kind_is kind.Gone = refl
+kind_is kind.Create = refl
+kind_is kind.Created = refl
+kind_is kind.NoRoom = refl
+kind_is kind.Migrate = refl
+kind_is kind.Update = refl
+kind_is kind.Move = refl
+kind_is kind.Moved = refl
+kind_is kind.CallOff = refl
+kind_is kind.Bury = refl
+
+pub mark_is : (phase : Phase) → mark_in phase ≡ mark_while phase
+mark_is Nowhere = refl
+mark_is (Rests at) = refl
+mark_is (Over at) = refl
+mark_is (Moves k s d id) = kind_is k
+
+-- between groups no message is due
+pub none_due : (v : View) (h : InPhases v) (p : Pid) → is_due (h.of p) ≡ false
+none_due v h p = not_true (is_due (h.of p)) (λ e. let f : None ≡ Some p = h.put p e in cc)
+
+-- where a run has come, with this open mark
+pub record Opened (end : Point) (p : Pid) (o : Option Mark) : Type 0 where
+  pub phased : Phased end
+  pub is : o ≡ mark_in (phased.phases.of p)
+
+pub run_open : (b : Boot) (es : List Step) (ls : List Line) (pt end : Point) (p : Pid) → LeadsBy b pt es ls end → (h : Phased pt) → Opened end p (open_after (mark_in (h.phases.of p)) (marks p ls))
+run_open b [] ls pt end p (none, at) h =
+    subst (λ (x : Point). Opened x p (open_after (mark_in (h.phases.of p)) (marks p ls))) at
+    (record { phased = h; is = ap (λ (xs : List Line). open_after (mark_in (h.phases.of p)) (marks p xs)) none })
+run_open b (d ∷ ds) ls pt end p (w, rest, fit, is, split, more) h =
+    let k = phased_group b pt d w fit is h in
+    let o = mark_in (h.phases.of p) in
+    let g = group_marked b pt d w is h p (h.phases.of p) (k.phases.of p) (h.phases.each p) (k.phases.each p) (none_due pt.view h.phases p) (none_due w.point.view k.phases p) in
+    let later = run_open b ds rest w.point end p more k in
+    record {
+      phased = later.phased;
+      is = ap (λ (xs : List Line). open_after o (marks p xs)) split ∙ ap (open_after o) (marks-append p w.lines rest) ∙ open-append o (marks p w.lines) (marks p rest)
+          ∙ ap (λ (x : Option Mark). open_after x (marks p rest)) g.1 ∙ later.is;
+    }
+
+-- nothing is told of before the first line
+pub start_mark : (b : Boot) (p : Pid) (a : Phase) → IsIn (first_view b) p a → is_due a ≡ false → mark_in a ≡ None
+start_mark b p Nowhere h due = refl
+start_mark b p (Rests at) h due = refl
+start_mark b p (Over at) h due = refl
+start_mark b p (Moves k s d None) h due = cc
+start_mark b p (Moves k s d (Some i)) h due = absurd (let e = h.token.told in cc)
+
+-- wherever the rule leads
+pub open_moves : OpenMoves
+open_moves b es ls pt p valid leads =
+    let h = phased_start b valid in
+    let none = start_mark b p (h.phases.of p) (h.phases.each p) (none_due (first_view b) h.phases p) in
+    let o = run_open b es ls (first_point b) pt p leads h in
+    let phase = o.phased.phases.of p in (
+      phase,
+      o.phased.phases.each p,
+      none_due pt.view o.phased.phases p,
+      open_is None (marks p ls) ∙ ap (λ (x : Option Mark). open_after x (marks p ls)) (sym none) ∙ o.is ∙ mark_is phase,
+    )

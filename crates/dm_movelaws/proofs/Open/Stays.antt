@@ -1,0 +1,185 @@
+-- Each line between a process's step 1 and its step 8 or `stays` is another's, and leaves its plain value.
+use Rattle.std.proofs.Common.{◌≡◌, ℕ, true, false, List, [], ◌∷◌, ◌++◌, is_some, refl, ap, ◌∙◌, sym, subst, inl, inr}
+use Rattle.std.specs.declared.option.Option.{Option}
+use Rattle.std.specs.declared.option.Option.TheVariants.{None, Some}
+use Rattle.std.proofs.lemmas.Bool.{false≢true}
+use Rattle.dm_link.specs.declared.Pid.{Pid}
+use Rattle.dm_message.specs.declared.MsgId.{MsgId}
+use Rattle.dm_message.specs.declared.kind.MessageKind.{MessageKind}
+use Rattle.dm_onekernel.specs.declared.boot.Boot.{Boot}
+use Rattle.dm_onekernel.specs.declared.label.Label.{Label}
+use Rattle.dm_onekernel.specs.Boot.{IsValid}
+use Rattle.dm_onekernel.specs.Kernel.{OneKernel}
+use Rattle.dm_onekernel.specs.Options.{bind}
+use Rattle.dm_laws.proofs.Steps.{bind-is}
+use Rattle.dm_schedule.specs.declared.Step.{Step}
+use Rattle.dm_line.specs.declared.line.Line.{Line}
+use Rattle.dm_rule.specs.Parts.{Spelled}
+use Rattle.dm_rule.specs.Phases.{Phase, Nowhere, Rests, Over, Moves, leaves, IsIn}
+use Rattle.dm_rule.specs.Point.{Point, label_of, kernel_after, moved, after_line, after, first_point}
+use Rattle.dm_rule.specs.Rule.{group_of}
+use Rattle.dm_rule.specs.View.{View, Known, Unknown, Here, Frozen, Incoming, Forward, first_view}
+use Rattle.dm_rule.specs.View as view
+use Rattle.dm_rule.proofs.Rooted.Groups.{rooted}
+use Rattle.dm_rulelaws.specs.Found.{is_fixed}
+use Rattle.dm_rulelaws.specs.Order.{LeadsBy}
+use Rattle.dm_rulelaws.proofs.Found.Core.{KnownIs}
+use Rattle.dm_rulelaws.proofs.Goes.Runs.{Both, both_start, both_group}
+use Rattle.dm_rulelaws.proofs.RunLabels.{after_replay}
+use Rattle.dm_rulelaws.proofs.Runs.{Run}
+use Rattle.dm_rulelaws.proofs.RunsAlways.{run_start, run_group}
+use Rattle.dm_movelaws.specs.Open.{IsAnothersIf, OpenStays}
+use Rattle.dm_movelaws.specs.Stages.{Mark, marks}
+use Rattle.dm_movelaws.proofs.After.{after-append, group_after}
+use Rattle.dm_movelaws.proofs.Open.Apart.{AllAlone, moving_alone, kernel_same, alone_rest, anothers_if}
+use Rattle.dm_movelaws.proofs.Open.Moves.{open_is, none_due, start_mark}
+use Rattle.dm_movelaws.proofs.Open.Quiet.{AllQuiet, group_or}
+use Rattle.dm_movelaws.proofs.Open.Spares.{source_knows, moving_lives}
+use Rattle.dm_movelaws.proofs.Stages.Always.{group_marked}
+use Rattle.dm_movelaws.proofs.Stages.Marks.{open_after, open-append, marks-append}
+use Rattle.dm_movelaws.proofs.Stages.Spares.{mark_in}
+
+-- a line behind others, from some point on
+record At (pt : Point) (earlier : List Line) (l : Line) (p : Pid) : Type 0 where
+  mid : Point
+  comes : after pt earlier ≡ Some mid
+  next : OneKernel
+  goes : kernel_after mid.kernel (label_of l) ≡ Some next
+  anothers : IsAnothersIf mid.kernel p (label_of l)
+  same : next.processes p ≡ mid.kernel.processes p
+
+-- where lines lead, the first of them do
+record Meets (pt : Point) (xs : List Line) (l : Line) : Type 0 where
+  mid : Point
+  comes : after pt xs ≡ Some mid
+  next : OneKernel
+  goes : kernel_after mid.kernel (label_of l) ≡ Some next
+
+meets : (xs ys : List Line) (l : Line) (pt end : Point) → after pt (xs ++ l ∷ ys) ≡ Some end → Meets pt xs l
+meets [] ys l pt end e =
+    let (next, first, rest) = bind-is (after_line pt l) (λ (q : Point). after q ys) end e in
+    let (s, is, last) = bind-is (kernel_after pt.kernel (label_of l)) (λ (s : OneKernel). Some (moved pt l s)) next first in
+    record { mid = pt; comes = refl; next = s; goes = is }
+meets (x ∷ xs) ys l pt end e =
+    let (next, first, rest) = bind-is (after_line pt x) (λ (q : Point). after q (xs ++ l ∷ ys)) end e in
+    let k = meets xs ys l next end rest in
+    record { mid = k.mid; comes = ap (λ (o : Option Point). bind o (λ (q : Point). after q xs)) first ∙ k.comes; next = k.next; goes = k.goes }
+
+-- a group of a process that moves
+leaves_free : (n : ℕ) (v : View) (m : ℕ) (p : Pid) (k : MessageKind) (d : ℕ) (x : Known) → leaves k d x ≡ true → KnownIs n v m p x → is_fixed p ≡ false
+leaves_free n v m p k d (Frozen to) e h = h.2
+leaves_free n v m p k d (Forward at moves) e h = h.2
+leaves_free n v m p k d Unknown e h = absurd (false≢true e)
+leaves_free n v m p k d Here e h = absurd (false≢true e)
+leaves_free n v m p k d (Incoming from) e h = absurd (false≢true e)
+leaves_free n v m p k d view.Ended e h = absurd (false≢true e)
+
+moving_at : (b : Boot) (pt : Point) (d : Step) (w : Spelled) (p : Pid) (k : MessageKind) (s t : ℕ) (id : Option MsgId) (earlier g : List Line) (l : Line) → Run b pt → IsIn pt.view p (Moves k s t id) → group_of b pt d ≡ Some w → w.lines ≡ earlier ++ l ∷ g → At pt earlier l p
+moving_at b pt d w p k s t id earlier g l run phase e split =
+    let m = meets earlier g l pt w.point (ap (after pt) (sym split) ∙ group_after b pt d w e) in
+    let phased = run.based.phased in
+    let alone = moving_alone b pt d w p k s t id (rooted pt phased.sane phased.ground) phase e in
+    let rest = alone_rest p earlier (l ∷ g) pt m.mid (subst (AllAlone p pt) split alone) m.comes in
+    let free = leaves_free pt.kernel.machines pt.view s p k t (pt.view.known s p) (source_knows k s t id (pt.view.known s p) (phase.known s)) (run.kept.known s p) in
+    record {
+      mid = m.mid;
+      comes = m.comes;
+      next = m.next;
+      goes = m.goes;
+      anothers = anothers_if m.mid.kernel m.next p (label_of l) free (λ y over. moving_lives b pt p k s t id y run phase (sym rest.same ∙ over)) rest.rest.0 m.goes;
+      same = kernel_same m.mid.kernel m.next p (label_of l) rest.rest.0 m.goes;
+    }
+
+-- a group in which a migration begins
+quiet_at : (xs ys : List Line) (l : Line) → AllQuiet (xs ++ l ∷ ys) → label_of l ≡ None
+quiet_at [] ys l h = h.0
+quiet_at (x ∷ xs) ys l h = quiet_at xs ys l h.1
+
+left_none : (xs ys : List Mark) → xs ++ ys ≡ [] → xs ≡ []
+left_none [] ys e = refl
+left_none (x ∷ xs) ys e = cc
+
+kernel_none : (s t : OneKernel) (o : Option Label) (p : Pid) → o ≡ None → kernel_after s o ≡ Some t → t.processes p ≡ s.processes p
+kernel_none s t None p none e = ap (λ (k : OneKernel). k.processes p) (let f : t ≡ s = cc in f)
+kernel_none s t (Some l) p none e = cc
+
+resting_at : (b : Boot) (pt : Point) (d : Step) (w : Spelled) (p : Pid) (earlier g : List Line) (l : Line) → group_of b pt d ≡ Some w → w.lines ≡ earlier ++ l ∷ g → is_some (open_after None (marks p earlier)) ≡ true → At pt earlier l p
+resting_at b pt d w p earlier g l e split begun = elim (group_or p b pt d w e) [
+  | inl none ↦
+      let f : marks p earlier ++ marks p (l ∷ g) ≡ [] = sym (marks-append p earlier (l ∷ g)) ∙ ap (marks p) (sym split) ∙ none in
+      absurd (false≢true (sym (ap (λ (ms : List Mark). is_some (open_after None ms)) (left_none (marks p earlier) (marks p (l ∷ g)) f)) ∙ begun))
+  | inr quiet ↦
+      let m = meets earlier g l pt w.point (ap (after pt) (sym split) ∙ group_after b pt d w e) in
+      let none = quiet_at earlier g l (subst AllQuiet split quiet) in
+      record {
+        mid = m.mid;
+        comes = m.comes;
+        next = m.next;
+        goes = m.goes;
+        anothers = subst (IsAnothersIf m.mid.kernel p) (sym none) tt;
+        same = kernel_none m.mid.kernel m.next (label_of l) p none m.goes;
+      }
+]
+
+group_at : (b : Boot) (pt : Point) (d : Step) (w : Spelled) (p : Pid) (phase : Phase) (earlier g : List Line) (l : Line) → Run b pt → IsIn pt.view p phase → group_of b pt d ≡ Some w → w.lines ≡ earlier ++ l ∷ g → is_some (open_after (mark_in phase) (marks p earlier)) ≡ true → At pt earlier l p
+group_at b pt d w p Nowhere earlier g l run h e split begun = resting_at b pt d w p earlier g l e split begun
+group_at b pt d w p (Rests at) earlier g l run h e split begun = resting_at b pt d w p earlier g l e split begun
+group_at b pt d w p (Over at) earlier g l run h e split begun = resting_at b pt d w p earlier g l e split begun
+group_at b pt d w p (Moves k s t id) earlier g l run h e split begun = moving_at b pt d w p k s t id earlier g l run h e split
+
+-- a line is among the first lines or among the others
+data Lies (xs ys earlier later : List Line) (l : Line) : Type 0 where
+  First : (g : List Line) → xs ≡ earlier ++ l ∷ g → Lies xs ys earlier later l
+  Later : (between : List Line) → earlier ≡ xs ++ between → ys ≡ between ++ l ∷ later → Lies xs ys earlier later l
+
+lies : (xs ys earlier later : List Line) (l : Line) → xs ++ ys ≡ earlier ++ l ∷ later → Lies xs ys earlier later l
+lies [] ys earlier later l e = Later earlier refl e
+lies (x ∷ xs) ys [] later l e = First xs (let f : x ≡ l = cc in ap (λ (z : Line). z ∷ xs) f)
+lies (x ∷ xs) ys (z ∷ earlier) later l e = next (lies xs ys earlier later l (let f : xs ++ ys ≡ earlier ++ l ∷ later = cc in f))
+  where
+    same : x ≡ z
+    same = cc
+
+    next : Lies xs ys earlier later l → Lies (x ∷ xs) ys (z ∷ earlier) later l
+    next (First g f) = First g (ap (λ (v : Line). v ∷ xs) same ∙ ap (λ (vs : List Line). z ∷ vs) f)
+    next (Later between f g) = Later between (ap (λ (v : Line). v ∷ earlier) (sym same) ∙ ap (λ (vs : List Line). x ∷ vs) f) g
+
+-- a run
+none_there : (earlier later : List Line) (l : Line) → [] ≡ earlier ++ l ∷ later → ⊥
+none_there [] later l e = cc
+none_there (x ∷ earlier) later l e = cc
+
+by_lies : (b : Boot) (ds : List Step) (pt end : Point) (d : Step) (w : Spelled) (rest earlier later : List Line) (l : Line) (p : Pid) (h : Both b pt) (k : Both b w.point) → group_of b pt d ≡ Some w → is_some (open_after (mark_in (h.run.based.phased.phases.of p)) (marks p earlier)) ≡ true
+    → ((between : List Line) → rest ≡ between ++ l ∷ later → is_some (open_after (mark_in (k.run.based.phased.phases.of p)) (marks p between)) ≡ true → At w.point between l p) → Lies w.lines rest earlier later l → At pt earlier l p
+by_lies b ds pt end d w rest earlier later l p h k e begun go (First g split) = group_at b pt d w p (h.run.based.phased.phases.of p) earlier g l h.run (h.run.based.phased.phases.each p) e split begun
+by_lies b ds pt end d w rest earlier later l p h k e begun go (Later between are others) =
+    let a = h.run.based.phased in
+    let c = k.run.based.phased in
+    let o = mark_in (a.phases.of p) in
+    let g = group_marked b pt d w e a p (a.phases.of p) (c.phases.of p) (a.phases.each p) (c.phases.each p) (none_due pt.view a.phases p) (none_due w.point.view c.phases p) in
+    let same : open_after o (marks p earlier) ≡ open_after (mark_in (c.phases.of p)) (marks p between) =
+    ap (λ (xs : List Line). open_after o (marks p xs)) are ∙ ap (open_after o) (marks-append p w.lines between) ∙ open-append o (marks p w.lines) (marks p between) ∙ ap (λ (x : Option Mark). open_after x (marks p between)) g.1 in
+    let at = go between others (ap is_some (sym same) ∙ begun) in
+    record {
+      mid = at.mid;
+      comes = ap (after pt) are ∙ after-append w.lines between pt w.point at.mid (group_after b pt d w e) at.comes;
+      next = at.next;
+      goes = at.goes;
+      anothers = at.anothers;
+      same = at.same;
+    }
+
+run_at : (b : Boot) (es : List Step) (ls earlier later : List Line) (l : Line) (pt end : Point) (p : Pid) → IsValid b → LeadsBy b pt es ls end → (h : Both b pt) → ls ≡ earlier ++ l ∷ later → is_some (open_after (mark_in (h.run.based.phased.phases.of p)) (marks p earlier)) ≡ true → At pt earlier l p
+run_at b [] ls earlier later l pt end p valid (none, at) h split begun = absurd (none_there earlier later l (sym none ∙ split))
+run_at b (d ∷ ds) ls earlier later l pt end p valid (w, rest, fit, is, are, more) h split begun =
+    let k : Both b w.point = both_group run_group b pt d w valid fit is h in
+    by_lies b ds pt end d w rest earlier later l p h k is begun (λ between others on. run_at b ds rest between later l w.point end p valid more k others on) (lies w.lines rest earlier later l (sym are ∙ split))
+
+-- wherever the rule leads
+pub open_stays : OpenStays
+open_stays b es ls earlier later l pt p valid leads split begun =
+    let h = both_start run_start b valid in
+    let phases = h.run.based.phased.phases in
+    let none = start_mark b p (phases.of p) (phases.each p) (none_due (first_view b) phases p) in
+    let at = run_at b es ls earlier later l (first_point b) pt p valid leads h split (ap (λ (o : Option Mark). is_some (open_after o (marks p earlier))) none ∙ ap is_some (sym (open_is None (marks p earlier))) ∙ begun) in
+    record { before = at.mid.kernel; comes = after_replay earlier (first_point b) at.mid at.comes; behind = at.next; goes = at.goes; anothers = at.anothers; same = at.same }

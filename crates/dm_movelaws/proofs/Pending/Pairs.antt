@@ -1,0 +1,212 @@
+-- Under a pending request's number there is the request or its answer: what keeps that.
+use Rattle.std.proofs.Common.{◌≡◌, ℕ, ◌<◌, ◌==◌, ◌&&◌, Bool, true, false, is_some, refl, ap, ◌∙◌, sym, subst, inl, inr, arith}
+use Rattle.std.specs.Prelude.{if◌then◌else◌, nat_lt}
+use Rattle.std.specs.declared.option.Option.{Option}
+use Rattle.std.specs.declared.option.Option.TheVariants.{None, Some}
+use Rattle.std.proofs.lemmas.Bool.{cases_Bool, false≢true}
+use Rattle.std.proofs.lemmas.Bool.Decides.{nat_tests}
+use Rattle.dm_link.specs.Names.{pid_eq}
+use Rattle.dm_message.specs.declared.MsgId.{MsgId}
+use Rattle.dm_message.specs.Ids.{id_eq, id_of, bool_eq}
+use Rattle.dm_message.specs.Plain as what
+use Rattle.dm_message.specs.Plain.{PlainMessage, PlainWhat}
+use Rattle.dm_onekernel.specs.Boot.{manager}
+use Rattle.dm_onekernel.specs.Kernel.{Pending, OneKernel, with_sent}
+use Rattle.dm_onekernel.specs.Manager as manage
+use Rattle.dm_onekernel.specs.Pieces.{answer_id, answer_to}
+use Rattle.dm_onekernel.specs.Service.{without_message, manager_took}
+use Rattle.dm_laws.proofs.Entered.{asks, counts}
+use Rattle.dm_laws.proofs.Equal.{id_eq-is, id_eq-same}
+use Rattle.dm_laws.proofs.Servers.{ServerSends}
+use Rattle.dm_laws.proofs.Sound.{Sound, not_counted}
+use Rattle.dm_rule.specs.Homes.{ascends}
+use Rattle.dm_rule.proofs.Homes.Servers.{numbered_from}
+use Rattle.dm_rule.proofs.Lines.{not_true, parts}
+use Rattle.dm_movelaws.specs.Pending.{is_pending}
+
+-- a request to make a process, and an answer to one
+abbrev pub is_create : PlainWhat → Bool
+is_create (what.Create image links) = true
+is_create w = false
+
+abbrev pub is_answer : PlainWhat → Bool
+is_answer (what.Created child) = true
+is_answer what.NoRoom = true
+is_answer w = false
+
+pub record Neither (w : PlainWhat) : Type 0 where
+  pub create : is_create w ≡ false
+  pub answer : is_answer w ≡ false
+
+pub neither : (v w : PlainWhat) → v ≡ w → is_create w ≡ false → is_answer w ≡ false → Neither v
+neither v w e c a = record { create = ap is_create e ∙ c; answer = ap is_answer e ∙ a }
+
+abbrev pub Pair : Option PlainMessage → Option PlainMessage → Type 0
+Pair (Some m) None = is_create m.what ≡ true
+Pair None (Some m) = is_answer m.what ≡ true
+Pair None None = ⊥
+Pair (Some m) (Some k) = ⊥
+
+abbrev pub answer_of : ℕ → MsgId
+answer_of n = answer_id (id_of manager n)
+
+-- each pending request has one of the two
+abbrev pub Ones : OneKernel → Type 0
+Ones s = (n : ℕ) → is_pending s n ≡ true → Pair (s.bag (id_of manager n)) (s.bag (answer_of n))
+
+-- a message of another kind is under another name
+no_request : (a b : Option PlainMessage) (m : PlainMessage) → Pair a b → a ≡ Some m → is_create m.what ≡ false → ⊥
+no_request (Some k) None m h e off = let f : k ≡ m = cc in false≢true (sym off ∙ sym (ap (λ (x : PlainMessage). is_create x.what) f) ∙ h)
+no_request (Some k) (Some j) m h e off = h
+no_request None b m h e off = cc
+
+no_answer : (a b : Option PlainMessage) (m : PlainMessage) → Pair a b → b ≡ Some m → is_answer m.what ≡ false → ⊥
+no_answer None (Some k) m h e off = let f : k ≡ m = cc in false≢true (sym off ∙ sym (ap (λ (x : PlainMessage). is_answer x.what) f) ∙ h)
+no_answer (Some j) (Some k) m h e off = h
+no_answer None None m h e off = h
+no_answer (Some j) None m h e off = cc
+
+pub off_request : (s : OneKernel) (n : ℕ) (id : MsgId) (m : PlainMessage) → Ones s → is_pending s n ≡ true → s.bag id ≡ Some m → is_create m.what ≡ false → id_eq id (id_of manager n) ≡ false
+off_request s n id m h p there off =
+    not_true (id_eq id (id_of manager n)) (λ e. no_request (s.bag (id_of manager n)) (s.bag (answer_of n)) m (h n p) (sym (ap s.bag (id_eq-is id (id_of manager n) e)) ∙ there) off)
+
+off_answer : (s : OneKernel) (n : ℕ) (id : MsgId) (m : PlainMessage) → Ones s → is_pending s n ≡ true → s.bag id ≡ Some m → is_answer m.what ≡ false → id_eq id (answer_of n) ≡ false
+off_answer s n id m h p there off =
+    not_true (id_eq id (answer_of n)) (λ e. no_answer (s.bag (id_of manager n)) (s.bag (answer_of n)) m (h n p) (sym (ap s.bag (id_eq-is id (answer_of n) e)) ∙ there) off)
+
+-- under a number two kernels have the same
+pub record Same (s t : OneKernel) (n : ℕ) : Type 0 where
+  pub was : is_pending s n ≡ true
+  pub request : t.bag (id_of manager n) ≡ s.bag (id_of manager n)
+  pub answer : t.bag (answer_of n) ≡ s.bag (answer_of n)
+
+pub by_same : (s t : OneKernel) (n : ℕ) → Ones s → Same s t n → Pair (t.bag (id_of manager n)) (t.bag (answer_of n))
+by_same s t n h k =
+    subst (λ (o : Option PlainMessage). Pair o (t.bag (answer_of n))) (sym k.request) (subst (λ (o : Option PlainMessage). Pair (s.bag (id_of manager n)) o) (sym k.answer) (h n k.was))
+
+-- a message goes, or enters under another name
+abbrev pub Off : MsgId → ℕ → Type 0
+Off i n = (id_eq i (id_of manager n) ≡ false) × (id_eq i (answer_of n) ≡ false)
+
+out_at : (s : OneKernel) (id i : MsgId) → id_eq id i ≡ false → (without_message s id).bag i ≡ s.bag i
+out_at s id i e = ap (λ (c : Bool). if c then None else s.bag i) e
+
+in_at : (u : OneKernel) (x : PlainMessage) (i : MsgId) → id_eq x.id i ≡ false → (with_sent u (Some x)).bag i ≡ u.bag i
+in_at u x i e = ap (λ (c : Bool). if c then Some x else u.bag i) e
+
+pub off_both : (s : OneKernel) (n : ℕ) (id : MsgId) (m : PlainMessage) → Ones s → is_pending s n ≡ true → s.bag id ≡ Some m → Neither m.what → Off id n
+off_both s n id m h p there w = (off_request s n id m h p there w.create, off_answer s n id m h p there w.answer)
+
+pub out_ones : (s : OneKernel) (id : MsgId) (m : PlainMessage) → s.bag id ≡ Some m → Neither m.what → Ones s → Ones (without_message s id)
+out_ones s id m there w h n p =
+    let off = off_both s n id m h p there w in
+    by_same s (without_message s id) n h (record { was = p; request = out_at s id (id_of manager n) off.0; answer = out_at s id (answer_of n) off.1 })
+
+pub put_ones : (u : OneKernel) (x : PlainMessage) → ((n : ℕ) → is_pending u n ≡ true → Off x.id n) → Ones u → Ones (with_sent u (Some x))
+put_ones u x off h n p = by_same u (with_sent u (Some x)) n h (record { was = p; request = in_at u x (id_of manager n) (off n p).0; answer = in_at u x (answer_of n) (off n p).1 })
+
+-- names
+pub from_other : (i : MsgId) (n : ℕ) → pid_eq i.from manager ≡ false → Off i n
+from_other i n e = (ap (λ (c : Bool). (c && (i.n == n)) && bool_eq i.answer false) e, ap (λ (c : Bool). (c && (i.n == n)) && bool_eq i.answer true) e)
+
+pub and_false : (c : Bool) → (c && false) ≡ false
+and_false true = refl
+and_false false = refl
+
+pub answer_off : (id : MsgId) (n : ℕ) → id.answer ≡ false → id_eq id (id_of manager n) ≡ false → Off (answer_id id) n
+answer_off id n asked off = (and_false (pid_eq id.from manager && (id.n == n)), sym (ap (λ (a : Bool). (pid_eq id.from manager && (id.n == n)) && bool_eq a false) asked) ∙ off)
+
+off_by : (i j : MsgId) (n : ℕ) → i ≡ j → Off j n → Off i n
+off_by i j n e h = subst (λ (k : MsgId). Off k n) (sym e) h
+
+-- a message is answered that is no request to make a process
+pub answered_ones : (r e : MsgId → ℕ) (s u t : OneKernel) (id : MsgId) (m : PlainMessage) (w : PlainWhat) → with_sent u (Some (answer_to m w)) ≡ t → ((n : ℕ) → is_pending u n ≡ true → is_pending s n ≡ true) → s.bag id ≡ Some m → asks m.what ≡ true → is_create m.what ≡ false → Sound r e s → Ones s → Ones u → Ones t
+answered_ones r e s u t id m w is up there asked off h ones on =
+    let name : (answer_to m w).id ≡ answer_id id = ap answer_id (h.entered.named id m there) in
+    subst Ones is (put_ones u (answer_to m w) (λ n p. off_by (answer_to m w).id (answer_id id) n name (answer_off id n (h.entered.requests id m there asked) (off_request s n id m ones (up n p) there off))) on)
+
+-- a request to make a process is answered
+made_pair : (id : MsgId) (n : ℕ) (s u : OneKernel) (x : PlainMessage) → ((i : MsgId) → u.bag i ≡ (without_message s id).bag i) → x.id ≡ answer_id id → is_answer x.what ≡ true → id_eq id (id_of manager n) ≡ true → Pair ((with_sent u (Some x)).bag (id_of manager n)) ((with_sent u (Some x)).bag (answer_of n))
+made_pair id n s u x same name answers here =
+    let t = with_sent u (Some x) in
+    let q = id_of manager n in
+    let apart : id_eq x.id q ≡ false = ap (λ (i : MsgId). id_eq i q) name ∙ and_false (pid_eq id.from manager && (id.n == n)) in
+    let none : t.bag q ≡ None = in_at u x q apart ∙ same q ∙ ap (λ (c : Bool). if c then None else s.bag q) here in
+    let both : (pid_eq id.from manager && (id.n == n)) ≡ true = (parts (pid_eq id.from manager && (id.n == n)) (bool_eq id.answer false) here).0 in
+    let at : id_eq x.id (answer_of n) ≡ true = ap (λ (i : MsgId). id_eq i (answer_of n)) name ∙ ap (λ (c : Bool). c && true) both in
+    let some : t.bag (answer_of n) ≡ Some x = ap (λ (c : Bool). if c then Some x else u.bag (answer_of n)) at in
+    subst (λ (o : Option PlainMessage). Pair o (t.bag (answer_of n))) (sym none) (subst (λ (o : Option PlainMessage). Pair None o) (sym some) answers)
+
+pub made_ones : (r e : MsgId → ℕ) (s u t : OneKernel) (id : MsgId) (m : PlainMessage) (w : PlainWhat) → with_sent u (Some (answer_to m w)) ≡ t → ((i : MsgId) → u.bag i ≡ (without_message s id).bag i) → ((n : ℕ) → is_pending u n ≡ true → is_pending s n ≡ true) → s.bag id ≡ Some m → asks m.what ≡ true → is_answer w ≡ true
+    → Sound r e s → Ones s → Ones t
+made_ones r e s u t id m w is same up there asked answers h ones =
+    let x = answer_to m w in
+    let name : x.id ≡ answer_id id = ap answer_id (h.entered.named id m there) in
+    let asking : id.answer ≡ false = h.entered.requests id m there asked in
+    let of : (n : ℕ) → is_pending u n ≡ true → Pair ((with_sent u (Some x)).bag (id_of manager n)) ((with_sent u (Some x)).bag (answer_of n)) = λ n p.
+    elim (cases_Bool (id_eq id (id_of manager n))) [
+      | inl here ↦ made_pair id n s u x same name answers here
+      | inr apart ↦
+          let off = off_by x.id (answer_id id) n name (answer_off id n asking apart) in
+          let out : id_eq id (answer_of n) ≡ false = ap (λ (a : Bool). (pid_eq id.from manager && (id.n == n)) && bool_eq a true) asking ∙ and_false (pid_eq id.from manager && (id.n == n)) in
+          by_same s (with_sent u (Some x)) n ones
+          (record {
+            was = up n p;
+            request = in_at u x (id_of manager n) off.0 ∙ same (id_of manager n) ∙ out_at s id (id_of manager n) apart;
+            answer = in_at u x (answer_of n) off.1 ∙ same (answer_of n) ∙ out_at s id (answer_of n) out;
+          })
+    ] in
+    subst Ones is of
+
+-- what the manager sends is under its next number
+sent_name : (o : Option PlainMessage) (n after : ℕ) (x : PlainMessage) → ServerSends manager n o after → o ≡ Some x → x.id ≡ id_of manager n
+sent_name None n after x h e = cc
+sent_name (Some y) n after x h e = let f : y ≡ x = cc in sym (ap (λ (z : PlainMessage). z.id) f) ∙ h.0
+
+own_off : (sent n : ℕ) → n < sent → Off (id_of manager sent) n
+own_off sent n less =
+    let e : (sent == n) ≡ false = grind (arith, nat_tests) in (
+      ap (λ (c : Bool). (pid_eq manager manager && c) && true) e,
+      and_false (pid_eq manager manager && (sent == n)),
+    )
+
+pending_some : (s : OneKernel) (n : ℕ) (o : Option Pending) → manage.pending_numbered n s.manager.pending ≡ o → is_some o ≡ true → ascends 0 s.manager.pending s.manager.sent ≡ true → n < s.manager.sent
+pending_some s n None is p up = absurd (false≢true p)
+pending_some s n (Some r) is p up = let k = (numbered_from s.manager.pending 0 s.manager.sent n r up is).1 in grind (arith, nat_tests)
+
+pub pending_less : (s : OneKernel) (n : ℕ) → is_pending s n ≡ true → ascends 0 s.manager.pending s.manager.sent ≡ true → n < s.manager.sent
+pending_less s n p up = pending_some s n (manage.pending_numbered n s.manager.pending) refl p up
+
+took_at : (s u : OneKernel) (id i : MsgId) (o : Option PlainMessage) → u.bag i ≡ (without_message s id).bag i → id_eq id i ≡ false → ((x : PlainMessage) → o ≡ Some x → id_eq x.id i ≡ false) → (with_sent u o).bag i ≡ s.bag i
+took_at s u id i None same off put = same ∙ out_at s id i off
+took_at s u id i (Some x) same off put = in_at u x i (put x refl) ∙ same ∙ out_at s id i off
+
+-- the manager takes a message: a request that was pending has what it had
+pub took_pair : (s : OneKernel) (id : MsgId) (k : manage.Took) (n : ℕ) → ServerSends manager s.manager.sent k.message k.manager.sent → ascends 0 s.manager.pending s.manager.sent ≡ true → is_pending s n ≡ true → Off id n → Ones s
+    → Pair ((manager_took s id k).bag (id_of manager n)) ((manager_took s id k).bag (answer_of n))
+took_pair s id k n sends up p off h =
+    let u = record (without_message s id) { manager = k.manager } in
+    let less = pending_less s n p up in
+    let own = own_off s.manager.sent n less in
+    let name : (x : PlainMessage) → k.message ≡ Some x → Off x.id n = λ x e. off_by x.id (id_of manager s.manager.sent) n (sent_name k.message s.manager.sent k.manager.sent x sends e) own in
+    by_same s (manager_took s id k) n h
+    (record { was = p; request = took_at s u id (id_of manager n) k.message refl off.0 (λ x e. (name x e).0); answer = took_at s u id (answer_of n) k.message refl off.1 (λ x e. (name x e).1) })
+
+-- it asks for a process: the request is the new one's
+none_out : (s : OneKernel) (id i : MsgId) (c : Bool) → s.bag i ≡ None → (if c then None else s.bag i) ≡ None
+none_out s id i true e = refl
+none_out s id i false e = e
+
+pub asked_pair : (r e : MsgId → ℕ) (s : OneKernel) (id : MsgId) (k : manage.Took) (x : PlainMessage) → k.message ≡ Some x → x.id ≡ id_of manager s.manager.sent → is_create x.what ≡ true → Sound r e s
+    → Pair ((manager_took s id k).bag (id_of manager s.manager.sent)) ((manager_took s id k).bag (answer_of s.manager.sent))
+asked_pair r e s id k x sends name creates h =
+    let u = record (without_message s id) { manager = k.manager } in
+    let q = id_of manager s.manager.sent in
+    let a = answer_of s.manager.sent in
+    let fresh : counts s a ≡ false = (let z : nat_lt s.manager.sent s.manager.sent ≡ false = grind (arith, nat_tests) in z) in
+    let before : s.bag a ≡ None = not_counted r e s a fresh h.entered in
+    let here : (with_sent u (Some x)).bag q ≡ Some x = ap (λ (c : Bool). if c then Some x else u.bag q) (ap (λ (i : MsgId). id_eq i q) name ∙ id_eq-same q) in
+    let apart : id_eq x.id a ≡ false = ap (λ (i : MsgId). id_eq i a) name ∙ and_false (pid_eq manager manager && (s.manager.sent == s.manager.sent)) in
+    let none : (with_sent u (Some x)).bag a ≡ None = in_at u x a apart ∙ none_out s id a (id_eq id a) before in
+    let pair : Pair ((with_sent u (Some x)).bag q) ((with_sent u (Some x)).bag a) = subst (λ (o : Option PlainMessage). Pair o ((with_sent u (Some x)).bag a)) (sym here) (subst (λ (o : Option PlainMessage). Pair (Some x) o) (sym none) creates) in
+    subst (λ (o : Option PlainMessage). Pair ((with_sent u o).bag q) ((with_sent u o).bag a)) (sym sends) pair

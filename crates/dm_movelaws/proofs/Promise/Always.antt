@@ -1,0 +1,125 @@
+-- Each update that is under way keeps its promise: where all is at rest, the links that its receiver hasn't filled since lead to
+-- where the process is that it is about.
+use Rattle.std.proofs.Common.{◌≡◌, ℕ, ◌+◌, ◌<◌, ◌≤◌, true, List, [], ◌∷◌, ◌++◌, length, refl, ap, ◌∙◌, sym, arith}
+use Rattle.std.specs.Prelude.{slice_get}
+use Rattle.std.specs.declared.option.Option.{Option}
+use Rattle.std.specs.declared.option.Option.TheVariants.{Some}
+use Rattle.std.proofs.lemmas.Option.{slice_get_within}
+use Rattle.dm_link.specs.declared.Pid.{Pid}
+use Rattle.dm_link.specs.Names.{Place}
+use Rattle.dm_message.specs.declared.MsgId.{MsgId}
+use Rattle.dm_onekernel.specs.declared.boot.Boot.{Boot}
+use Rattle.dm_onekernel.specs.Boot.{IsValid}
+use Rattle.dm_onekernel.specs.Kernel.{OneKernel}
+use Rattle.dm_laws.proofs.Equal.{pid_eq-same}
+use Rattle.dm_schedule.specs.declared.Step.{Step}
+use Rattle.dm_line.specs.declared.line.Line.TheVariants as line
+use Rattle.dm_rule.specs.Addresses.{Slot, belongs_to, leads_to}
+use Rattle.dm_rule.specs.Laws.{Leads}
+use Rattle.dm_rule.specs.Point.{Point, first_point}
+use Rattle.dm_rule.specs.Trails.{Trails}
+use Rattle.dm_rule.specs.View.{Told, About, is_kernels}
+use Rattle.dm_rule.specs.View as view
+use Rattle.dm_rulelaws.proofs.Based.Always.{based_group, based_always}
+use Rattle.dm_rulelaws.proofs.Runs.{Based}
+use Rattle.dm_movelaws.specs.AtRest.{AtRest, AtRestAlways}
+use Rattle.dm_movelaws.specs.Promise.{update_of, Promised, PromisesAlways}
+use Rattle.dm_movelaws.specs.Updates.{Updated, UpdatesAlways}
+use Rattle.dm_movelaws.proofs.At.RestAlways.{at_rest_always}
+use Rattle.dm_movelaws.proofs.Updates.Always.{updates_always}
+use Rattle.dm_movelaws.proofs.Promise.Trail.{OnTrail, TrailKnown}
+use Rattle.dm_movelaws.proofs.Trail.Known.{trail_known}
+use Rattle.dm_movelaws.proofs.Promise.Kept.{Grounds, lines_before, lines_told}
+use Rattle.dm_movelaws.proofs.Promise.Spots.{Stands}
+use Rattle.dm_movelaws.proofs.Promise.Groups.{update_own}
+use Rattle.dm_movelaws.proofs.After.{group_after}
+use Rattle.dm_movelaws.proofs.Promise.Finds.{lines_by, leads_append, Handles, find_handled}
+
+same_place : (a b : Place) → a.at ≡ b.at → a.moves ≡ b.moves → a ≡ b
+same_place a b e f = λ i. record { at = e i; moves = f i }
+
+same_some : (m n : ℕ) → Some m ≡ Some n → m ≡ n
+same_some m n e = cc
+
+-- what the record of the update says is what was told
+same_told : (t u : Told) (o : Option Told) → o ≡ Some t → o ≡ Some u → t ≡ u
+same_told t u o e f = let g : Some t ≡ Some u = sym e ∙ f in cc
+
+about_process : (p q : Pid) (a b m n : ℕ) → view.Place p a m ≡ view.Place q b n → p ≡ q
+about_process p q a b m n e = cc
+
+about_moves : (p q : Pid) (a b m n : ℕ) → view.Place p a m ≡ view.Place q b n → m ≡ n
+about_moves p q a b m n e = cc
+
+-- where the group that handles it leads, each link of its receiver's to the process knows as many moves
+raised_at : (at next : Point) (id : MsgId) (n : ℕ) (p q : Pid) (place : Place) (k : ℕ) → Updated at next id n → at.view.told id ≡ Some (update_of p q place) → leads_to next.kernel (Slot p k) ≡ Some q → place.moves ≤ (next.addresses (Slot p k)).moves
+raised_at at next id n p q place k u told leads =
+    let same : u.told ≡ update_of p q place = same_told u.told (update_of p q place) (at.view.told id) u.is told in
+    let about : view.Place u.process u.place.at u.place.moves ≡ view.Place q place.at place.moves = sym u.about ∙ ap (λ (t : Told). t.about) same in
+    let process : u.process ≡ q = about_process u.process q u.place.at place.at u.place.moves place.moves about in
+    let moves : u.place.moves ≡ place.moves = about_moves u.process q u.place.at place.at u.place.moves place.moves about in
+    let mine : belongs_to u.told.receiver (Slot p k) ≡ true = ap (λ (t : Told). belongs_to t.receiver (Slot p k)) same ∙ pid_eq-same p in
+    let led : leads_to at.kernel (Slot p k) ≡ Some u.process = ap (λ (s : OneKernel). leads_to s (Slot p k)) (sym u.kernel) ∙ leads ∙ ap Some (sym process) in
+    let least = u.raised (Slot p k) mine led in
+    omega (arith, moves, least)
+
+-- and where all is at rest, it names the place that the update told
+kept_place : (pt : Point) (t : Trails) (id : MsgId) (p q : Pid) (place : Place) (k : ℕ) → OnTrail pt t → AtRest pt → pt.view.told id ≡ Some (update_of p q place) → pt.view.moves q ≡ place.moves → leads_to pt.kernel (Slot p k) ≡ Some q → place.moves ≤ (pt.addresses (Slot p k)).moves
+    → pt.addresses (Slot p k) ≡ place
+kept_place pt t id p q place k on rest told same leads least =
+    let a = pt.addresses (Slot p k) in
+    let there : slice_get (t q) a.moves ≡ Some a.at = on.addresses (Slot p k) q leads in
+    let less : a.moves < length (t q) = slice_get_within (t q) a.moves a.at there in
+    let long : length (t q) ≡ pt.view.moves q + 1 = on.long q (λ m. rest.still m q) in
+    let moves : a.moves ≡ place.moves = omega (arith, least, less, long, same) in
+    let said : slice_get (t q) place.moves ≡ Some place.at = on.about id (update_of p q place) q place.at place.moves told refl in
+    same_place a place (same_some a.at place.at (sym there ∙ ap (slice_get (t q)) moves ∙ said)) moves
+
+grounds_of : (b : Boot) (pt : Point) → Based b pt → Grounds pt.kernel
+grounds_of b pt h = record { r = h.phased.sane.r; e = h.phased.sane.e; sound = h.phased.sane.sound; pending = h.pending }
+
+promised_by : UpdatesAlways → TrailKnown → (b : Boot) (before between : List Step) (told pt : Point) (id : MsgId) (p q : Pid) (place : Place) → IsValid b → Leads b (first_point b) before told → Leads b (first_point b) (before ++ between) pt → AtRest pt
+    → told.view.told id ≡ Some (update_of p q place) → Handles b told pt between id → Promised b told pt between id p q place
+promised_by updates trail b before between told pt id p q place valid comes all rest is h =
+    let first : Leads b (first_point b) (before ++ h.early) h.handled = leads_append b before h.early (first_point b) told h.handled comes h.comes in
+    let early = lines_by b h.early told h.handled h.comes in
+    let told_handled : h.handled.view.told id ≡ Some (update_of p q place) = lines_told early.lines told h.handled id (update_of p q place) early.leads is in
+    let told_group : h.group.point.view.told id ≡ Some (update_of p q place) = lines_told h.group.lines h.handled h.group.point id (update_of p q place) (group_after b h.handled h.directive h.group h.is) told_handled in
+    let late = lines_by b h.late h.group.point pt h.rest in
+    let told_end : pt.view.told id ≡ Some (update_of p q place) = lines_told late.lines h.group.point pt id (update_of p q place) late.leads told_group in
+    let grounds = grounds_of b h.group.point (based_group b h.handled h.directive h.group h.fit h.is (based_always b (before ++ h.early) h.handled valid first)) in
+    let update = (updates b (before ++ h.early) h.handled h.directive h.group id h.count (line.Head h.directive ∷ []) [] valid first h.is h.says).1 in
+    let (t, on) = trail b (before ++ between) pt valid all in
+    record {
+      early = h.early;
+      directive = h.directive;
+      late = h.late;
+      are = h.are;
+      handled = h.handled;
+      comes = h.comes;
+      group = h.group;
+      is = h.is;
+      count = h.count;
+      says = h.says;
+      lines = late.lines;
+      goes = late.goes;
+      place_kept = λ k same unfilled leads.
+          let was = lines_before late.lines h.group.point pt p q k (pt.addresses (Slot p k)).moves late.leads grounds unfilled (record { leads = leads; fewer = omega arith }) in
+          let least = raised_at h.handled h.group.point id h.count p q place k update told_handled was.leads in
+          let fewer = was.fewer in
+          kept_place pt t id p q place k on rest told_end same leads (omega (arith, least, fewer));
+    }
+
+-- wherever the rule leads
+pub promises_by : UpdatesAlways → AtRestAlways → TrailKnown → PromisesAlways
+promises_by updates rests trail b before between told pt id p q place valid comes way leads quiet =
+    let all = leads_append b before between (first_point b) told pt comes leads in
+    let rest = rests b (before ++ between) pt valid all quiet in
+    let phased = (based_always b before told valid comes).phased in
+    let stands : Stands told.view id = record { spot = way.spot; least = way.stands } in
+    let own = update_own told id (update_of p q place) (told.kernel.bag id) refl refl way.told stands phased in
+    promised_by updates trail b before between told pt id p q place valid comes all rest way.told
+    (find_handled b between told pt id p q place leads phased way.told stands (λ z. rest.own id z own))
+
+pub promises_always : PromisesAlways
+promises_always = promises_by updates_always at_rest_always trail_known

@@ -1,0 +1,252 @@
+-- As long as no line gives a slot an address, its address doesn't come to know fewer moves; and what was told stays.
+use Rattle.std.proofs.Common.{◌≡◌, ℕ, ◌+◌, ◌≤◌, ◌&&◌, nat_lt, Bool, true, false, List, [], ◌∷◌, ◌++◌, refl, ap, ◌∙◌, sym, subst, inl, inr, arith}
+use Rattle.std.specs.Prelude.{if◌then◌else◌}
+use Rattle.std.specs.declared.option.Option.{Option}
+use Rattle.std.specs.declared.option.Option.TheVariants.{None, Some}
+use Rattle.std.proofs.lemmas.Bool.{cases_Bool}
+use Rattle.std.proofs.lemmas.Bool.Decides.{nat_tests}
+use Rattle.dm_link.specs.declared.Pid.{Pid}
+use Rattle.dm_link.specs.Names.{Place}
+use Rattle.dm_message.specs.declared.MsgId.{MsgId}
+use Rattle.dm_message.specs.declared.kind.MessageKind.{MessageKind}
+use Rattle.dm_message.specs.declared.kind.MessageKind.TheVariants as kind
+use Rattle.dm_message.specs.Ids.{id_eq}
+use Rattle.dm_onekernel.specs.declared.label.Label.{Label}
+use Rattle.dm_onekernel.specs.Kernel.{OneKernel}
+use Rattle.dm_laws.specs.Laws.{entry, reception}
+use Rattle.dm_laws.proofs.Equal.{id_eq-is}
+use Rattle.dm_laws.proofs.Runs.{after_step}
+use Rattle.dm_laws.proofs.Sound.{Sound}
+use Rattle.dm_laws.proofs.Steps.{bind-is}
+use Rattle.dm_line.specs.declared.line.Line.{Line}
+use Rattle.dm_line.specs.declared.line.Line.TheVariants as line
+use Rattle.dm_rule.specs.View.{View, Told, view_after}
+use Rattle.dm_rule.specs.View as view
+use Rattle.dm_rule.specs.Addresses.{Addresses, Holder, Slot, Gets, given, gives, forwards, tells_back, all_follow, first_gives, own_gives, is_told_back, is_behind, is_pid, belongs_to, leads_to, updated, updated_to, place_told, addresses_after}
+use Rattle.dm_rule.specs.Homes.{ascends}
+use Rattle.dm_rule.specs.Point.{Point, label_of, kernel_after, after_line, after, moved}
+use Rattle.dm_rule.proofs.Lines.{parts}
+use Rattle.dm_rule.proofs.Hushed.{hushed}
+use Rattle.dm_rule.proofs.Phases.Lines.{put_at}
+use Rattle.dm_rule.proofs.States.{put_told_off}
+use Rattle.dm_movelaws.specs.Counts.{gives_to}
+use Rattle.dm_movelaws.specs.Promise.{fills, Unfilled}
+use Rattle.dm_movelaws.proofs.Promise.Before.{not_given, step_pending, led_before}
+
+-- what was told stays
+first_kept : (o : Option Told) (u t : Told) → o ≡ Some t → Some (view.first_told o u) ≡ Some t
+first_kept None u t e = cc
+first_kept (Some s) u t e = e
+
+put_told : (v : View) (a b : ℕ) (i j : MsgId) (k : MessageKind) (q : Pid) (t : Told) → v.told j ≡ Some t → (view.after_put v a b i k q).told j ≡ Some t
+put_told v a b i j k q t e = elim (cases_Bool (id_eq i j)) [
+  | inl same ↦
+      let is : i ≡ j = id_eq-is i j same in
+      subst (λ (x : MsgId). (view.after_put v a b i k q).told x ≡ Some t) is
+      (put_at v a b i k q ∙ first_kept (v.told i) (record { kind = k; receiver = q; about = v.topic }) t (ap v.told is ∙ e))
+  | inr apart ↦ put_told_off v a b i j k q apart ∙ e
+]
+
+pub told_stays : (v : View) (l : Line) (j : MsgId) (t : Told) → v.told j ≡ Some t → (view_after v l).told j ≡ Some t
+told_stays v (line.Put a b i k q) j t e = put_told v a b i j k q t e
+told_stays v (line.Label x) j t e = ap (λ (f : MsgId → Option Told). f j) (hushed v (line.Label x) refl).told ∙ e
+told_stays v (line.Forwarded id m) j t e = ap (λ (f : MsgId → Option Told). f j) (hushed v (line.Forwarded id m) refl).told ∙ e
+told_stays v (line.SentOn r n) j t e = ap (λ (f : MsgId → Option Told). f j) (hushed v (line.SentOn r n) refl).told ∙ e
+told_stays v (line.Updated id n) j t e = ap (λ (f : MsgId → Option Told). f j) (hushed v (line.Updated id n) refl).told ∙ e
+told_stays v (line.Head d) j t e = ap (λ (f : MsgId → Option Told). f j) (hushed v (line.Head d) refl).told ∙ e
+told_stays v (line.Idle m) j t e = ap (λ (f : MsgId → Option Told). f j) (hushed v (line.Idle m) refl).told ∙ e
+told_stays v (line.Packet from to c y) j t e = ap (λ (f : MsgId → Option Told). f j) (hushed v (line.Packet from to c y) refl).told ∙ e
+told_stays v (line.Taken from to n) j t e = ap (λ (f : MsgId → Option Told). f j) (hushed v (line.Taken from to n) refl).told ∙ e
+told_stays v (line.Old from to n) j t e = ap (λ (f : MsgId → Option Told). f j) (hushed v (line.Old from to n) refl).told ∙ e
+told_stays v (line.Early from to n) j t e = ap (λ (f : MsgId → Option Told). f j) (hushed v (line.Early from to n) refl).told ∙ e
+told_stays v (line.Acked from to n) j t e = ap (λ (f : MsgId → Option Told). f j) (hushed v (line.Acked from to n) refl).told ∙ e
+told_stays v line.Nothing j t e = ap (λ (f : MsgId → Option Told). f j) (hushed v line.Nothing refl).told ∙ e
+told_stays v (line.Resent m n) j t e = ap (λ (f : MsgId → Option Told). f j) (hushed v (line.Resent m n) refl).told ∙ e
+told_stays v (line.Queued id) j t e = ap (λ (f : MsgId → Option Told). f j) (hushed v (line.Queued id) refl).told ∙ e
+told_stays v (line.Held id) j t e = ap (λ (f : MsgId → Option Told). f j) (hushed v (line.Held id) refl).told ∙ e
+told_stays v (line.Migration st r) j t e = ap (λ (f : MsgId → Option Told). f j) (hushed v (line.Migration st r) refl).told ∙ e
+told_stays v (line.Lacks r f c) j t e = ap (λ (f : MsgId → Option Told). f j) (hushed v (line.Lacks r f c) refl).told ∙ e
+told_stays v (line.Stays r) j t e = ap (λ (f : MsgId → Option Told). f j) (hushed v (line.Stays r) refl).told ∙ e
+told_stays v (line.Here id) j t e = ap (λ (f : MsgId → Option Told). f j) (hushed v (line.Here id) refl).told ∙ e
+told_stays v (line.NoMove id) j t e = ap (λ (f : MsgId → Option Told). f j) (hushed v (line.NoMove id) refl).told ∙ e
+told_stays v (line.Proto id) j t e = ap (λ (f : MsgId → Option Told). f j) (hushed v (line.Proto id) refl).told ∙ e
+told_stays v (line.NoChild r) j t e = ap (λ (f : MsgId → Option Told). f j) (hushed v (line.NoChild r) refl).told ∙ e
+told_stays v (line.Pinned r) j t e = ap (λ (f : MsgId → Option Told). f j) (hushed v (line.Pinned r) refl).told ∙ e
+
+-- a slot's address
+same_address : (a : Addresses) (p : Pid) (k : ℕ) (gs : List Gets) → gives_to (Slot p k) gs ≡ false → (a (Slot p k)).moves ≤ (given a gs (Slot p k)).moves
+same_address a p k gs e = let f : (given a gs (Slot p k)).moves ≡ (a (Slot p k)).moves = ap (λ (x : Place). x.moves) (not_given a (Slot p k) gs e) in omega (arith, f)
+
+back_spares : (v : View) (a : Addresses) (id : MsgId) (c : Bool) (p : Pid) (k : ℕ) → gives_to (Slot p k) (tells_back v a id c) ≡ false
+back_spares v a id true p k = refl
+back_spares v a id false p k = refl
+
+forwards_spare : (v : View) (a : Addresses) (id : MsgId) (o : Option Told) (p : Pid) (k : ℕ) → gives_to (Slot p k) (forwards v a id o) ≡ false
+forwards_spare v a id None p k = refl
+forwards_spare v a id (Some t) p k = back_spares v a id (is_told_back t.kind) p k
+
+follow_spares : (v : View) (a : Addresses) (r : Pid) (ids : List MsgId) (p : Pid) (k : ℕ) → gives_to (Slot p k) (all_follow v a r ids) ≡ false
+follow_spares v a r [] p k = refl
+follow_spares v a r (i ∷ is) p k = follow_spares v a r is p k
+
+own_spares : (s : OneKernel) (v : View) (a : Addresses) (id : MsgId) (q : Pid) (c : MessageKind) (p : Pid) (k : ℕ) → gives_to (Slot p k) (own_gives s v a id q c) ≡ false
+own_spares s v a id q kind.Ask p k = refl
+own_spares s v a id q kind.Refuse p k = refl
+own_spares s v a id q kind.PullState p k = refl
+own_spares s v a id q kind.State p k = refl
+own_spares s v a id q kind.PullBlock p k = refl
+own_spares s v a id q kind.Memory p k = refl
+own_spares s v a id q kind.AllTaken p k = refl
+own_spares s v a id q kind.Restart p k = refl
+own_spares s v a id q kind.User p k = refl
+own_spares s v a id q kind.Stop p k = refl
+own_spares s v a id q kind.Resume p k = refl
+own_spares s v a id q kind.Kill p k = refl
+own_spares s v a id q kind.Read p k = refl
+own_spares s v a id q kind.Write p k = refl
+own_spares s v a id q kind.Block p k = refl
+own_spares s v a id q kind.Written p k = refl
+own_spares s v a id q kind.Gone p k = refl
+own_spares s v a id q kind.Create p k = refl
+own_spares s v a id q kind.Created p k = refl
+own_spares s v a id q kind.NoRoom p k = refl
+own_spares s v a id q kind.Migrate p k = refl
+own_spares s v a id q kind.Update p k = refl
+own_spares s v a id q kind.Move p k = refl
+own_spares s v a id q kind.Moved p k = refl
+own_spares s v a id q kind.CallOff p k = refl
+own_spares s v a id q kind.Bury p k = refl
+
+first_spares : (o : Option Told) (gs : List Gets) (p : Pid) (k : ℕ) → gives_to (Slot p k) gs ≡ false → gives_to (Slot p k) (first_gives o gs) ≡ false
+first_spares None gs p k e = e
+first_spares (Some t) gs p k e = refl
+
+less_than : (m n : ℕ) → nat_lt m n ≡ true → m ≤ n
+less_than m n e = grind (arith, nat_tests)
+
+raised_by : (a : Place) (b : Place) (c : Bool) → (c ≡ true → nat_lt a.moves b.moves ≡ true) → a.moves ≤ (if c then b else a).moves
+raised_by a b true h = less_than a.moves b.moves (h refl)
+raised_by a b false h = omega arith
+
+updated_grows : (s : OneKernel) (a : Addresses) (q : Pid) (o : Option (Pid × Place)) (h : Holder) → (a h).moves ≤ (updated_to s a (Some q) o h).moves
+updated_grows s a q None h = omega arith
+updated_grows s a q (Some t) h =
+    raised_by (a h) t.1 (is_behind s a q t.0 t.1.moves h)
+    (λ e. (parts (is_pid t.0 (leads_to s h)) (nat_lt (a h).moves t.1.moves) (parts (belongs_to q h) (is_pid t.0 (leads_to s h) && nat_lt (a h).moves t.1.moves) e).1).1)
+
+told_grows : (s : OneKernel) (v : View) (a : Addresses) (o : Option Told) (h : Holder) → (a h).moves ≤ (updated s v a o h).moves
+told_grows s v a None h = omega arith
+told_grows s v a (Some t) h = updated_grows s a t.receiver (place_told t.about) h
+
+moves_grow : (pt : Point) (l : Line) (p : Pid) (k : ℕ) → fills pt (Slot p k) l ≡ false → (pt.addresses (Slot p k)).moves ≤ (addresses_after pt.kernel pt.view pt.addresses l (Slot p k)).moves
+moves_grow pt (line.Label x) p k e = same_address pt.addresses p k (gives pt.kernel pt.view pt.addresses x) e
+moves_grow pt (line.Forwarded id m) p k e = same_address pt.addresses p k (forwards pt.view pt.addresses id (pt.view.told id)) (forwards_spare pt.view pt.addresses id (pt.view.told id) p k)
+moves_grow pt (line.SentOn r n) p k e =
+    let ids = pt.view.queue pt.view.acting r ++ pt.view.held pt.view.acting r in
+    same_address pt.addresses p k (all_follow pt.view pt.addresses r ids) (follow_spares pt.view pt.addresses r ids p k)
+moves_grow pt (line.Updated id n) p k e = told_grows pt.kernel pt.view pt.addresses (pt.view.told id) (Slot p k)
+moves_grow pt (line.Put from to id c q) p k e =
+    let gs = own_gives pt.kernel pt.view pt.addresses id q c in
+    same_address pt.addresses p k (first_gives (pt.view.told id) gs) (first_spares (pt.view.told id) gs p k (own_spares pt.kernel pt.view pt.addresses id q c p k))
+moves_grow pt (line.Head d) p k e = omega arith
+moves_grow pt (line.Idle m) p k e = omega arith
+moves_grow pt (line.Packet from to c y) p k e = omega arith
+moves_grow pt (line.Taken from to n) p k e = omega arith
+moves_grow pt (line.Old from to n) p k e = omega arith
+moves_grow pt (line.Early from to n) p k e = omega arith
+moves_grow pt (line.Acked from to n) p k e = omega arith
+moves_grow pt line.Nothing p k e = omega arith
+moves_grow pt (line.Resent m n) p k e = omega arith
+moves_grow pt (line.Queued id) p k e = omega arith
+moves_grow pt (line.Held id) p k e = omega arith
+moves_grow pt (line.Migration st r) p k e = omega arith
+moves_grow pt (line.Lacks r f c) p k e = omega arith
+moves_grow pt (line.Stays r) p k e = omega arith
+moves_grow pt (line.Here id) p k e = omega arith
+moves_grow pt (line.NoMove id) p k e = omega arith
+moves_grow pt (line.Proto id) p k e = omega arith
+moves_grow pt (line.NoChild r) p k e = omega arith
+moves_grow pt (line.Pinned r) p k e = omega arith
+
+-- what each line needs of the kernel, and keeps
+pub record Grounds (s : OneKernel) : Type 0 where
+  pub r : MsgId → ℕ
+  pub e : MsgId → ℕ
+  pub sound : Sound r e s
+  pub pending : ascends 0 s.manager.pending s.manager.sent ≡ true
+
+-- where the slot led before, and how many moves its address knew
+pub record Before (pt : Point) (p q : Pid) (k moves : ℕ) : Type 0 where
+  pub leads : leads_to pt.kernel (Slot p k) ≡ Some q
+  pub fewer : (pt.addresses (Slot p k)).moves ≤ moves
+
+grounds_by : (s t : OneKernel) (v : View) (o : Option Label) → kernel_after s o ≡ Some t → Grounds s → Grounds t
+grounds_by s t v None is h = let f : s ≡ t = cc in subst Grounds f h
+grounds_by s t v (Some x) is h = record {
+  r = λ i. h.r i + reception i x;
+  e = λ i. h.e i + entry i s t;
+  sound = (after_step h.r h.e s t x is h.sound).sound;
+  pending = step_pending s t v x is h.sound.entered.named h.pending;
+}
+
+led_by : (pt : Point) (t : OneKernel) (l : Line) (o : Option Label) (p q : Pid) (k : ℕ) → label_of l ≡ o → kernel_after pt.kernel o ≡ Some t → Grounds pt.kernel → ((x : Label) → o ≡ Some x → gives_to (Slot p k) (gives pt.kernel pt.view pt.addresses x) ≡ false) → leads_to t (Slot p k) ≡ Some q
+    → leads_to pt.kernel (Slot p k) ≡ Some q
+led_by pt t l None p q k of is h spared leads = let f : pt.kernel ≡ t = cc in ap (λ (s : OneKernel). leads_to s (Slot p k)) f ∙ leads
+led_by pt t l (Some x) p q k of is h spared leads = led_before pt.kernel t pt.view pt.addresses x p q k is h.sound.entered.named h.pending (spared x refl) leads
+
+spared_by : (pt : Point) (l : Line) (p : Pid) (k : ℕ) (x : Label) → label_of l ≡ Some x → fills pt (Slot p k) l ≡ false → gives_to (Slot p k) (gives pt.kernel pt.view pt.addresses x) ≡ false
+spared_by pt (line.Label y) p k x of e = let f : y ≡ x = cc in ap (λ (z : Label). gives_to (Slot p k) (gives pt.kernel pt.view pt.addresses z)) (sym f) ∙ e
+spared_by pt (line.Forwarded id m) p k x of e = cc
+spared_by pt (line.SentOn r n) p k x of e = cc
+spared_by pt (line.Updated id n) p k x of e = cc
+spared_by pt (line.Put from to id c q) p k x of e = cc
+spared_by pt (line.Head d) p k x of e = cc
+spared_by pt (line.Idle m) p k x of e = cc
+spared_by pt (line.Packet from to c y) p k x of e = cc
+spared_by pt (line.Taken from to n) p k x of e = cc
+spared_by pt (line.Old from to n) p k x of e = cc
+spared_by pt (line.Early from to n) p k x of e = cc
+spared_by pt (line.Acked from to n) p k x of e = cc
+spared_by pt line.Nothing p k x of e = cc
+spared_by pt (line.Resent m n) p k x of e = cc
+spared_by pt (line.Queued id) p k x of e = cc
+spared_by pt (line.Held id) p k x of e = cc
+spared_by pt (line.Migration st r) p k x of e = cc
+spared_by pt (line.Lacks r f c) p k x of e = cc
+spared_by pt (line.Stays r) p k x of e = cc
+spared_by pt (line.Here id) p k x of e = cc
+spared_by pt (line.NoMove id) p k x of e = cc
+spared_by pt (line.Proto id) p k x of e = cc
+spared_by pt (line.NoChild r) p k x of e = cc
+spared_by pt (line.Pinned r) p k x of e = cc
+
+line_before : (pt next : Point) (l : Line) (p q : Pid) (k moves : ℕ) → after_line pt l ≡ Some next → Grounds pt.kernel → fills pt (Slot p k) l ≡ false → Before next p q k moves → Before pt p q k moves
+line_before pt next l p q k moves is h e before =
+    let (s, comes, last) = bind-is (kernel_after pt.kernel (label_of l)) (λ s. Some (moved pt l s)) next is in
+    let f : moved pt l s ≡ next = cc in
+    let was : Before (moved pt l s) p q k moves = subst (λ (x : Point). Before x p q k moves) (sym f) before in
+    let grows = moves_grow pt l p k e in
+    let fewer = was.fewer in
+    record { leads = led_by pt s l (label_of l) p q k refl comes h (λ x of. spared_by pt l p k x of e) was.leads; fewer = omega (arith, grows, fewer) }
+
+line_grounds : (pt next : Point) (l : Line) → after_line pt l ≡ Some next → Grounds pt.kernel → Grounds next.kernel
+line_grounds pt next l is h =
+    let (s, comes, last) = bind-is (kernel_after pt.kernel (label_of l)) (λ s. Some (moved pt l s)) next is in
+    let f : moved pt l s ≡ next = cc in
+    subst (λ (x : Point). Grounds x.kernel) f (grounds_by pt.kernel s pt.view (label_of l) comes h)
+
+-- through lines none of which gives the slot an address
+pub lines_before : (ls : List Line) (pt end : Point) (p q : Pid) (k moves : ℕ) → after pt ls ≡ Some end → Grounds pt.kernel → Unfilled pt (Slot p k) ls → Before end p q k moves → Before pt p q k moves
+lines_before [] pt end p q k moves is h none before = let f : pt ≡ end = cc in subst (λ (x : Point). Before x p q k moves) (sym f) before
+lines_before (l ∷ ls) pt end p q k moves is h none before =
+    let (mid, first, rest) = bind-is (after_line pt l) (λ (next : Point). after next ls) end is in
+    line_before pt mid l p q k moves first h none.0 (lines_before ls mid end p q k moves rest (line_grounds pt mid l first h) (none.1 mid first) before)
+
+-- what was told stays through lines
+pub lines_told : (ls : List Line) (pt end : Point) (j : MsgId) (t : Told) → after pt ls ≡ Some end → pt.view.told j ≡ Some t → end.view.told j ≡ Some t
+lines_told [] pt end j t is e = let f : pt ≡ end = cc in ap (λ (x : Point). x.view.told j) (sym f) ∙ e
+lines_told (l ∷ ls) pt end j t is e =
+    let (mid, first, rest) = bind-is (after_line pt l) (λ (next : Point). after next ls) end is in
+    let (s, comes, last) = bind-is (kernel_after pt.kernel (label_of l)) (λ s. Some (moved pt l s)) mid first in
+    let f : moved pt l s ≡ mid = cc in
+    lines_told ls mid end j t rest (ap (λ (x : Point). x.view.told j) (sym f) ∙ told_stays pt.view l j t e)

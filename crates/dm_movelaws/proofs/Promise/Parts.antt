@@ -1,0 +1,334 @@
+-- A walk over the parts of a turn that leaves a kernel's own message standing somewhere.
+use Rattle.std.proofs.Common.{◌≡◌, ◌⊎◌, ℕ, ◌≤◌, ◌==◌, ◌&&◌, Bool, true, false, List, [], ◌∷◌, ◌++◌, length, refl, ap, ◌∙◌, sym, subst, inl, inr, arith}
+use Rattle.std.specs.Prelude.{⊤, if◌then◌else◌}
+use Rattle.std.specs.declared.option.Option.{Option}
+use Rattle.std.specs.declared.option.Option.TheVariants.{None, Some}
+use Rattle.std.proofs.lemmas.Bool.{cases_Bool, false≢true}
+use Rattle.dm_link.specs.declared.Pid.{Pid}
+use Rattle.dm_message.specs.declared.MsgId.{MsgId}
+use Rattle.dm_message.specs.declared.kind.MessageKind.{MessageKind}
+use Rattle.dm_message.specs.Kinds.{plain_kind}
+use Rattle.dm_message.specs.Ids.{id_eq}
+use Rattle.dm_onekernel.specs.Options.{bind}
+use Rattle.dm_laws.proofs.Equal.{id_eq-is, id_eq-same}
+use Rattle.dm_laws.proofs.Steps.{bind-is}
+use Rattle.dm_line.specs.declared.line.Line.{Line}
+use Rattle.dm_line.specs.declared.line.Line.TheVariants as line
+use Rattle.dm_line.specs.declared.line.Load.{Load}
+use Rattle.dm_line.specs.declared.line.Load.TheVariants as load
+use Rattle.dm_line.specs.declared.line.Stage.TheVariants as stage
+use Rattle.dm_rule.specs.View.{View, Told, is_kernels, own_id, view_after}
+use Rattle.dm_rule.specs.Addresses.{Receiver}
+use Rattle.dm_rule.specs.Point.{Point, label_of, kernel_after, after, moved}
+use Rattle.dm_rule.specs.Parts.{Part, Says, Routes, Again, Owns, Transmits, Spelled, lines_of, puts, goes_out, packet_line, behind, spelled}
+use Rattle.dm_rule.specs.Spots.{times}
+use Rattle.dm_rule.specs.Migrating.{sends_on}
+use Rattle.dm_rule.proofs.Hushed.{is_put}
+use Rattle.dm_rule.proofs.Lines.{not_true, parts}
+use Rattle.dm_rule.proofs.Once.{one_of}
+use Rattle.dm_rule.proofs.Pairs.Lines.{touches, pair_same}
+use Rattle.dm_rule.proofs.Said.{fits_as}
+use Rattle.dm_rule.proofs.States.{PairsFit}
+use Rattle.dm_rule.proofs.Moves.Sent.{fits_put, fits_packet}
+use Rattle.dm_rule.proofs.Telling.{Sane, Sayable, part_sane}
+use Rattle.dm_rulelaws.proofs.Based.Needs.{Steps, said_by}
+use Rattle.dm_movelaws.proofs.Promise.Kept.{lines_told}
+use Rattle.dm_movelaws.proofs.Promise.Spots.{Stands, Spares, line_stands}
+use Rattle.dm_movelaws.proofs.Promise.Stands.{label_stands, put_this, put_stands, packet_stands}
+
+-- a kernel's own message that was told of
+pub record Base (j : MsgId) (t : Told) (pt : Point) : Type 0 where
+  pub sane : Sane pt
+  pub fits : PairsFit pt.view
+  pub own : is_kernels j ≡ true
+  pub told : pt.view.told j ≡ Some t
+
+abbrev pub NeedsPart : MsgId → Point → Part → Type 0
+NeedsPart j pt (Says l) = Spares j pt.view l
+NeedsPart j pt (Routes i) = ⊤
+NeedsPart j pt (Again i b) = ⊤
+NeedsPart j pt (Owns k q b) = ⊤
+NeedsPart j pt (Transmits a b l) = ⊤
+
+-- parts that need nothing
+abbrev pub is_loose_line : Line → Bool
+is_loose_line (line.Label l) = true
+is_loose_line (line.Idle m) = true
+is_loose_line (line.Old a b n) = true
+is_loose_line line.Nothing = true
+is_loose_line (line.Resent m n) = true
+is_loose_line (line.NoChild p) = true
+is_loose_line (line.Pinned p) = true
+is_loose_line (line.Migration stage.Asked p) = true
+is_loose_line (line.Migration stage.Left p) = true
+is_loose_line (line.Queued i) = false
+is_loose_line (line.Held i) = false
+is_loose_line (line.Forwarded i m) = false
+is_loose_line (line.Updated i n) = false
+is_loose_line (line.Here i) = false
+is_loose_line (line.NoMove i) = false
+is_loose_line (line.Proto i) = false
+is_loose_line (line.Migration stage.Frozen p) = false
+is_loose_line (line.Migration stage.Accepted p) = false
+is_loose_line (line.Migration stage.StateTaken p) = false
+is_loose_line (line.Migration stage.MemoryTaken p) = false
+is_loose_line (line.Migration stage.Restarted p) = false
+is_loose_line (line.Lacks p a b) = false
+is_loose_line (line.Stays p) = false
+is_loose_line (line.Early a b n) = false
+is_loose_line (line.Acked a b n) = false
+is_loose_line (line.SentOn p n) = false
+is_loose_line (line.Head s) = false
+is_loose_line (line.Put a b i k q) = false
+is_loose_line (line.Packet a b k l) = false
+is_loose_line (line.Taken a b n) = false
+
+abbrev pub is_loose : Part → Bool
+is_loose (Says l) = is_loose_line l
+is_loose (Routes i) = true
+is_loose (Again i b) = true
+is_loose (Owns k q b) = true
+is_loose (Transmits a b l) = true
+
+abbrev pub all_loose : List Part → Bool
+all_loose [] = true
+all_loose (p ∷ ps) = is_loose p && all_loose ps
+
+line_loose : (j : MsgId) (v : View) (l : Line) → is_loose_line l ≡ true → Spares j v l
+line_loose j v (line.Label l) e = tt
+line_loose j v (line.Idle m) e = tt
+line_loose j v (line.Old a b n) e = tt
+line_loose j v line.Nothing e = tt
+line_loose j v (line.Resent m n) e = tt
+line_loose j v (line.NoChild p) e = tt
+line_loose j v (line.Pinned p) e = tt
+line_loose j v (line.Migration stage.Asked p) e = tt
+line_loose j v (line.Migration stage.Left p) e = tt
+line_loose j v (line.Queued i) e = absurd (false≢true e)
+line_loose j v (line.Held i) e = absurd (false≢true e)
+line_loose j v (line.Forwarded i m) e = absurd (false≢true e)
+line_loose j v (line.Updated i n) e = absurd (false≢true e)
+line_loose j v (line.Here i) e = absurd (false≢true e)
+line_loose j v (line.NoMove i) e = absurd (false≢true e)
+line_loose j v (line.Proto i) e = absurd (false≢true e)
+line_loose j v (line.Migration stage.Frozen p) e = absurd (false≢true e)
+line_loose j v (line.Migration stage.Accepted p) e = absurd (false≢true e)
+line_loose j v (line.Migration stage.StateTaken p) e = absurd (false≢true e)
+line_loose j v (line.Migration stage.MemoryTaken p) e = absurd (false≢true e)
+line_loose j v (line.Migration stage.Restarted p) e = absurd (false≢true e)
+line_loose j v (line.Lacks p a b) e = absurd (false≢true e)
+line_loose j v (line.Stays p) e = absurd (false≢true e)
+line_loose j v (line.Early a b n) e = absurd (false≢true e)
+line_loose j v (line.Acked a b n) e = absurd (false≢true e)
+line_loose j v (line.SentOn p n) e = absurd (false≢true e)
+line_loose j v (line.Head s) e = absurd (false≢true e)
+line_loose j v (line.Put a b i k q) e = absurd (false≢true e)
+line_loose j v (line.Packet a b k l) e = absurd (false≢true e)
+line_loose j v (line.Taken a b n) e = absurd (false≢true e)
+
+part_loose : (j : MsgId) (pt : Point) (p : Part) → is_loose p ≡ true → NeedsPart j pt p
+part_loose j pt (Says l) e = line_loose j pt.view l e
+part_loose j pt (Routes i) e = tt
+part_loose j pt (Again i b) e = tt
+part_loose j pt (Owns k q b) e = tt
+part_loose j pt (Transmits a b l) e = tt
+
+spares_quiet : (j : MsgId) (v : View) (l : Line) → Spares j v l → (touches l ≡ false) × (is_put l ≡ false)
+spares_quiet j v (line.Label l) e = (refl, refl)
+spares_quiet j v (line.Idle m) e = (refl, refl)
+spares_quiet j v (line.Old a b n) e = (refl, refl)
+spares_quiet j v line.Nothing e = (refl, refl)
+spares_quiet j v (line.Resent m n) e = (refl, refl)
+spares_quiet j v (line.NoChild p) e = (refl, refl)
+spares_quiet j v (line.Pinned p) e = (refl, refl)
+spares_quiet j v (line.Migration stage.Asked p) e = (refl, refl)
+spares_quiet j v (line.Migration stage.Left p) e = (refl, refl)
+spares_quiet j v (line.Queued i) e = (refl, refl)
+spares_quiet j v (line.Held i) e = (refl, refl)
+spares_quiet j v (line.Forwarded i m) e = (refl, refl)
+spares_quiet j v (line.Updated i n) e = (refl, refl)
+spares_quiet j v (line.Here i) e = (refl, refl)
+spares_quiet j v (line.NoMove i) e = (refl, refl)
+spares_quiet j v (line.Proto i) e = (refl, refl)
+spares_quiet j v (line.Migration stage.Frozen p) e = (refl, refl)
+spares_quiet j v (line.Migration stage.Accepted p) e = (refl, refl)
+spares_quiet j v (line.Migration stage.StateTaken p) e = (refl, refl)
+spares_quiet j v (line.Migration stage.MemoryTaken p) e = (refl, refl)
+spares_quiet j v (line.Migration stage.Restarted p) e = (refl, refl)
+spares_quiet j v (line.Lacks p a b) e = (refl, refl)
+spares_quiet j v (line.Stays p) e = (refl, refl)
+spares_quiet j v (line.Early a b n) e = absurd e
+spares_quiet j v (line.Acked a b n) e = absurd e
+spares_quiet j v (line.SentOn p n) e = absurd e
+spares_quiet j v (line.Head s) e = absurd e
+spares_quiet j v (line.Put a b i k q) e = absurd e
+spares_quiet j v (line.Packet a b k l) e = absurd e
+spares_quiet j v (line.Taken a b n) e = absurd e
+
+-- a put and its packet
+puts_by : (Q : Point → Type 0) → ((x : Point) (a b n : ℕ) (l : Load) → Q x → Q (moved x (line.Packet a b n l) x.kernel)) → (pt next : Point) (b : ℕ) (i : MsgId) (k : MessageKind) (q : Pid) (c d : Bool) → Q (moved pt (line.Put pt.view.acting b i k q) pt.kernel)
+    → after pt (line.Put pt.view.acting b i k q ∷ (if c then [] else if d then packet_line pt.view pt.view.acting b (load.Data (length (pt.view.pair pt.view.acting b).ids)) ∷ [] else [])) ≡ Some next → Q next
+puts_by Q keep pt next b i k q true d h is = let f : moved pt (line.Put pt.view.acting b i k q) pt.kernel ≡ next = cc in subst Q f h
+puts_by Q keep pt next b i k q false false h is = let f : moved pt (line.Put pt.view.acting b i k q) pt.kernel ≡ next = cc in subst Q f h
+puts_by Q keep pt next b i k q false true h is =
+    let n = length (pt.view.pair pt.view.acting b).wire in
+    let l = load.Data (length (pt.view.pair pt.view.acting b).ids) in
+    let mid = moved pt (line.Put pt.view.acting b i k q) pt.kernel in
+    let f : moved mid (line.Packet pt.view.acting b n l) mid.kernel ≡ next = cc in
+    subst Q f (keep mid pt.view.acting b n l h)
+
+puts_keep : (Q : Point → Type 0) → ((x : Point) (a b n : ℕ) (l : Load) → Q x → Q (moved x (line.Packet a b n l) x.kernel)) → (pt next : Point) (b : ℕ) (i : MsgId) (k : MessageKind) (q : Pid) (ls : List Line) → Q (moved pt (line.Put pt.view.acting b i k q) pt.kernel)
+    → Some (puts pt.view b i k q) ≡ Some ls → after pt ls ≡ Some next → Q next
+puts_keep Q keep pt next b i k q ls h is leads =
+    let f : puts pt.view b i k q ≡ ls = cc in
+    puts_by Q keep pt next b i k q (pt.view.acting == b) (goes_out (pt.view.pair pt.view.acting b)) h (ap (after pt) f ∙ leads)
+
+-- pairs that fit
+puts_fit : (pt next : Point) (b : ℕ) (i : MsgId) (k : MessageKind) (q : Pid) (ls : List Line) → PairsFit pt.view → Some (puts pt.view b i k q) ≡ Some ls → after pt ls ≡ Some next → PairsFit next.view
+puts_fit pt next b i k q ls h is leads = puts_keep (λ x. PairsFit x.view) (λ x a c n l f. fits_packet x.view a c n l f) pt next b i k q ls (fits_put pt.view pt.view.acting b i k q h) is leads
+
+says_fit : (pt next : Point) (l : Line) → touches l ≡ false → PairsFit pt.view → Steps pt (Says l) next → PairsFit next.view
+says_fit pt next l quiet h s =
+    let k = said_by pt next l s in
+    subst (λ (x : Point). PairsFit x.view) k.is (fits_as pt.view (view_after pt.view l) (pair_same pt.view l quiet) h)
+
+sent_fit : (pt next : Point) (a b : ℕ) (l : Load) → PairsFit pt.view → Steps pt (Transmits a b l) next → PairsFit next.view
+sent_fit pt next a b l h s =
+    let k = said_by pt next (packet_line pt.view a b l) (record { lines = s.lines; are = s.are; leads = s.leads }) in
+    subst (λ (x : Point). PairsFit x.view) k.is (fits_packet pt.view a b (length (pt.view.pair a b).wire) l h)
+
+part_fits : (j : MsgId) (pt next : Point) (p : Part) → NeedsPart j pt p → PairsFit pt.view → Steps pt p next → PairsFit next.view
+part_fits j pt next (Says l) need h s = says_fit pt next l (spares_quiet j pt.view l need).0 h s
+part_fits j pt next (Routes i) need h s =
+    let (m, there, last) = bind-is (pt.kernel.bag i) (λ m. Some (puts pt.view (pt.addresses (Receiver i)).at i (plain_kind m.what) m.to)) s.lines s.are in
+    puts_fit pt next (pt.addresses (Receiver i)).at i (plain_kind m.what) m.to s.lines h last s.leads
+part_fits j pt next (Again i b) need h s =
+    let (t, there, last) = bind-is (pt.view.told i) (λ t. Some (puts pt.view b i t.kind t.receiver)) s.lines s.are in
+    puts_fit pt next b i t.kind t.receiver s.lines h last s.leads
+part_fits j pt next (Owns k q b) need h s = puts_fit pt next b (own_id pt.view) k q s.lines h s.are s.leads
+part_fits j pt next (Transmits a b l) need h s = sent_fit pt next a b l h s
+
+part_says : (j : MsgId) (pt : Point) (p : Part) → NeedsPart j pt p → Sayable p
+part_says j pt (Says l) need = (spares_quiet j pt.view l need).1
+part_says j pt (Routes i) need = tt
+part_says j pt (Again i b) need = tt
+part_says j pt (Owns k q b) need = tt
+part_says j pt (Transmits a b l) need = tt
+
+base_on : (j : MsgId) (t : Told) (pt next : Point) (p : Part) → Sayable p → PairsFit next.view → Base j t pt → Steps pt p next → Base j t next
+base_on j t pt next p ok fits h s = record {
+  sane = part_sane pt next p s.lines ok s.are s.leads h.sane;
+  fits = fits;
+  own = h.own;
+  told = lines_told s.lines pt next j t s.leads h.told;
+}
+
+-- a line that touches no pair
+pub base_says : (j : MsgId) (t : Told) (pt next : Point) (l : Line) → touches l ≡ false → is_put l ≡ false → Base j t pt → Steps pt (Says l) next → Base j t next
+base_says j t pt next l quiet ok h s = base_on j t pt next (Says l) ok (says_fit pt next l quiet h.fits s) h s
+
+part_base : (j : MsgId) (t : Told) (pt next : Point) (p : Part) → NeedsPart j pt p → Base j t pt → Steps pt p next → Base j t next
+part_base j t pt next p need h s = base_on j t pt next p (part_says j pt p need) (part_fits j pt next p need h.fits s) h s
+
+-- and it stands
+puts_stand : (j : MsgId) (pt next : Point) (b : ℕ) (i : MsgId) (k : MessageKind) (q : Pid) (ls : List Line) → PairsFit pt.view → Stands pt.view j → Some (puts pt.view b i k q) ≡ Some ls → after pt ls ≡ Some next → Stands next.view j
+puts_stand j pt next b i k q ls fits h is leads =
+    puts_keep (λ x. Stands x.view j) (λ x a c n l f. packet_stands x.view a c n l j f) pt next b i k q ls (put_stands pt.view pt.view.acting b i k q j fits h) is leads
+
+line_on : (j : MsgId) (pt next : Point) (l : Line) → Spares j pt.view l → Sane pt → is_kernels j ≡ true → Stands pt.view j → Steps pt (Says l) next → Stands next.view j
+line_on j pt next l need sane own h s =
+    let k = said_by pt next l s in
+    subst (λ (x : Point). Stands x.view j) k.is
+    (line_stands pt.view j l need
+    (λ x is. subst (λ (y : Line). Stands (view_after pt.view y) j) (sym is)
+    (label_stands pt k.kernel x j sane (ap (λ (y : Line). kernel_after pt.kernel (label_of y)) (sym is) ∙ k.step) own h)) h)
+
+part_stands : (j : MsgId) (t : Told) (pt next : Point) (p : Part) → NeedsPart j pt p → Base j t pt → Stands pt.view j → Steps pt p next → Stands next.view j
+part_stands j t pt next (Says l) need base h s = line_on j pt next l need base.sane base.own h s
+part_stands j t pt next (Routes i) need base h s =
+    let (m, there, last) = bind-is (pt.kernel.bag i) (λ m. Some (puts pt.view (pt.addresses (Receiver i)).at i (plain_kind m.what) m.to)) s.lines s.are in
+    puts_stand j pt next (pt.addresses (Receiver i)).at i (plain_kind m.what) m.to s.lines base.fits h last s.leads
+part_stands j t pt next (Again i b) need base h s =
+    let (u, there, last) = bind-is (pt.view.told i) (λ t. Some (puts pt.view b i t.kind t.receiver)) s.lines s.are in
+    puts_stand j pt next b i u.kind u.receiver s.lines base.fits h last s.leads
+part_stands j t pt next (Owns k q b) need base h s = puts_stand j pt next b (own_id pt.view) k q s.lines base.fits h s.are s.leads
+part_stands j t pt next (Transmits a b l) need base h s =
+    let k = said_by pt next (packet_line pt.view a b l) (record { lines = s.lines; are = s.are; leads = s.leads }) in
+    subst (λ (x : Point). Stands x.view j) k.is (packet_stands pt.view a b (length (pt.view.pair a b).wire) l j h)
+
+-- the message itself is put again
+pub again_this : (j : MsgId) (t : Told) (pt next : Point) (b : ℕ) → Base j t pt → Steps pt (Again j b) next → Stands next.view j
+again_this j t pt next b base s =
+    let (u, there, last) = bind-is (pt.view.told j) (λ t. Some (puts pt.view b j t.kind t.receiver)) s.lines s.are in
+    puts_keep (λ x. Stands x.view j) (λ x a c n l f. packet_stands x.view a c n l j f) pt next b j u.kind u.receiver s.lines (put_this pt.view pt.view.acting b j u.kind u.receiver base.fits) last s.leads
+
+-- the first part, and what is spelled behind it
+pub record Next (pt : Point) (p : Part) (ps : List Part) (w : Spelled) : Type 0 where
+  pub next : Point
+  pub steps : Steps pt p next
+  pub rest : Spelled
+  pub more : spelled next ps ≡ Some rest
+  pub lines : steps.lines ++ rest.lines ≡ w.lines
+  pub point : rest.point ≡ w.point
+
+pub next_of : (pt : Point) (p : Part) (ps : List Part) (w : Spelled) → spelled pt (p ∷ ps) ≡ Some w → Next pt p ps w
+next_of pt p ps w is =
+    let (ls, are, rest) = bind-is (lines_of pt p) (λ (xs : List Line). bind (after pt xs) (λ (q : Point). bind (spelled q ps) (λ (z : Spelled). Some (behind xs z)))) w is in
+    let (next, leads, last) = bind-is (after pt ls) (λ (q : Point). bind (spelled q ps) (λ (z : Spelled). Some (behind ls z))) w rest in
+    let (z, more, end) = bind-is (spelled next ps) (λ (y : Spelled). Some (behind ls y)) w last in
+    let f : behind ls z ≡ w = cc in
+    record { next = next; steps = record { lines = ls; are = are; leads = leads }; rest = z; more = more; lines = ap (λ (x : Spelled). x.lines) f; point = ap (λ (x : Spelled). x.point) f }
+
+-- it stands somewhere behind the parts, or they say that it was handled, and nothing else
+abbrev pub Ends : MsgId → Spelled → Type 0
+Ends j w = Stands w.point.view j ⊎ ((n : ℕ) × (w.lines ≡ line.Updated j n ∷ []))
+
+abbrev pub Goes : MsgId → Point → List Part → Type 0
+Goes j pt ps = (w : Spelled) → spelled pt ps ≡ Some w → Ends j w
+
+abbrev pub GoesOf : MsgId → Point → Option (List Part) → Type 0
+GoesOf j pt None = ⊤
+GoesOf j pt (Some ps) = Goes j pt ps
+
+pub loose_stands : (ps : List Part) (j : MsgId) (t : Told) (pt : Point) (w : Spelled) → all_loose ps ≡ true → Base j t pt → Stands pt.view j → spelled pt ps ≡ Some w → Stands w.point.view j
+loose_stands [] j t pt w e base h is = let f : record { lines = []; point = pt } ≡ w = cc in subst (λ (x : Spelled). Stands x.point.view j) f h
+loose_stands (p ∷ ps) j t pt w e base h is =
+    let both = parts (is_loose p) (all_loose ps) e in
+    let n = next_of pt p ps w is in
+    let need = part_loose j pt p both.0 in
+    subst (λ (x : Point). Stands x.view j) n.point (loose_stands ps j t n.next n.rest both.1 (part_base j t pt n.next p need base n.steps) (part_stands j t pt n.next p need base h n.steps) n.more)
+
+pub first_goes : (j : MsgId) (t : Told) (pt : Point) (p : Part) (ps : List Part) → NeedsPart j pt p → all_loose ps ≡ true → Base j t pt → Stands pt.view j → Goes j pt (p ∷ ps)
+first_goes j t pt p ps need e base h w is =
+    let n = next_of pt p ps w is in
+    inl (subst (λ (x : Point). Stands x.view j) n.point (loose_stands ps j t n.next n.rest e (part_base j t pt n.next p need base n.steps) (part_stands j t pt n.next p need base h n.steps) n.more))
+
+pub loose_goes : (j : MsgId) (t : Told) (pt : Point) (ps : List Part) → all_loose ps ≡ true → Base j t pt → Stands pt.view j → Goes j pt ps
+loose_goes j t pt ps e base h w is = inl (loose_stands ps j t pt w e base h is)
+
+-- messages that go on: it stands somewhere, or is one of those that still go
+apart_rest : (j i : MsgId) (is : List MsgId) → id_eq i j ≡ false → 1 ≤ times j (i ∷ is) → 1 ≤ times j is
+apart_rest j i is e least =
+    let f : id_eq j i ≡ false = not_true (id_eq j i) (λ g. false≢true (sym e ∙ ap (λ (x : MsgId). id_eq x j) (sym (id_eq-is j i g)) ∙ id_eq-same j)) in
+    let z : one_of j i ≡ 0 = ap (λ (c : Bool). if c then 1 else 0) f in
+    omega (arith, least, z)
+
+again_as : (i j : MsgId) (t : Told) (pt next : Point) (b : ℕ) → i ≡ j → Base j t pt → Steps pt (Again i b) next → Stands next.view j
+again_as i j t pt next b e base s = again_this j t pt next b base (subst (λ (x : MsgId). Steps pt (Again x b) next) e s)
+
+pub sends_stand : (ids : List MsgId) (j : MsgId) (t : Told) (to : ℕ) (ps : List Part) (pt : Point) (w : Spelled) → all_loose ps ≡ true → Base j t pt → Stands pt.view j ⊎ (1 ≤ times j ids) → spelled pt (sends_on to ids ++ ps) ≡ Some w → Stands w.point.view j
+sends_stand [] j t to ps pt w e base h is = elim h [
+  | inl there ↦ loose_stands ps j t pt w e base there is
+  | inr on ↦ absurd (omega (arith, on))
+]
+sends_stand (i ∷ is_) j t to ps pt w e base h is =
+    let n = next_of pt (Again i to) (sends_on to is_ ++ ps) w is in
+    let base_ = part_base j t pt n.next (Again i to) tt base n.steps in
+    let there : Stands n.next.view j ⊎ (1 ≤ times j is_) = elim (cases_Bool (id_eq i j)) [
+      | inl same ↦ inl (again_as i j t pt n.next to (id_eq-is i j same) base n.steps)
+      | inr off ↦ elim h [
+        | inl stands ↦ inl (part_stands j t pt n.next (Again i to) tt base stands n.steps)
+        | inr on ↦ inr (apart_rest j i is_ off on)
+      ]
+    ] in
+    subst (λ (x : Point). Stands x.view j) n.point (sends_stand is_ j t to ps n.next n.rest e base_ there n.more)

@@ -1,0 +1,187 @@
+-- Wherever the rule leads, whoever is named is a kernel of a machine that there is, a server, or a process that was made.
+use Rattle.std.proofs.Common.{◌≡◌, ◌≢◌, ◌⊎◌, ℕ, ◌<◌, ◌≤◌, ◌==◌, ◌||◌, Bool, true, false, List, [], ◌∷◌, is_some, nat_lt, refl, ap, ◌∙◌, sym, subst, inl, inr, arith}
+use Rattle.std.specs.Prelude.{if◌then◌else◌}
+use Rattle.std.specs.declared.option.Option.{Option}
+use Rattle.std.specs.declared.option.Option.TheVariants.{None, Some}
+use Rattle.std.proofs.lemmas.Bool.{cases_Bool, false≢true}
+use Rattle.std.proofs.lemmas.Bool.Decides.{nat_tests}
+use Rattle.dm_link.specs.declared.Pid.{Pid}
+use Rattle.dm_link.specs.Names.{pid_eq}
+use Rattle.dm_message.specs.declared.MsgId.{MsgId}
+use Rattle.dm_message.specs.Plain as what
+use Rattle.dm_message.specs.Plain.{PlainMessage, PlainWhat}
+use Rattle.dm_onekernel.specs.declared.boot.Boot.{Boot}
+use Rattle.dm_onekernel.specs.Boot.{IsValid, switchboard, manager}
+use Rattle.dm_onekernel.specs.Kernel.{Life, OneKernel}
+use Rattle.dm_laws.proofs.Entered.{is_counted, counts}
+use Rattle.dm_schedule.specs.declared.Step.{Step}
+use Rattle.dm_schedule.specs.declared.Step.TheVariants as step
+use Rattle.dm_line.specs.declared.line.Line.TheVariants as line
+use Rattle.dm_rule.specs.Laws.{IsStep, Leads}
+use Rattle.dm_rule.specs.Parts.{Spelled}
+use Rattle.dm_rule.specs.Point.{Point, first_point}
+use Rattle.dm_rule.specs.Rule.{group_of}
+use Rattle.dm_rule.specs.Spots.{Inbox, times}
+use Rattle.dm_rule.specs.View.{View, Told, Known, Unknown, Here, Frozen, Incoming, Forward, after_head, is_kernels, actor}
+use Rattle.dm_rule.specs.View as view
+use Rattle.dm_rule.proofs.Groups.{group_is}
+use Rattle.dm_rule.proofs.Telling.{outcome_sayable}
+use Rattle.dm_rule.proofs.Trails.Within.{line_within}
+use Rattle.dm_rulelaws.specs.Fits.{has_bytes, is_server, WhatFits}
+use Rattle.dm_rulelaws.specs.KnownStands.{agrees}
+use Rattle.dm_rulelaws.proofs.Based.Needs.{begun, begun_sane}
+use Rattle.dm_rulelaws.proofs.Found.Core as core
+use Rattle.dm_rulelaws.proofs.Found.Real.{named_real}
+use Rattle.dm_rulelaws.proofs.Goes.Runs.{Both, both_start, both_group}
+use Rattle.dm_rulelaws.proofs.Goes.Turns.{times_self}
+use Rattle.dm_rulelaws.proofs.Runs.{Run}
+use Rattle.dm_rulelaws.proofs.RunsAlways.{run_start, run_group}
+use Rattle.dm_movelaws.specs.Real.{IsReal, Kernel, Server, Made, IsAboutReal, RealAlways}
+use Rattle.dm_movelaws.proofs.Ends.Smooth.{told_by}
+use Rattle.dm_movelaws.proofs.NumbersAlways.{bag_counted, told_counted}
+use Rattle.dm_movelaws.proofs.Real.Rows.{HereReal, InboxTold, outcome_real}
+use Rattle.dm_movelaws.proofs.Real.Lines.{rises_same, Reals, Receivers, parts_reals}
+
+-- whom a machine knows
+agrees_made : (k : Known) (l : Option Life) → k ≢ Unknown → agrees k l ≡ true → is_some l ≡ true
+agrees_made k (Some l) some e = refl
+agrees_made Unknown None some e = absurd (some refl)
+agrees_made Here None some e = absurd (false≢true e)
+agrees_made (Frozen to) None some e = absurd (false≢true e)
+agrees_made (Incoming from) None some e = absurd (false≢true e)
+agrees_made (Forward at moves) None some e = absurd (false≢true e)
+agrees_made view.Ended None some e = absurd (false≢true e)
+
+known_real : (b : Boot) (pt : Point) (n : ℕ) (p : Pid) → Run b pt → pt.view.known n p ≢ Unknown → IsReal pt.kernel p
+known_real b pt n p run some = elim (cases_Bool (is_server p)) [
+  | inl server ↦ Server server
+  | inr other ↦ Made (agrees_made (pt.view.known n p) (pt.kernel.processes p) some (run.based.known.agree n p other))
+]
+
+or_cases : (c d : Bool) → (c || d) ≡ true → (c ≡ true) ⊎ (d ≡ true)
+or_cases true d e = inl refl
+or_cases false d e = inr e
+
+zero_num : (n : ℕ) → (n == 0) ≡ true → n ≡ 0
+zero_num n e = grind (arith, nat_tests)
+
+core_real : (b : Boot) (pt : Point) (q : Pid) → Run b pt → core.IsReal pt.kernel.machines pt.view q → IsReal pt.kernel q
+core_real b pt q run h = elim h [
+  | inl fixed ↦ elim (or_cases (q.num == 0) (is_server q) fixed.0) [
+    | inl num ↦ Kernel (zero_num q.num num) fixed.1
+    | inr server ↦ Server server
+  ]
+  | inr some ↦ known_real b pt q.home q run some
+]
+
+-- whose number a sender counts
+counted_made : (s : OneKernel) (q : Pid) (n : ℕ) (l : Option Life) → s.processes q ≡ l → is_counted n l ≡ true → IsReal s q
+counted_made s q n None is e = absurd (false≢true e)
+counted_made s q n (Some l) is e = Made (ap is_some is)
+
+counted_by : (s : OneKernel) (i : MsgId) (c d : Bool) → pid_eq i.from switchboard ≡ c → pid_eq i.from manager ≡ d → (if c then nat_lt i.n s.switchboard.sent else if d then nat_lt i.n s.manager.sent else is_counted i.n (s.processes i.from)) ≡ true → IsReal s i.from
+counted_by s i true d x y e = Server (ap (λ (t : Bool). t || pid_eq i.from manager) x)
+counted_by s i false true x y e = Server (ap (λ (t : Bool). t || pid_eq i.from manager) x ∙ y)
+counted_by s i false false x y e = counted_made s i.from i.n (s.processes i.from) refl e
+
+counted_real : (s : OneKernel) (i : MsgId) → counts s i ≡ true → IsReal s i.from
+counted_real s i e = counted_by s i (pid_eq i.from switchboard) (pid_eq i.from manager) refl refl e
+
+-- what stands between groups
+record RealAt (pt : Point) : Type 0 where
+  own : (i : MsgId) (t : Told) → pt.view.told i ≡ Some t → is_kernels i ≡ true → i.from.home < pt.kernel.machines
+  receiver : (i : MsgId) (t : Told) → pt.view.told i ≡ Some t → is_kernels i ≡ false → IsReal pt.kernel t.receiver
+  about : (i : MsgId) (t : Told) → pt.view.told i ≡ Some t → IsAboutReal pt.kernel t.about
+
+receivers : (b : Boot) (pt : Point) → Run b pt → RealAt pt → Receivers pt
+receivers b pt run h i t told = elim (cases_Bool (is_kernels i)) [
+  | inl own ↦ core_real b pt t.receiver run (run.kept.real i t told own).0
+  | inr other ↦ h.receiver i t told other
+]
+
+-- a group
+here_real : (b : Boot) (pt : Point) → Run b pt → HereReal pt
+here_real b pt run m q here = known_real b pt m q run (λ e. let f : Here ≡ Unknown = sym here ∙ e in cc)
+
+inbox_told : (b : Boot) (pt : Point) → Run b pt → InboxTold pt
+inbox_told b pt run m i is at =
+    run.found.told i (Inbox m) (let a : times i (pt.view.inbox m) ≡ times i (i ∷ is) = ap (times i) at in let c = times_self i is in subst (λ (n : ℕ). 1 ≤ n) (sym a) c)
+
+head_less : (n : ℕ) (d : Step) → IsStep n d → actor d < n
+head_less n (step.Turn m) h = h
+head_less n (step.Tick m) h = h
+head_less n (step.Deliver a b k) h = h.1
+head_less n (step.Migrate p m) h = omega (arith, h)
+
+head_topic : (s : OneKernel) (v : View) (d : Step) → IsAboutReal s (after_head v d).topic
+head_topic s v (step.Turn m) = tt
+head_topic s v (step.Tick m) = tt
+head_topic s v (step.Deliver a b k) = tt
+head_topic s v (step.Migrate p m) = tt
+
+begins_real : (b : Boot) (pt : Point) (d : Step) → IsStep pt.kernel.machines d → Run b pt → RealAt pt → Reals pt (begun pt d)
+begins_real b pt d fit run h =
+    let same : (i : MsgId) → (after_head pt.view d).told i ≡ pt.view.told i = told_by pt.view (line.Head d) refl in
+    record {
+      within = line_within pt.kernel.machines pt.view (line.Head d) (head_less pt.kernel.machines d fit) (record { known = λ m q some. run.found.known_within m q some; acting = run.kept.acting });
+      fits = run.based.fits;
+      rises = rises_same pt.kernel;
+      kept = λ i t e. same i ∙ e;
+      own = λ i t e mine. h.own i t (sym (same i) ∙ e) mine;
+      receiver = λ i t e other. h.receiver i t (sym (same i) ∙ e) other;
+      about = λ i t e. h.about i t (sym (same i) ∙ e);
+      topic = head_topic pt.kernel pt.view d;
+    }
+
+real_group : (b : Boot) (pt : Point) (d : Step) (w : Spelled) → IsStep pt.kernel.machines d → group_of b pt d ≡ Some w → Run b pt → RealAt pt → RealAt w.point
+real_group b pt d w fit e run h =
+    let g = group_is b pt d w e in
+    let k = parts_reals pt g.parts (begun pt d) g.rest (receivers b pt run h) (outcome_real b pt d g.parts (inbox_told b pt run) (here_real b pt run) g.is) (outcome_sayable b pt d g.parts g.is) (begun_sane pt d run.based.phased.sane) g.said (begins_real b pt d fit run h) in
+    subst RealAt g.point (record { own = k.own; receiver = k.receiver; about = k.about })
+
+-- a run
+record Ran (b : Boot) (pt : Point) : Type 0 where
+  both : Both b pt
+  real : RealAt pt
+
+real_on : (b : Boot) (es : List Step) (pt end : Point) → IsValid b → Leads b pt es end → Ran b pt → Ran b end
+real_on b [] pt end valid leads h = subst (Ran b) leads h
+real_on b (d ∷ ds) pt end valid (w, fit, is, rest) h =
+    real_on b ds w.point end valid rest (record { both = both_group run_group b pt d w valid fit is h.both; real = real_group b pt d w fit is h.both.run h.real })
+
+start_real : (b : Boot) → RealAt (first_point b)
+start_real b = record {
+  own = λ i t e mine. absurd (let f : None ≡ Some t = e in cc);
+  receiver = λ i t e other. absurd (let f : None ≡ Some t = e in cc);
+  about = λ i t e. absurd (let f : None ≡ Some t = e in cc);
+}
+
+-- a child that is named was made
+child_made : (s : OneKernel) (i : MsgId) (m : PlainMessage) (w : PlainWhat) (p : Pid) → w ≡ what.Created p → WhatFits s i m w → IsReal s p
+child_made s i m w p is fits = made (s.processes p) refl (subst (WhatFits s i m) is fits).3
+  where
+    made : (l : Option Life) → s.processes p ≡ l → has_bytes 0 l ≡ true → IsReal s p
+    made (Some l) at e = Made (ap is_some at)
+    made None at e = absurd (false≢true e)
+
+own_num : (i : MsgId) → is_kernels i ≡ true → i.from.num ≡ 0
+own_num i e = grind (arith, nat_tests)
+
+-- wherever the rule leads
+pub real_always : RealAlways
+real_always b es pt valid leads =
+    let ran = real_on b es (first_point b) pt valid leads (record { both = both_start run_start b valid; real = start_real b }) in
+    let run = ran.both.run in
+    let sane = run.based.phased.sane in
+    record {
+      named = λ h q e. core_real b pt q run (named_real pt pt.kernel.machines h q run.kept e);
+      bag = λ i m there. counted_real pt.kernel i (bag_counted sane.r sane.e pt.kernel i m sane.sound there);
+      told = λ i t told. elim (cases_Bool (is_kernels i)) [
+        | inl own ↦ Kernel (own_num i own) (ran.real.own i t told own)
+        | inr other ↦ counted_real pt.kernel i (told_counted pt i t sane told other)
+      ];
+      receiver = receivers b pt run ran.real;
+      about = ran.real.about;
+      child = λ i m p there is. child_made pt.kernel i m m.what p is (run.based.fits.messages i m there);
+      known = λ n p some. known_real b pt n p run some;
+    }

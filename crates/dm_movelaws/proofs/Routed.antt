@@ -1,0 +1,5 @@
+-- Lemmas of the family Routed, by file.
+pub mod Steps
+pub mod Outs
+pub mod Groups
+pub mod Always

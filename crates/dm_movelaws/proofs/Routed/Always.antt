@@ -1,0 +1,183 @@
+-- Wherever the rule leads, each message that its sender counts was routed.
+use Rattle.std.proofs.Common.{◌≡◌, ◌⊎◌, ℕ, zero, suc, ◌<◌, ◌≤◌, Bool, true, false, is_some, nat_lt, List, [], ◌∷◌, ◌++◌, length, refl, ap, ◌∙◌, sym, subst, inl, inr, arith}
+use Rattle.std.specs.Prelude.{if◌then◌else◌, slice_get, option_map, map}
+use Rattle.std.specs.declared.option.Option.{Option}
+use Rattle.std.specs.declared.option.Option.TheVariants.{None, Some}
+use Rattle.std.proofs.lemmas.Bool.{cases_Bool, false≢true}
+use Rattle.std.proofs.lemmas.Bool.Decides.{nat_tests}
+use Rattle.dm_link.specs.declared.Pid.{Pid}
+use Rattle.dm_link.specs.Names.{pid_eq}
+use Rattle.dm_link.specs.Plain.{PlainLink, plain_link}
+use Rattle.dm_message.specs.declared.MsgId.{MsgId}
+use Rattle.dm_message.specs.Ids.{id_eq, id_of}
+use Rattle.dm_onekernel.specs.declared.boot.BootImage.{BootImage}
+use Rattle.dm_onekernel.specs.declared.boot.BootProcess.{BootProcess}
+use Rattle.dm_onekernel.specs.declared.boot.Boot.{Boot}
+use Rattle.dm_onekernel.specs.Boot.{IsValid, switchboard, manager}
+use Rattle.dm_onekernel.specs.Kernel.{Alive, OneKernel}
+use Rattle.dm_onekernel.specs.PlainProcess.{PlainProcess}
+use Rattle.dm_onekernel.specs.Start.{begun, first_life, life_at}
+use Rattle.dm_laws.proofs.Equal.{id_eq-is}
+use Rattle.dm_laws.proofs.Sound.{not_server}
+use Rattle.dm_laws.proofs.Steps.{bind-is}
+use Rattle.dm_schedule.specs.declared.Step.{Step}
+use Rattle.dm_line.specs.declared.line.Line.{Line}
+use Rattle.dm_line.specs.declared.line.Line.TheVariants as line
+use Rattle.dm_line.specs.Sets.{without_id}
+use Rattle.dm_rule.specs.Point.{Point, first_point, after, after_line}
+use Rattle.dm_rule.specs.Spots.{times}
+use Rattle.dm_rule.specs.View.{View, Told, view_after}
+use Rattle.dm_rule.proofs.Hushed.{hushed}
+use Rattle.dm_rule.proofs.Lines.{without_counts}
+use Rattle.dm_rule.proofs.Once.{one_of}
+use Rattle.dm_rule.proofs.Pairs.Lines.{line_view}
+use Rattle.dm_rule.proofs.States.{put_told_off}
+use Rattle.dm_rulelaws.specs.Order.{LeadsBy}
+use Rattle.dm_rulelaws.proofs.Goes.Runs.{Both, both_start, both_group}
+use Rattle.dm_rulelaws.proofs.Goes.Turns.{times_self, times_more}
+use Rattle.dm_rulelaws.proofs.RunsAlways.{run_start, run_group}
+use Rattle.dm_movelaws.specs.Routed.{with_put, routed, AreRouted, RoutedAlways}
+use Rattle.dm_movelaws.proofs.After.{group_after}
+use Rattle.dm_movelaws.proofs.Routed.Groups.{IsTold, AllTold, told_group}
+use Rattle.dm_movelaws.proofs.Routed.Steps.{has_sent, is_sent}
+
+-- before the first line nobody has sent
+none_less : (n : ℕ) → nat_lt n 0 ≡ false
+none_less n = grind (arith, nat_tests)
+
+image_sent : (b : Boot) (links : List PlainLink) (n : ℕ) (o : Option BootImage) → has_sent n (option_map (λ image. Alive (begun b.format image links)) o) ≡ false
+image_sent b links n None = refl
+image_sent b links n (Some image) = none_less n
+
+life_sent : (b : Boot) (ps : List BootProcess) (q : Pid) (n : ℕ) → has_sent n (life_at b ps q) ≡ false
+life_sent b [] q n = refl
+life_sent b (p ∷ ps) q n = elim (cases_Bool (pid_eq p.pid q)) [
+  | inl same ↦ ap (λ (c : Bool). has_sent n (if c then first_life b p else life_at b ps q)) same ∙ image_sent b (map plain_link p.links) n (slice_get b.images p.image)
+  | inr off ↦ ap (λ (c : Bool). has_sent n (if c then first_life b p else life_at b ps q)) off ∙ life_sent b ps q n
+]
+
+none_chosen : (c d : Bool) (x y z : Bool) → x ≡ false → y ≡ false → z ≡ false → (if c then x else if d then y else z) ≡ true → ⊥
+none_chosen true d x y z f g h e = false≢true (sym f ∙ e)
+none_chosen false true x y z f g h e = false≢true (sym g ∙ e)
+none_chosen false false x y z f g h e = false≢true (sym h ∙ e)
+
+start_told : (b : Boot) → AllTold (first_point b)
+start_told b i ask sent =
+    absurd (none_chosen (pid_eq i.from switchboard) (pid_eq i.from manager) (nat_lt i.n 0) (nat_lt i.n 0) (has_sent i.n (life_at b b.processes i.from)) (none_less i.n) (none_less i.n) (life_sent b b.processes i.from i.n) sent)
+
+-- what was told of was put
+put_at : (v : View) (l : Line) (i : MsgId) (ids : List MsgId) → IsTold (view_after v l) i → IsTold v i ⊎ (1 ≤ times i (with_put l ids))
+put_at v (line.Put a b id k q) i ids h = elim (cases_Bool (id_eq id i)) [
+  | inl same ↦ inr (subst (λ (j : MsgId). 1 ≤ times j (id ∷ ids)) (id_eq-is id i same) (times_self id ids))
+  | inr apart ↦ inl (ap is_some (sym (put_told_off v a b id i k q apart)) ∙ h)
+]
+put_at v l i ids h = inl (ap (λ (f : MsgId → Option Told). is_some (f i)) (sym (hushed v l refl).told) ∙ h)
+
+put_more : (l : Line) (i : MsgId) (ids : List MsgId) → times i ids ≤ times i (with_put l ids)
+put_more (line.Put a b id k q) i ids = times_more i id ids
+put_more l i ids = omega arith
+
+put_on : (l : Line) (i : MsgId) (xs ys : List MsgId) → times i xs ≤ times i ys → times i (with_put l xs) ≤ times i (with_put l ys)
+put_on (line.Put a b id k q) i xs ys h = omega (arith, h)
+put_on l i xs ys h = h
+
+put_among : (ls : List Line) (pt q : Point) (i : MsgId) → after pt ls ≡ Some q → IsTold q.view i → IsTold pt.view i ⊎ (1 ≤ times i (routed ls))
+put_among [] pt q i e h = let f : pt ≡ q = cc in inl (subst (λ (x : Point). IsTold x.view i) (sym f) h)
+put_among (l ∷ ls) pt q i e h =
+    let (next, first, rest) = bind-is (after_line pt l) (λ (x : Point). after x ls) q e in
+    elim (put_among ls next q i rest h) [
+      | inr later ↦ inr (let m = put_more l i (routed ls) in omega (arith, later, m))
+      | inl before ↦ put_at pt.view l i (routed ls) (subst (λ (v : View). IsTold v i) (line_view pt next l first) before)
+    ]
+
+-- more lines route no fewer
+none_fewer : (ids : List MsgId) (i : MsgId) → times i [] ≤ times i ids
+none_fewer ids i = omega arith
+
+more_first : (xs ys : List Line) (i : MsgId) → times i (routed xs) ≤ times i (routed (xs ++ ys))
+more_first [] ys i = none_fewer (routed ys) i
+more_first (x ∷ xs) ys i = put_on x i (routed xs) (routed (xs ++ ys)) (more_first xs ys i)
+
+more_last : (xs ys : List Line) (i : MsgId) → times i (routed ys) ≤ times i (routed (xs ++ ys))
+more_last [] ys i = omega arith
+more_last (x ∷ xs) ys i = let h = more_last xs ys i in let m = put_more x i (routed (xs ++ ys)) in omega (arith, h, m)
+
+-- a run
+record ToldBy (pt end : Point) (ls : List Line) : Type 0 where
+  all : AllTold end
+  put : (i : MsgId) → IsTold end.view i → IsTold pt.view i ⊎ (1 ≤ times i (routed ls))
+
+put_behind : (ls earlier later : List Line) (pt mid : Point) (i : MsgId) → ls ≡ earlier ++ later → after pt earlier ≡ Some mid → IsTold mid.view i ⊎ (1 ≤ times i (routed later)) → IsTold pt.view i ⊎ (1 ≤ times i (routed ls))
+put_behind ls earlier later pt mid i are leads (inr behind_) = inr (subst (λ (xs : List Line). 1 ≤ times i (routed xs)) (sym are) (let m = more_last earlier later i in omega (arith, behind_, m)))
+put_behind ls earlier later pt mid i are leads (inl here) = elim (put_among earlier pt mid i leads here) [
+  | inl before ↦ inl before
+  | inr among ↦ inr (subst (λ (xs : List Line). 1 ≤ times i (routed xs)) (sym are) (let m = more_first earlier later i in omega (arith, among, m)))
+]
+
+told_on : (b : Boot) (es : List Step) (ls : List Line) (pt end : Point) → IsValid b → LeadsBy b pt es ls end → Both b pt → AllTold pt → ToldBy pt end ls
+told_on b [] ls pt end valid (none, same) both h = record { all = subst AllTold same h; put = λ i t. inl (subst (λ (x : Point). IsTold x.view i) (sym same) t) }
+told_on b (d ∷ ds) ls pt end valid (w, rest, fit, is, are, more) both h =
+    let next = both_group run_group b pt d w valid fit is both in
+    let k = told_on b ds rest w.point end valid more next (told_group b pt d w is both.run next.run h) in
+    record { all = k.all; put = λ i t. put_behind ls w.lines rest pt w.point i are (group_after b pt d w is) (k.put i t) }
+
+-- so many names are so many messages
+one_off : (p : Pid) (k n : ℕ) → k < n → one_of (id_of p k) (id_of p n) ≡ 0
+one_off p k n less = elim (cases_Bool (id_eq (id_of p k) (id_of p n))) [
+  | inl same ↦ absurd (let e : k ≡ n = ap (λ (i : MsgId). i.n) (id_eq-is (id_of p k) (id_of p n) same) in omega (arith, e, less))
+  | inr apart ↦ ap (λ (c : Bool). if c then 1 else 0) apart
+]
+
+without_length : (i : MsgId) (ids : List MsgId) → 1 ≤ times i ids → length ids ≡ suc (length (without_id i ids))
+without_length i [] least = absurd (omega (arith, least))
+without_length i (j ∷ js) least = elim (cases_Bool (id_eq i j)) [
+  | inl same ↦ let e : length (without_id i (j ∷ js)) ≡ length js = ap (λ (c : Bool). length (if c then js else j ∷ without_id i js)) same in omega (arith, e)
+  | inr apart ↦
+      let e : length (without_id i (j ∷ js)) ≡ suc (length (without_id i js)) = ap (λ (c : Bool). length (if c then js else j ∷ without_id i js)) apart in
+      let none : one_of i j ≡ 0 = ap (λ (c : Bool). if c then 1 else 0) apart in
+      let h = without_length i js (omega (arith, least, none)) in
+      omega (arith, e, h)
+]
+
+few : (n : ℕ) (p : Pid) (ids : List MsgId) → ((k : ℕ) → k < n → 1 ≤ times (id_of p k) ids) → n ≤ length ids
+few zero p ids h = omega arith
+few (suc n) p ids h =
+    let here = h n (omega arith) in
+    let rest = few n p (without_id (id_of p n) ids)
+    (λ k less. let c = without_counts (id_of p k) (id_of p n) ids here in let off = one_off p k n less in let m = h k (omega (arith, less)) in omega (arith, c, off, m)) in
+    let long = without_length (id_of p n) ids here in
+    omega (arith, rest, long)
+
+are_routed : (ls : List Line) (p : Pid) (n : ℕ) → ((k : ℕ) → k < n → 1 ≤ times (id_of p k) (routed ls)) → AreRouted ls p n
+are_routed ls p n h = record { each = h; count = few n p (routed ls) h }
+
+less_true : (k n : ℕ) → k < n → nat_lt k n ≡ true
+less_true k n h = grind (arith, nat_tests)
+
+process_sent : (s : OneKernel) (p : Pid) (x : PlainProcess) (k : ℕ) → (pid_eq p switchboard ≡ false) × (pid_eq p manager ≡ false) → s.processes p ≡ Some (Alive x) → nat_lt k x.sent ≡ true → is_sent s (id_of p k) ≡ true
+process_sent s p x k off is h =
+    ap (λ (c : Bool). if c then nat_lt k s.switchboard.sent else if pid_eq p manager then nat_lt k s.manager.sent else has_sent k (s.processes p)) off.0
+    ∙ ap (λ (c : Bool). if c then nat_lt k s.manager.sent else has_sent k (s.processes p)) off.1 ∙ ap (has_sent k) is ∙ h
+
+untold : (b : Boot) (i : MsgId) → IsTold (first_point b).view i → ⊥
+untold b i e = false≢true e
+
+-- wherever the rule leads
+pub routed_always : RoutedAlways
+routed_always b es ls pt valid leads =
+    let both = both_start run_start b valid in
+    let told = told_on b es ls (first_point b) pt valid leads both (start_told b) in
+    let put : (i : MsgId) → i.answer ≡ false → is_sent pt.kernel i ≡ true → 1 ≤ times i (routed ls) = λ i ask sent. elim (told.put i (told.all i ask sent)) [
+      | inl before ↦ absurd (untold b i before)
+      | inr after_ ↦ after_
+    ] in
+    let made = (both_by b es ls (first_point b) pt valid leads both).run.based.phased.sane.sound.made in
+    record {
+      process = λ p x alive. are_routed ls p x.sent (λ k less. put (id_of p k) refl (process_sent pt.kernel p x k (not_server pt.kernel p x alive made) alive (less_true k x.sent less)));
+      board = are_routed ls switchboard pt.kernel.switchboard.sent (λ k less. put (id_of switchboard k) refl (less_true k pt.kernel.switchboard.sent less));
+      manager_ = are_routed ls manager pt.kernel.manager.sent (λ k less. put (id_of manager k) refl (less_true k pt.kernel.manager.sent less));
+    }
+  where
+    both_by : (b : Boot) (es : List Step) (ls : List Line) (pt end : Point) → IsValid b → LeadsBy b pt es ls end → Both b pt → Both b end
+    both_by b [] ls pt end valid (none, same) h = subst (Both b) same h
+    both_by b (d ∷ ds) ls pt end valid (w, rest, fit, is, are, more) h = both_by b ds rest w.point end valid more (both_group run_group b pt d w valid fit is h)

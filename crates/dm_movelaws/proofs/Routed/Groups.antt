@@ -1,0 +1,216 @@
+-- Wherever the rule leads, each message that its sender counts was put.
+use Rattle.std.proofs.Common.{◌≡◌, ◌⊎◌, ℕ, Bool, true, false, is_some, List, [], ◌∷◌, refl, ap, ◌∙◌, sym, subst, inl, inr, arith}
+use Rattle.std.specs.Prelude.{if◌then◌else◌}
+use Rattle.std.specs.declared.option.Option.{Option}
+use Rattle.std.specs.declared.option.Option.TheVariants.{None, Some}
+use Rattle.std.proofs.lemmas.Bool.{cases_Bool, false≢true}
+use Rattle.dm_link.specs.declared.Pid.{Pid}
+use Rattle.dm_message.specs.declared.MsgId.{MsgId}
+use Rattle.dm_message.specs.declared.kind.MessageKind.{MessageKind}
+use Rattle.dm_message.specs.Ids.{id_eq}
+use Rattle.dm_message.specs.Kinds.{plain_kind}
+use Rattle.dm_message.specs.Plain.{PlainMessage}
+use Rattle.dm_onekernel.specs.declared.boot.Boot.{Boot}
+use Rattle.dm_onekernel.specs.declared.label.Label.{Label}
+use Rattle.dm_onekernel.specs.declared.label.Label.TheVariants as label
+use Rattle.dm_onekernel.specs.Kernel.{OneKernel}
+use Rattle.dm_onekernel.specs.Options.{bind}
+use Rattle.dm_onekernel.specs.Step as kernel
+use Rattle.dm_laws.proofs.Equal.{id_eq-is}
+use Rattle.dm_laws.proofs.Sound.{Sound}
+use Rattle.dm_laws.proofs.Steps.{bind-is}
+use Rattle.dm_schedule.specs.declared.Step.{Step}
+use Rattle.dm_line.specs.declared.line.Line.{Line}
+use Rattle.dm_line.specs.declared.line.Line.TheVariants as line
+use Rattle.dm_rule.specs.Addresses.{Receiver}
+use Rattle.dm_rule.specs.Parts.{Part, Says, Routes, Again, Owns, Transmits, Spelled, lines_of, puts, packet_line, behind, spelled}
+use Rattle.dm_rule.specs.Point.{Point, label_of, kernel_after, moved, after}
+use Rattle.dm_rule.specs.Rule as rule
+use Rattle.dm_rule.specs.Rule.{group_of}
+use Rattle.dm_rule.specs.Spots.{Inbox, Queue, StandsRight, standing}
+use Rattle.dm_rule.specs.View.{View, Told, view_after, own_id}
+use Rattle.dm_rule.specs.View as view
+use Rattle.dm_rule.proofs.Bags.{BagStep, out_of, bag_sends, bag_ran, bag_call, bag_wait, bag_out, bag_end, bag_refuse, bag_receive, bag_dropped, bag_gone, bag_no_space, bag_created, bag_served, bag_took}
+use Rattle.dm_rule.proofs.Groups.{group_is, stands_right}
+use Rattle.dm_rule.proofs.Hushed.{is_put, hushed}
+use Rattle.dm_rule.proofs.Lines.{hidden}
+use Rattle.dm_rule.proofs.States.{put_told_off}
+use Rattle.dm_rule.proofs.Telling.{Sane, AllSayable, part_sane, outcome_sayable}
+use Rattle.dm_rulelaws.proofs.Based.Needs.{Rides, Steps, said_by, again_rides, begun, begun_sane}
+use Rattle.dm_rulelaws.proofs.Runs.{Run}
+use Rattle.dm_movelaws.proofs.Ends.Sends.{puts_lead}
+use Rattle.dm_movelaws.proofs.Routed.Outs.{LineOuts, PartOuts, AllOuts, OutsOf, outcome_outs}
+use Rattle.dm_movelaws.proofs.Routed.Steps.{is_sent, step_counts}
+
+-- a message that was told of
+abbrev pub IsTold : View → MsgId → Type 0
+IsTold v i = is_some (v.told i) ≡ true
+
+-- between the lines of a group that begins with the view v: what is counted was told of, or is in the bag
+pub record Counted (v : View) (pt : Point) : Type 0 where
+  pub kept : (i : MsgId) → IsTold v i → IsTold pt.view i
+  pub each : (i : MsgId) → i.answer ≡ false → is_sent pt.kernel i ≡ true → IsTold pt.view i ⊎ (is_some (pt.kernel.bag i) ≡ true)
+
+-- a message stays in the bag, or it is the one that goes
+hidden_some : (out : Option MsgId) (bag : MsgId → Option PlainMessage) (i : MsgId) → is_some (bag i) ≡ true → (is_some (hidden out bag i) ≡ true) ⊎ (out ≡ Some i)
+hidden_some None bag i e = inl e
+hidden_some (Some j) bag i e = elim (cases_Bool (id_eq j i)) [
+  | inl same ↦ inr (ap Some (id_eq-is j i same))
+  | inr apart ↦ inl (ap (λ (c : Bool). is_some (if c then None else bag i)) apart ∙ e)
+]
+
+some_hidden : (put : Option MsgId) (bag : MsgId → Option PlainMessage) (i : MsgId) → is_some (hidden put bag i) ≡ true → is_some (bag i) ≡ true
+some_hidden None bag i e = e
+some_hidden (Some j) bag i e = elim (cases_Bool (id_eq j i)) [
+  | inl same ↦ absurd (false≢true (sym (ap (λ (c : Bool). is_some (if c then None else bag i)) same) ∙ e))
+  | inr apart ↦ sym (ap (λ (c : Bool). is_some (if c then None else bag i)) apart) ∙ e
+]
+
+stays_by : (e : MsgId → ℕ) (s t : OneKernel) (out put : Option MsgId) (i : MsgId) → BagStep e s t out put → is_some (s.bag i) ≡ true → (is_some (t.bag i) ≡ true) ⊎ (out ≡ Some i)
+stays_by e s t out put i b there = elim (hidden_some out s.bag i there) [
+  | inl stays ↦ inl (some_hidden put t.bag i (ap is_some (b.same i) ∙ stays))
+  | inr goes ↦ inr goes
+]
+
+stays_or_goes : (r e : MsgId → ℕ) (s t : OneKernel) (l : Label) (i : MsgId) → kernel.step s l ≡ Some t → Sound r e s → is_some (s.bag i) ≡ true → (is_some (t.bag i) ≡ true) ⊎ (out_of l ≡ Some i)
+stays_or_goes r e s t (label.Ran p k) i is h there = stays_by e s t None None i (bag_ran e s t p k is) there
+stays_or_goes r e s t (label.Call p n c) i is h there = stays_by e s t None None i (bag_call e s t p n c is) there
+stays_or_goes r e s t (label.Send p id) i is h there = stays_by e s t None (Some id) i (bag_sends r e s t p id is h) there
+stays_or_goes r e s t (label.Wait p) i is h there = stays_by e s t None None i (bag_wait e s t p is) there
+stays_or_goes r e s t (label.Out p w) i is h there = stays_by e s t None None i (bag_out e s t p w is) there
+stays_or_goes r e s t (label.End p y) i is h there = stays_by e s t None None i (bag_end e s t p y is) there
+stays_or_goes r e s t (label.Receive p id) i is h there = stays_by e s t (Some id) None i (bag_receive e s t p id is) there
+stays_or_goes r e s t (label.Refuse p id c) i is h there = stays_by e s t None None i (bag_refuse e s t p id c is) there
+stays_or_goes r e s t (label.Dropped id) i is h there = stays_by e s t (Some id) None i (bag_dropped e s t id is) there
+stays_or_goes r e s t (label.Served id) i is h there = stays_by e s t (Some id) _ i (bag_served r e s t id is h).is there
+stays_or_goes r e s t (label.Gone id) i is h there = stays_by e s t (Some id) _ i (bag_gone r e s t id is h) there
+stays_or_goes r e s t (label.Took id) i is h there = stays_by e s t (Some id) _ i (bag_took r e s t id is h).is there
+stays_or_goes r e s t (label.Created id p) i is h there = stays_by e s t (Some id) _ i (bag_created r e s t id p is h) there
+stays_or_goes r e s t (label.NoSpace id a b) i is h there = stays_by e s t (Some id) _ i (bag_no_space r e s t id a b is h) there
+
+-- a line that is no put
+same_told : (v : View) (l : Line) (i : MsgId) → is_put l ≡ false → IsTold v i → IsTold (view_after v l) i
+same_told v l i quiet h = ap (λ (f : MsgId → Option Told). is_some (f i)) (hushed v l quiet).told ∙ h
+
+counted_label : (v : View) (pt : Point) (l : Label) (t : OneKernel) → ((i : MsgId) → out_of l ≡ Some i → IsTold v i) → kernel.step pt.kernel l ≡ Some t → Sane pt → Counted v pt → Counted v (moved pt (line.Label l) t)
+counted_label v pt l t outs is sane h =
+    let told : (i : MsgId) → IsTold pt.view i → IsTold (view_after pt.view (line.Label l)) i = λ i e. same_told pt.view (line.Label l) i refl e in
+    record {
+      kept = λ i e. told i (h.kept i e);
+      each = λ i ask sent. elim (step_counts pt.kernel t l is i ask sent) [
+        | inr now ↦ inr now
+        | inl before ↦ elim (h.each i ask before) [
+          | inl was ↦ inl (told i was)
+          | inr there ↦ elim (stays_or_goes sane.r sane.e pt.kernel t l i is sane.sound there) [
+            | inl stays ↦ inr stays
+            | inr goes ↦ inl (told i (h.kept i (outs i goes)))
+          ]
+        ]
+      ];
+    }
+
+counted_quiet : (v : View) (pt : Point) (l : Line) (t : OneKernel) → is_put l ≡ false → Some pt.kernel ≡ Some t → Counted v pt → Counted v (moved pt l t)
+counted_quiet v pt l t quiet is h =
+    let same : pt.kernel ≡ t = cc in
+    subst (λ (s : OneKernel). Counted v (moved pt l s)) same
+    (record {
+      kept = λ i e. same_told pt.view l i quiet (h.kept i e);
+      each = λ i ask sent. elim (h.each i ask sent) [
+        | inl was ↦ inl (same_told pt.view l i quiet was)
+        | inr there ↦ inr there
+      ];
+    })
+
+counted_line : (v : View) (pt : Point) (l : Line) (t : OneKernel) → is_put l ≡ false → LineOuts (IsTold v) l → kernel_after pt.kernel (label_of l) ≡ Some t → Sane pt → Counted v pt → Counted v (moved pt l t)
+counted_line v pt (line.Label l) t quiet outs is sane h = counted_label v pt l t outs is sane h
+counted_line v pt (line.Put a b i k q) t quiet outs is sane h = cc
+counted_line v pt (line.Head d) t quiet outs is sane h = counted_quiet v pt (line.Head d) t quiet is h
+counted_line v pt (line.Idle m) t quiet outs is sane h = counted_quiet v pt (line.Idle m) t quiet is h
+counted_line v pt (line.Packet a b k x) t quiet outs is sane h = counted_quiet v pt (line.Packet a b k x) t quiet is h
+counted_line v pt (line.Taken a b n) t quiet outs is sane h = counted_quiet v pt (line.Taken a b n) t quiet is h
+counted_line v pt (line.Old a b n) t quiet outs is sane h = counted_quiet v pt (line.Old a b n) t quiet is h
+counted_line v pt (line.Early a b n) t quiet outs is sane h = counted_quiet v pt (line.Early a b n) t quiet is h
+counted_line v pt (line.Acked a b n) t quiet outs is sane h = counted_quiet v pt (line.Acked a b n) t quiet is h
+counted_line v pt line.Nothing t quiet outs is sane h = counted_quiet v pt line.Nothing t quiet is h
+counted_line v pt (line.Resent m n) t quiet outs is sane h = counted_quiet v pt (line.Resent m n) t quiet is h
+counted_line v pt (line.Queued i) t quiet outs is sane h = counted_quiet v pt (line.Queued i) t quiet is h
+counted_line v pt (line.Held i) t quiet outs is sane h = counted_quiet v pt (line.Held i) t quiet is h
+counted_line v pt (line.Forwarded i m) t quiet outs is sane h = counted_quiet v pt (line.Forwarded i m) t quiet is h
+counted_line v pt (line.Updated i n) t quiet outs is sane h = counted_quiet v pt (line.Updated i n) t quiet is h
+counted_line v pt (line.Migration s p) t quiet outs is sane h = counted_quiet v pt (line.Migration s p) t quiet is h
+counted_line v pt (line.SentOn p n) t quiet outs is sane h = counted_quiet v pt (line.SentOn p n) t quiet is h
+counted_line v pt (line.Lacks p a b) t quiet outs is sane h = counted_quiet v pt (line.Lacks p a b) t quiet is h
+counted_line v pt (line.Stays p) t quiet outs is sane h = counted_quiet v pt (line.Stays p) t quiet is h
+counted_line v pt (line.Here i) t quiet outs is sane h = counted_quiet v pt (line.Here i) t quiet is h
+counted_line v pt (line.NoMove i) t quiet outs is sane h = counted_quiet v pt (line.NoMove i) t quiet is h
+counted_line v pt (line.Proto i) t quiet outs is sane h = counted_quiet v pt (line.Proto i) t quiet is h
+counted_line v pt (line.NoChild p) t quiet outs is sane h = counted_quiet v pt (line.NoChild p) t quiet is h
+counted_line v pt (line.Pinned p) t quiet outs is sane h = counted_quiet v pt (line.Pinned p) t quiet is h
+
+-- a put tells of its message
+put_told : (v : View) (a b : ℕ) (i j : MsgId) (k : MessageKind) (q : Pid) → IsTold v j → IsTold (view.after_put v a b i k q) j
+put_told v a b i j k q h = elim (cases_Bool (id_eq i j)) [
+  | inl same ↦ ap (λ (c : Bool). is_some (if c then Some (view.first_told (v.told i) (record { kind = k; receiver = q; about = v.topic })) else v.told j)) same
+  | inr apart ↦ ap is_some (put_told_off v a b i j k q apart) ∙ h
+]
+
+counted_rides : (v : View) → Rides (Counted v)
+counted_rides v = record {
+  put = λ pt a b i k q h. record {
+    kept = λ j e. put_told pt.view a b i j k q (h.kept j e);
+    each = λ j ask sent. elim (h.each j ask sent) [
+      | inl was ↦ inl (put_told pt.view a b i j k q was)
+      | inr there ↦ inr there
+    ];
+  };
+  packet = λ pt a b k l h. counted_quiet v pt (line.Packet a b k l) pt.kernel refl refl h;
+}
+
+-- a part, and the parts of a group
+counted_part : (v : View) (pt next : Point) (p : Part) → AllSayable (p ∷ []) → PartOuts (IsTold v) p → Sane pt → Steps pt p next → Counted v pt → Counted v next
+counted_part v pt next (Says l) ok outs sane s h =
+    let k = said_by pt next l s in
+    subst (Counted v) k.is (counted_line v pt l k.kernel ok.0 outs k.step sane h)
+counted_part v pt next (Routes i) ok outs sane s h =
+    let (m, there, last) = bind-is (pt.kernel.bag i) (λ m. Some (puts pt.view (pt.addresses (Receiver i)).at i (plain_kind m.what) m.to)) s.lines s.are in
+    puts_lead (Counted v) (counted_rides v).packet pt next (pt.addresses (Receiver i)).at i (plain_kind m.what) m.to s.lines ((counted_rides v).put pt pt.view.acting (pt.addresses (Receiver i)).at i (plain_kind m.what) m.to h) last s.leads
+counted_part v pt next (Again i b) ok outs sane s h = again_rides (Counted v) (counted_rides v) pt next i b s h
+counted_part v pt next (Owns k q b) ok outs sane s h = puts_lead (Counted v) (counted_rides v).packet pt next b (own_id pt.view) k q s.lines ((counted_rides v).put pt pt.view.acting b (own_id pt.view) k q h) s.are s.leads
+counted_part v pt next (Transmits a b l) ok outs sane s h =
+    let t : Steps pt (Says (packet_line pt.view a b l)) next = record { lines = s.lines; are = s.are; leads = s.leads } in
+    let k = said_by pt next (packet_line pt.view a b l) t in
+    subst (Counted v) k.is (counted_quiet v pt (packet_line pt.view a b l) k.kernel refl k.step h)
+
+counted_parts : (v : View) (ps : List Part) (pt : Point) (w : Spelled) → AllSayable ps → AllOuts (IsTold v) ps → Sane pt → spelled pt ps ≡ Some w → Counted v pt → Counted v w.point
+counted_parts v [] pt w ok outs sane is h = let f : record { lines = []; point = pt } ≡ w = cc in subst (λ (x : Spelled). Counted v x.point) f h
+counted_parts v (p ∷ ps) pt w ok outs sane is h =
+    let (ls, lines, rest) = bind-is (lines_of pt p) (λ (xs : List Line). bind (after pt xs) (λ (q : Point). bind (spelled q ps) (λ (z : Spelled). Some (behind xs z)))) w is in
+    let (next, leads, last) = bind-is (after pt ls) (λ (q : Point). bind (spelled q ps) (λ (z : Spelled). Some (behind ls z))) w rest in
+    let (z, more, end) = bind-is (spelled next ps) (λ (y : Spelled). Some (behind ls y)) w last in
+    let f : behind ls z ≡ w = cc in
+    let s : Steps pt p next = record { lines = ls; are = lines; leads = leads } in
+    subst (λ (x : Spelled). Counted v x.point) f
+    (counted_parts v ps next z ok.1 outs.1 (part_sane pt next p ls ok.0 lines leads sane) more (counted_part v pt next p (ok.0, tt) outs.0 sane s h))
+
+-- between groups
+abbrev pub AllTold : Point → Type 0
+AllTold pt = (i : MsgId) → i.answer ≡ false → is_sent pt.kernel i ≡ true → IsTold pt.view i
+
+-- a message of the bag stands somewhere, and so was told of
+stands_told : (b : Boot) (pt : Point) (i : MsgId) (o : Option PlainMessage) → Run b pt → pt.kernel.bag i ≡ o → is_some o ≡ true → IsTold pt.view i
+stands_told b pt i None h is e = absurd (false≢true e)
+stands_told b pt i (Some x) h is e =
+    let (z, one, off) : StandsRight i (Some x) (standing pt.view i) = stands_right pt i h.based.phased.state (Some x) is in
+    h.found.told i z (omega (arith, one))
+
+pub told_group : (b : Boot) (pt : Point) (d : Step) (w : Spelled) → group_of b pt d ≡ Some w → Run b pt → Run b w.point → AllTold pt → AllTold w.point
+told_group b pt d w e run next h i ask sent =
+    let g = group_is b pt d w e in
+    let sane = run.based.phased.sane in
+    let first : Counted pt.view (begun pt d) = counted_quiet pt.view pt (line.Head d) pt.kernel refl refl (record { kept = λ j k. k; each = λ j a s. inl (h j a s) }) in
+    let outs : OutsOf (IsTold pt.view) (rule.outcome b pt d) = outcome_outs (IsTold pt.view) b pt d (λ m j least. run.found.told j (Inbox m) least) (λ m p j least. run.found.told j (Queue m p) least) in
+    let last = counted_parts pt.view g.parts (begun pt d) g.rest (outcome_sayable b pt d g.parts g.is) (subst (OutsOf (IsTold pt.view)) g.is outs) (begun_sane pt d sane) g.said first in
+    elim ((subst (Counted pt.view) g.point last).each i ask sent) [
+      | inl told ↦ told
+      | inr there ↦ stands_told b w.point i (w.point.kernel.bag i) next refl there
+    ]

@@ -1,0 +1,11 @@
+-- Lemmas of the family Stages, by file.
+pub mod Marks
+pub mod Spares
+pub mod Lines
+pub mod Parts
+pub mod Turns
+pub mod Hears
+pub mod Rows
+pub mod Steps
+pub mod Told
+pub mod Always

@@ -1,0 +1,223 @@
+-- Each group keeps the marks of each process in order, and so they are wherever the rule leads.
+use Rattle.std.proofs.Common.{◌≡◌, ℕ, ◌==◌, Bool, true, false, List, [], ◌∷◌, refl, ap, ◌∙◌, sym, subst, length, arith}
+use Rattle.std.specs.Prelude.{◌/◌, if◌then◌else◌, slice_get}
+use Rattle.std.specs.declared.option.Option.{Option}
+use Rattle.std.specs.declared.option.Option.TheVariants.{None, Some}
+use Rattle.std.proofs.lemmas.Bool.{false≢true}
+use Rattle.std.proofs.lemmas.Bool.Decides.{nat_tests}
+use Rattle.dm_link.specs.declared.Pid.{Pid}
+use Rattle.dm_link.specs.Names.{pid_eq}
+use Rattle.dm_message.specs.declared.MsgId.{MsgId}
+use Rattle.dm_message.specs.Plain.{PlainMessage}
+use Rattle.dm_onekernel.specs.declared.boot.Boot.{Boot}
+use Rattle.dm_onekernel.specs.Boot.{switchboard, manager}
+use Rattle.dm_onekernel.specs.Step as kernel
+use Rattle.dm_schedule.specs.declared.Step.{Step}
+use Rattle.dm_schedule.specs.declared.Step.TheVariants as step
+use Rattle.dm_line.specs.declared.line.Line.{Line}
+use Rattle.dm_line.specs.declared.line.Line.TheVariants as line
+use Rattle.dm_rule.specs.View.{View, Told, About, NothingElse, Target, Of, Known, first_view, target_of}
+use Rattle.dm_rule.specs.View as view
+use Rattle.dm_rule.specs.Addresses.{Addresses, child_number}
+use Rattle.dm_rule.specs.Phases.{is_between, Phase, Nowhere, Rests, Over, Moves, is_due, IsIn}
+use Rattle.dm_rule.specs.Point.{Point, first_point}
+use Rattle.dm_rule.specs.Parts.{Part, Says, Spelled, spelled}
+use Rattle.dm_rule.specs.Migrating.{kernel_told, server_told, process_told, migrates, migrates_child}
+use Rattle.dm_rule.specs.Rule as rule
+use Rattle.dm_rule.specs.Rule.{group_of}
+use Rattle.dm_laws.proofs.Steps.{bind-is}
+use Rattle.dm_rule.proofs.Groups as groups
+use Rattle.dm_rule.proofs.Groups.{IsNet, arrives_net, resends_net}
+use Rattle.dm_rule.proofs.Lines.{not_true}
+use Rattle.dm_rule.proofs.Moves.States.{front_way}
+use Rattle.dm_rule.proofs.Phases.Always.{Phased, phased_start, phased_group}
+use Rattle.dm_rule.proofs.Phases.Answers.{due}
+use Rattle.dm_rule.proofs.Phases.Calm.{Calm, calm_same, calm_in}
+use Rattle.dm_rule.proofs.Phases.Leaves.{told_some}
+use Rattle.dm_rule.proofs.Phases.Net.{head_calm, net_parts, migrates_quiet}
+use Rattle.dm_rule.proofs.Phases.Quiet.{Tame, plain_in_bag, parts_settle}
+use Rattle.dm_rule.proofs.Phases.Stand.{InPhases, calm_phases}
+use Rattle.dm_rule.proofs.States.{State, PairsFit}
+use Rattle.dm_rule.proofs.Telling.{Sane}
+use Rattle.dm_rulelaws.specs.Order.{LeadsBy}
+use Rattle.dm_rulelaws.proofs.Based.Needs.{begun, begun_sane}
+use Rattle.dm_movelaws.specs.Stages.{Mark, marks, in_order, StepsInOrder}
+use Rattle.dm_movelaws.proofs.Stages.Marks.{order-append, marks-append, marks_of, group_says}
+use Rattle.dm_movelaws.proofs.Stages.Spares.{mark_in, spares_same, spares_calm, Marked, none_marked}
+use Rattle.dm_movelaws.proofs.Stages.Lines.{AllMild, mild_marks, net_marks, TameAt}
+use Rattle.dm_movelaws.proofs.Stages.Parts.{parts_spare}
+use Rattle.dm_movelaws.proofs.Stages.Turns.{round_mild, handles_mild}
+use Rattle.dm_movelaws.proofs.Stages.Hears.{Hears, Calms, Freezes, freezes, server_mild, process_hears}
+use Rattle.dm_movelaws.proofs.Stages.Rows.{about_others, plain_others, row_marked}
+use Rattle.dm_movelaws.proofs.Stages.Steps.{freezes_row}
+use Rattle.dm_movelaws.proofs.Stages.Told.{told_marked}
+
+-- where the parts of a turn begin
+pub record Turning (o pt : Point) (m : ℕ) : Type 0 where
+  pub sane : Sane pt
+  pub fits : PairsFit pt.view
+  pub state : State None pt
+  pub phases : InPhases pt.view
+  pub same : (q : Pid) → pt.view.known pt.view.acting q ≡ o.view.known m q
+
+abbrev MarkedBy : Point → Spelled → List Part → Type 0
+MarkedBy pt w ps = (p : Pid) → Marked pt.view w.point.view p (marks_of p ps)
+
+-- parts that leave all processes alone
+mild_marked : (pt : Point) (front : Option MsgId) (ps : List Part) (w : Spelled) → Sane pt → PairsFit pt.view → TameAt pt.view front → ((p : Pid) → AllMild p front ps) → spelled pt ps ≡ Some w → MarkedBy pt w ps
+mild_marked pt front ps w sane fits tame mild e p =
+    none_marked pt.view w.point.view p (marks_of p ps) (mild_marks p front ps (mild p)) (parts_spare p front ps pt.view pt w (mild p) (record { spares = spares_same pt.view p; sane = sane; fits = fits; tame = tame }) e).spares
+
+tame_front : (v : View) (i : MsgId) → Tame v i → TameAt v (Some i)
+tame_front v i tame j e = let f : i ≡ j = cc in subst (Tame v) f tame
+
+-- a kernel's own message
+zero_num : (n : ℕ) → n ≡ 0 → (n == 0) ≡ true
+zero_num n e = grind (arith, nat_tests)
+
+plain_by : (pt : Point) (i : MsgId) (is : List MsgId) (t : Told) (h : InPhases pt.view) (b : Bool) → is_between t.kind ≡ b → pt.view.inbox pt.view.acting ≡ i ∷ is → pt.view.told i ≡ Some t → (t.receiver.num == 0) ≡ false → b ≡ false
+plain_by pt i is t h true e front told off =
+    let u = due pt i is t h front told e in
+    absurd (false≢true (sym off ∙ zero_num t.receiver.num (ap (λ (y : Told). y.receiver.num) u.told)))
+plain_by pt i is t h false e front told off = refl
+
+kernel_marked : (b : Boot) (o pt : Point) (m : ℕ) (i : MsgId) (is : List MsgId) (t : Told) (a : About) (ps : List Part) (w : Spelled) → Turning o pt m → pt.view.inbox pt.view.acting ≡ i ∷ is → pt.view.told i ≡ Some t → t.about ≡ a → rule.kernel_hears b o m i t.kind a ≡ Some ps → spelled pt ps ≡ Some w → MarkedBy pt w ps
+kernel_marked b o pt m i is t NothingElse ps w h front told about e n = cc
+kernel_marked b o pt m i is t (Target to) ps w h front told about e n = cc
+kernel_marked b o pt m i is t (Of q) ps w h front told about e n =
+    let (x, there, last) = bind-is (kernel.alive (o.kernel.processes q)) (λ x. kernel_told o m i q (rule.fits (rule.free_room b o m) (length x.memory / 256)) x t.kind) ps e in
+    told_marked o pt m i is t q (rule.fits (rule.free_room b o m) (length x.memory / 256)) x t.kind ps w
+    (record { at = record { sane = h.sane; fits = h.fits; front = front; others = about_others pt.view i t q told about }; phases = h.phases; told = told; about = about }) refl last n
+kernel_marked b o pt m i is t (view.Place q at moves) ps w h front told about e n = cc
+
+process_marked : (o pt : Point) (m : ℕ) (i : MsgId) (is : List MsgId) (t : Told) (k : Known) (ps : List Part) (w : Spelled) → Turning o pt m → pt.view.inbox pt.view.acting ≡ i ∷ is → pt.view.told i ≡ Some t → is_between t.kind ≡ false → o.view.known m t.receiver ≡ k → Hears k i t ps → spelled pt ps ≡ Some w → MarkedBy pt w ps
+process_marked o pt m i is t k ps w h front told plain known (Calms mild) n =
+    mild_marked pt (Some i) ps w h.sane h.fits (tame_front pt.view i (record { what = t; told = told; plain = plain })) mild n
+process_marked o pt m i is t k ps w h front told plain known (Freezes here are) n =
+    let q = t.receiver in
+    let to = target_of (Some t) in
+    let here_ = h.same q ∙ known ∙ here in
+    subst (MarkedBy pt w) (sym are)
+    (row_marked pt.view w.point.view q (λ p. marks_of p (freezes q to))
+    (freezes_row pt i is q to w (record { sane = h.sane; fits = h.fits; front = front; others = plain_others pt.view i t q told plain }) here_ (ap (spelled pt) (sym are) ∙ n)))
+
+hears_by : (b : Boot) (o pt : Point) (m : ℕ) (i : MsgId) (is : List MsgId) (t : Told) (c d g : Bool) (ps : List Part) (w : Spelled) → Turning o pt m → (t.receiver.num == 0) ≡ c → pt.view.inbox pt.view.acting ≡ i ∷ is → pt.view.told i ≡ Some t
+    → (if c then rule.kernel_hears b o m i t.kind t.about else if d then server_told o i t t.kind else if g then server_told o i t t.kind else process_told o m i t (o.view.known m t.receiver)) ≡ Some ps → spelled pt ps ≡ Some w → MarkedBy pt w ps
+hears_by b o pt m i is t true d g ps w h c front told e n = kernel_marked b o pt m i is t t.about ps w h front told refl e n
+hears_by b o pt m i is t false true g ps w h c front told e n =
+    let plain = plain_by pt i is t h.phases (is_between t.kind) refl front told c in
+    mild_marked pt (Some i) ps w h.sane h.fits (tame_front pt.view i (record { what = t; told = told; plain = plain })) (server_mild o i t t.kind ps e) n
+hears_by b o pt m i is t false false true ps w h c front told e n =
+    let plain = plain_by pt i is t h.phases (is_between t.kind) refl front told c in
+    mild_marked pt (Some i) ps w h.sane h.fits (tame_front pt.view i (record { what = t; told = told; plain = plain })) (server_mild o i t t.kind ps e) n
+hears_by b o pt m i is t false false false ps w h c front told e n =
+    process_marked o pt m i is t (o.view.known m t.receiver) ps w h front told (plain_by pt i is t h.phases (is_between t.kind) refl front told c) refl (process_hears o m i t (o.view.known m t.receiver) ps e) n
+
+hears_marked : (b : Boot) (o pt : Point) (m : ℕ) (i : MsgId) (is : List MsgId) (q : Option Told) (ps : List Part) (w : Spelled) → Turning o pt m → pt.view.inbox pt.view.acting ≡ i ∷ is → pt.view.told i ≡ q → rule.hears b o m i q ≡ Some ps → spelled pt ps ≡ Some w → MarkedBy pt w ps
+hears_marked b o pt m i is None ps w h front told e n = cc
+hears_marked b o pt m i is (Some t) ps w h front told e n = hears_by b o pt m i is t (t.receiver.num == 0) (pid_eq t.receiver switchboard) (pid_eq t.receiver manager) ps w h refl front told e n
+
+-- a turn
+front_tame : (pt : Point) (i : MsgId) (is : List MsgId) (msg : PlainMessage) → Sane pt → State None pt → pt.view.inbox pt.view.acting ≡ i ∷ is → pt.kernel.bag i ≡ Some msg → Tame pt.view i
+front_tame pt i is msg sane state front there =
+    let (q, way) = front_way pt i is state front in
+    let (t, told) = told_some (pt.view.told i) q (state.stands.told i q way) in
+    record { what = t; told = told; plain = plain_in_bag pt i msg sane there t told }
+
+comes_marked : (b : Boot) (o : Point) (m : ℕ) (i : MsgId) (is : List MsgId) (q : Option PlainMessage) (ps : List Part) (w : Spelled) → Turning o (begun o (step.Turn m)) m → o.view.inbox m ≡ i ∷ is → o.kernel.bag i ≡ q → rule.comes_to b o m i q ≡ Some ps → spelled (begun o (step.Turn m)) ps ≡ Some w
+    → MarkedBy (begun o (step.Turn m)) w ps
+comes_marked b o m i is None ps w h front there e n = hears_marked b o (begun o (step.Turn m)) m i is (o.view.told i) ps w h front refl e n
+comes_marked b o m i is (Some msg) ps w h front there e n =
+    let pt = begun o (step.Turn m) in
+    mild_marked pt (Some i) ps w h.sane h.fits (tame_front pt.view i (front_tame pt i is msg h.sane h.state front there)) (λ p. handles_mild p b o m i msg ps e) n
+
+turns_marked : (b : Boot) (o : Point) (m : ℕ) (inbox : List MsgId) (ps : List Part) (w : Spelled) → Turning o (begun o (step.Turn m)) m → o.view.inbox m ≡ inbox → rule.turns b o m inbox ≡ Some ps → spelled (begun o (step.Turn m)) ps ≡ Some w → MarkedBy (begun o (step.Turn m)) w ps
+turns_marked b o m [] ps w h front e n =
+    mild_marked (begun o (step.Turn m)) None ps w h.sane h.fits (λ i k. cc) (λ p. round_mild p None b o m (rule.first_runnable o.kernel (o.view.queue m) (o.view.ring m)) ps e) n
+turns_marked b o m (i ∷ is) ps w h front e n = comes_marked b o m i is (o.kernel.bag i) ps w h front refl e n
+
+turning : (o : Point) (m : ℕ) → Phased o → Turning o (begun o (step.Turn m)) m
+turning o m h =
+    let fits = groups.fits o.view h.pairs in
+    record {
+      sane = begun_sane o (step.Turn m) h.sane;
+      fits = record { within = fits.within; home = fits.home };
+      state = groups.begun o (step.Turn m) h.state (λ z. groups.turn_off o.view m z) (λ i. refl);
+      phases = calm_phases o.view (view.after_head o.view (step.Turn m)) (head_calm o.view (step.Turn m)) h.phases;
+      same = λ q. refl;
+    }
+
+-- the directive to migrate
+child_marks : (p : Pid) (a : Addresses) (q : Pid) (n : Option ℕ) → marks_of p (migrates_child a q n) ≡ []
+child_marks p a q None = refl
+child_marks p a q (Some n) = refl
+
+migrates_by : (p : Pid) (o : Point) (q : Pid) (c d : Bool) → marks_of p (if c then Says (line.Pinned q) ∷ [] else if d then Says (line.Pinned q) ∷ [] else migrates_child o.addresses q (child_number o.kernel q)) ≡ []
+migrates_by p o q true d = refl
+migrates_by p o q false true = refl
+migrates_by p o q false false = child_marks p o.addresses q (child_number o.kernel q)
+
+migrates_marks : (p : Pid) (o : Point) (q : Pid) → marks_of p (migrates o q) ≡ []
+migrates_marks p o q = migrates_by p o q (pid_eq q switchboard) (pid_eq q manager)
+
+-- behind the head of a group
+outcome_marked : (b : Boot) (pt : Point) (d : Step) (ps : List Part) (w : Spelled) → Phased pt → rule.outcome b pt d ≡ Some ps → spelled (begun pt d) ps ≡ Some w → MarkedBy (begun pt d) w ps
+outcome_marked b pt (step.Turn m) ps w h e n p = turns_marked b pt m (pt.view.inbox m) ps w (turning pt m h) refl e n p
+outcome_marked b pt (step.Tick m) ps w h e n p =
+    let qs = Says (line.Resent m (rule.outstanding pt.view m pt.kernel.machines)) ∷ rule.resends pt.view m pt.kernel.machines in
+    let f : ps ≡ qs = cc in
+    let start = begun pt (step.Tick m) in
+    let net : IsNet qs = (tt, resends_net pt.view m pt.kernel.machines) in
+    none_marked start.view w.point.view p (marks_of p ps) (ap (marks_of p) f ∙ net_marks p qs net) (spares_calm start.view w.point.view p (net_parts qs start w net (ap (spelled start) (sym f) ∙ n)))
+outcome_marked b pt (step.Deliver a c k) ps w h e n p =
+    let qs = rule.arrives a c (pt.view.pair a c) (pt.view.pair c a) (slice_get (pt.view.pair a c).wire k) in
+    let f : ps ≡ qs = cc in
+    let start = begun pt (step.Deliver a c k) in
+    let net = arrives_net a c (pt.view.pair a c) (pt.view.pair c a) (slice_get (pt.view.pair a c).wire k) in
+    none_marked start.view w.point.view p (marks_of p ps) (ap (marks_of p) f ∙ net_marks p qs net) (spares_calm start.view w.point.view p (net_parts qs start w net (ap (spelled start) (sym f) ∙ n)))
+outcome_marked b pt (step.Migrate q m) ps w h e n p =
+    let f : ps ≡ migrates pt q = cc in
+    let start = begun pt (step.Migrate q m) in
+    let fits = groups.fits pt.view h.pairs in
+    let settled = parts_settle (migrates pt q) start.view start w (migrates_quiet start.view pt q) (record { calm = calm_same start.view; sane = begun_sane pt (step.Migrate q m) h.sane; fits = record { within = fits.within; home = fits.home } }) (ap (spelled start) (sym f) ∙ n) in
+    none_marked start.view w.point.view p (marks_of p ps) (ap (marks_of p) f ∙ migrates_marks p pt q) (spares_calm start.view w.point.view p settled.calm)
+
+-- a group
+head_marked : (u v w : View) (p : Pid) (ms : List Mark) → Calm u v → Marked v w p ms → Marked u w p ms
+head_marked u v w p ms c m a b h k da db = m a b (calm_in u v p a c h) k da db
+
+pub group_marked : (b : Boot) (pt : Point) (d : Step) (w : Spelled) → group_of b pt d ≡ Some w → Phased pt → (p : Pid) → Marked pt.view w.point.view p (marks p w.lines)
+group_marked b pt d w e h p =
+    let g = group_says b pt d w e in
+    subst (Marked pt.view w.point.view p) (sym (g.marked p))
+    (subst (λ (x : Point). Marked pt.view x.view p (marks_of p g.parts)) g.point
+    (head_marked pt.view (begun pt d).view g.rest.point.view p (marks_of p g.parts) (head_calm pt.view d) (outcome_marked b pt d g.parts g.rest h g.is g.said p)))
+
+-- groups
+not_due : (v : View) (h : InPhases v) (p : Pid) → is_due (h.of p) ≡ false
+not_due v h p = not_true (is_due (h.of p)) (λ e. let f : None ≡ Some p = h.put p e in cc)
+
+pub run_marked : (b : Boot) (es : List Step) (ls : List Line) (pt end : Point) (p : Pid) → LeadsBy b pt es ls end → (h : Phased pt) → in_order (mark_in (h.phases.of p)) (marks p ls) ≡ true
+run_marked b [] ls pt end p (none, at) h = ap (λ (xs : List Line). in_order (mark_in (h.phases.of p)) (marks p xs)) none
+run_marked b (d ∷ ds) ls pt end p (w, rest, fit, is, split, more) h =
+    let k = phased_group b pt d w fit is h in
+    let o = mark_in (h.phases.of p) in
+    let g = group_marked b pt d w is h p (h.phases.of p) (k.phases.of p) (h.phases.each p) (k.phases.each p) (not_due pt.view h.phases p) (not_due w.point.view k.phases p) in
+    let later = run_marked b ds rest w.point end p more k in
+    ap (λ (xs : List Line). in_order o (marks p xs)) split ∙ ap (in_order o) (marks-append p w.lines rest)
+    ∙ order-append o (marks p w.lines) (marks p rest) g.0 (ap (λ (x : Option Mark). in_order x (marks p rest)) g.1 ∙ later)
+
+-- nothing is told of before the first line
+start_mark : (b : Boot) (p : Pid) (a : Phase) → IsIn (first_view b) p a → is_due a ≡ false → mark_in a ≡ None
+start_mark b p Nowhere h due = refl
+start_mark b p (Rests at) h due = refl
+start_mark b p (Over at) h due = refl
+start_mark b p (Moves k s d None) h due = cc
+start_mark b p (Moves k s d (Some i)) h due = absurd (let e = h.token.told in cc)
+
+-- wherever the rule leads
+pub steps_in_order : StepsInOrder
+steps_in_order b es ls pt p valid leads =
+    let h = phased_start b valid in
+    let none = start_mark b p (h.phases.of p) (h.phases.each p) (not_due (first_view b) h.phases p) in
+    ap (λ (o : Option Mark). in_order o (marks p ls)) (sym none) ∙ run_marked b es ls (first_point b) pt p leads h

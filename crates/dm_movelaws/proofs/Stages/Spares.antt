@@ -1,0 +1,285 @@
+-- How far the marks of a process have come by its phase; and what leaves that as it is.
+use Rattle.std.proofs.Common.{◌≡◌, ℕ, ◌≤◌, ◌==◌, ◌&&◌, Bool, true, false, not, List, [], refl, ap, ◌∙◌, sym, subst, inl, inr, arith}
+use Rattle.std.specs.Prelude.{if◌then◌else◌}
+use Rattle.std.specs.declared.option.Option.{Option}
+use Rattle.std.specs.declared.option.Option.TheVariants.{None, Some}
+use Rattle.std.proofs.lemmas.Bool.{cases_Bool, false≢true}
+use Rattle.std.proofs.lemmas.Bool.Decides.{nat_tests}
+use Rattle.dm_link.specs.declared.Pid.{Pid}
+use Rattle.dm_message.specs.declared.MsgId.{MsgId}
+use Rattle.dm_message.specs.declared.kind.MessageKind.{MessageKind}
+use Rattle.dm_message.specs.declared.kind.MessageKind.TheVariants as kind
+use Rattle.dm_message.specs.Ids.{id_eq}
+use Rattle.dm_rule.specs.View.{View, Told, Of, Known, Unknown, Here, Frozen, Incoming, Forward, Ended, after_put}
+use Rattle.dm_rule.specs.View as view
+use Rattle.dm_rule.specs.Spots.{Spot, standing}
+use Rattle.dm_rule.specs.Phases.{is_between, is_restart, is_early, is_away, is_here, is_over, leaves, comes, knows, Phase, Nowhere, Rests, Over, Moves, is_due, token_in, told_between, IsIn}
+use Rattle.dm_laws.proofs.Equal.{id_eq-is}
+use Rattle.dm_rule.proofs.States.{PairsFit, put_told_off}
+use Rattle.dm_rule.proofs.Phases.Calm.{Calm, between_of}
+use Rattle.dm_rule.proofs.Phases.Lines.{put_spots, put_at}
+use Rattle.dm_rule.proofs.Phases.Put.{put_there, put_spot}
+use Rattle.dm_rule.proofs.Phases.Rests.{rests_here}
+use Rattle.dm_movelaws.specs.Stages.{Mark, Reached, Lacking, in_order}
+use Rattle.dm_movelaws.proofs.Stages.Marks.{open_after}
+
+-- the last mark, by the message that is under way
+abbrev pub mark_of : MessageKind → Option Mark
+mark_of kind.Ask = Some (Reached 2)
+mark_of kind.Refuse = Some Lacking
+mark_of kind.PullState = Some (Reached 3)
+mark_of kind.State = Some (Reached 3)
+mark_of kind.PullBlock = Some (Reached 4)
+mark_of kind.Memory = Some (Reached 4)
+mark_of kind.AllTaken = Some (Reached 5)
+mark_of kind.Restart = Some (Reached 7)
+mark_of kind.User = None
+mark_of kind.Stop = None
+mark_of kind.Resume = None
+mark_of kind.Kill = None
+mark_of kind.Read = None
+mark_of kind.Write = None
+mark_of kind.Block = None
+mark_of kind.Written = None
+mark_of kind.Gone = None
+mark_of kind.Create = None
+mark_of kind.Created = None
+mark_of kind.NoRoom = None
+mark_of kind.Migrate = None
+mark_of kind.Update = None
+mark_of kind.Move = None
+mark_of kind.Moved = None
+mark_of kind.CallOff = None
+mark_of kind.Bury = None
+
+abbrev pub mark_in : Phase → Option Mark
+mark_in Nowhere = None
+mark_in (Rests at) = None
+mark_in (Over at) = None
+mark_in (Moves k s d id) = mark_of k
+
+-- a machine neither holds the process back nor expects it
+abbrev pub is_settled : Known → Bool
+is_settled Unknown = true
+is_settled Here = true
+is_settled (Frozen to) = false
+is_settled (Incoming from) = false
+is_settled (Forward at moves) = true
+is_settled Ended = true
+
+-- what was told stays, no message about this process's migration goes, and no machine comes to hold it back or to expect it
+pub record Spares (v w : View) (p : Pid) : Type 0 where
+  pub kept : (i : MsgId) (t : Told) → v.told i ≡ Some t → w.told i ≡ Some t
+  pub on : (i : MsgId) (t : Told) (z : Spot) → v.told i ≡ Some t → is_between t.kind ≡ true → t.about ≡ Of p → 1 ≤ standing v i z → (y : Spot) × (1 ≤ standing w i y)
+  pub still : (m : ℕ) → is_settled (v.known m p) ≡ true → is_settled (w.known m p) ≡ true
+
+pub spares_same : (v : View) (p : Pid) → Spares v v p
+spares_same v p = record { kept = λ i t e. e; on = λ i t z e b a s. (z, s); still = λ m e. e }
+
+pub spares_trans : (u v w : View) (p : Pid) → Spares u v p → Spares v w p → Spares u w p
+spares_trans u v w p h k = record {
+  kept = λ i t e. k.kept i t (h.kept i t e);
+  on = λ i t z e b a s. (let (y, x) = h.on i t z e b a s in k.on i t y (h.kept i t e) b a x);
+  still = λ m e. k.still m (h.still m e);
+}
+
+pub spares_calm : (v w : View) (p : Pid) → Calm v w → Spares v w p
+spares_calm v w p c = record {
+  kept = c.kept;
+  on = λ i t z e b a s. c.on i t e b z s;
+  still = λ m e. ap is_settled (c.known m p) ∙ e;
+}
+
+-- any put
+first_kept : (o : Option Told) (u t : Told) → o ≡ Some t → Some (view.first_told o u) ≡ Some t
+first_kept None u t e = cc
+first_kept (Some s) u t e = e
+
+pub spares_put : (v : View) (b : ℕ) (i : MsgId) (k : MessageKind) (q p : Pid) → PairsFit v → Spares v (after_put v v.acting b i k q) p
+spares_put v b i k q p fits =
+    let w = after_put v v.acting b i k q in
+    let u : Told = record { kind = k; receiver = q; about = v.topic } in
+    record {
+      kept = λ j t e. elim (cases_Bool (id_eq i j)) [
+        | inl same ↦
+            let is : i ≡ j = id_eq-is i j same in
+            subst (λ (x : MsgId). w.told x ≡ Some t) is (put_at v v.acting b i k q ∙ first_kept (v.told i) u t (ap v.told is ∙ e))
+        | inr apart ↦ put_told_off v v.acting b i j k q apart ∙ e
+      ];
+      on = λ j t z e c a s. elim (cases_Bool (id_eq i j)) [
+        | inl same ↦ (put_spot v.acting b, subst (λ (x : MsgId). 1 ≤ standing w x (put_spot v.acting b)) (id_eq-is i j same) (put_there v v.acting b i k q fits))
+        | inr apart ↦ (z, subst (λ n. 1 ≤ n) (sym (put_spots v v.acting b i j k q fits apart z)) s)
+      ];
+      still = λ m e. e;
+    }
+
+-- where nothing is under way
+rest_settled : (phase : Phase) (m : ℕ) (k : Known) → is_due phase ≡ false → token_in phase ≡ None → knows phase m k ≡ true → is_settled k ≡ true
+rest_settled Nowhere m Unknown d e h = refl
+rest_settled Nowhere m Here d e h = absurd (false≢true h)
+rest_settled Nowhere m (Frozen to) d e h = absurd (false≢true h)
+rest_settled Nowhere m (Incoming from) d e h = absurd (false≢true h)
+rest_settled Nowhere m (Forward at moves) d e h = absurd (false≢true h)
+rest_settled Nowhere m Ended d e h = absurd (false≢true h)
+rest_settled (Rests at) m k d e h = here_settled (at == m) k h
+  where
+    here_settled : (c : Bool) (k : Known) → (if c then is_here k else is_away k) ≡ true → is_settled k ≡ true
+    here_settled c Unknown h = refl
+    here_settled c Here h = refl
+    here_settled true (Frozen to) h = absurd (false≢true h)
+    here_settled false (Frozen to) h = absurd (false≢true h)
+    here_settled true (Incoming from) h = absurd (false≢true h)
+    here_settled false (Incoming from) h = absurd (false≢true h)
+    here_settled c (Forward at moves) h = refl
+    here_settled c Ended h = refl
+rest_settled (Over at) m k d e h = over_settled (at == m) k h
+  where
+    over_settled : (c : Bool) (k : Known) → (if c then is_over k else is_away k) ≡ true → is_settled k ≡ true
+    over_settled c Unknown h = refl
+    over_settled c Here h = refl
+    over_settled true (Frozen to) h = absurd (false≢true h)
+    over_settled false (Frozen to) h = absurd (false≢true h)
+    over_settled true (Incoming from) h = absurd (false≢true h)
+    over_settled false (Incoming from) h = absurd (false≢true h)
+    over_settled c (Forward at moves) h = refl
+    over_settled c Ended h = refl
+rest_settled (Moves k s t None) m x d e h = cc
+rest_settled (Moves k s t (Some i)) m x d e h = cc
+
+-- where something is, not all machines are settled: the source holds the process, or the destination expects it
+pub restart_late : (k : MessageKind) → is_restart k ≡ true → is_early k ≡ false
+restart_late kind.Ask e = absurd (false≢true e)
+restart_late kind.Refuse e = absurd (false≢true e)
+restart_late kind.PullState e = refl
+restart_late kind.State e = refl
+restart_late kind.PullBlock e = refl
+restart_late kind.Memory e = refl
+restart_late kind.AllTaken e = refl
+restart_late kind.Restart e = refl
+restart_late kind.User e = refl
+restart_late kind.Stop e = refl
+restart_late kind.Resume e = refl
+restart_late kind.Kill e = refl
+restart_late kind.Read e = refl
+restart_late kind.Write e = refl
+restart_late kind.Block e = refl
+restart_late kind.Written e = refl
+restart_late kind.Gone e = refl
+restart_late kind.Create e = refl
+restart_late kind.Created e = refl
+restart_late kind.NoRoom e = refl
+restart_late kind.Migrate e = refl
+restart_late kind.Update e = refl
+restart_late kind.Move e = refl
+restart_late kind.Moved e = refl
+restart_late kind.CallOff e = refl
+restart_late kind.Bury e = refl
+
+source_settled : (k : MessageKind) (d : ℕ) (x : Known) → leaves k d x ≡ true → is_settled x ≡ true → is_restart k ≡ true
+source_settled k d Unknown h e = absurd (false≢true h)
+source_settled k d Here h e = absurd (false≢true h)
+source_settled k d (Frozen to) h e = absurd (false≢true e)
+source_settled k d (Incoming from) h e = absurd (false≢true h)
+source_settled k d (Forward at moves) h e = first_of (is_restart k) (d == at) h
+  where
+    first_of : (b c : Bool) → (b && c) ≡ true → b ≡ true
+    first_of true c e = refl
+    first_of false c e = absurd (false≢true e)
+source_settled k d Ended h e = absurd (false≢true h)
+
+destination_settled : (k : MessageKind) (s : ℕ) (x : Known) → comes k s x ≡ true → is_settled x ≡ true → is_early k ≡ true
+destination_settled k s Unknown h e = h
+destination_settled k s Here h e = absurd (false≢true h)
+destination_settled k s (Frozen to) h e = absurd (false≢true h)
+destination_settled k s (Incoming from) h e = absurd (false≢true e)
+destination_settled k s (Forward at moves) h e = h
+destination_settled k s Ended h e = absurd (false≢true h)
+
+second_of : (b c : Bool) → (b && c) ≡ true → c ≡ true
+second_of true c e = e
+second_of false c e = absurd (false≢true e)
+
+not_so : (b : Bool) → not b ≡ true → b ≡ false
+not_so true e = absurd (false≢true e)
+not_so false e = refl
+
+eq_self : (m : ℕ) → (m == m) ≡ true
+eq_self m = grind (arith, nat_tests)
+
+moves_unsettled : (v : View) (p : Pid) (k : MessageKind) (s d : ℕ) (o : Option MsgId) → IsIn v p (Moves k s d o) → ((m : ℕ) → is_settled (v.known m p) ≡ true) → ⊥
+moves_unsettled v p k s d o h settled =
+    let apart : (s == d) ≡ false = not_so (s == d) (second_of (is_between k) (not (s == d)) h.apart) in
+    let x = v.known s p in
+    let y = v.known d p in
+    let left : leaves k d x ≡ true = sym (ap (λ (c : Bool). if c then leaves k d x else if d == s then comes k s x else is_away x) (eq_self s)) ∙ h.known s in
+    let come : comes k s y ≡ true =
+    sym (ap (λ (c : Bool). if c then leaves k d y else if d == d then comes k s y else is_away y) apart ∙ ap (λ (c : Bool). if c then comes k s y else is_away y) (eq_self d)) ∙ h.known d in
+    let late = restart_late k (source_settled k d x left (settled s)) in
+    let early = destination_settled k s y come (settled d) in
+    false≢true (sym late ∙ early)
+
+-- a message about a process's migration that stands somewhere
+pub record TokenOf (v : View) (p : Pid) (k : MessageKind) : Type 0 where
+  pub id : MsgId
+  pub what : Told
+  pub told : v.told id ≡ Some what
+  pub kind : what.kind ≡ k
+  pub between : is_between k ≡ true
+  pub about : what.about ≡ Of p
+  pub spot : Spot
+  pub stands : 1 ≤ standing v id spot
+
+-- it is the phase's
+told_kind : (k : MessageKind) (s d : ℕ) (p : Pid) (i : MsgId) (v : View) (t : Told) → IsIn v p (Moves k s d (Some i)) → v.told i ≡ Some t → t.kind ≡ k
+told_kind k s d p i v t h told = let f : Some t ≡ Some (told_between p k s d) = sym told ∙ h.token.told in let g : t ≡ told_between p k s d = cc in ap (λ (x : Told). x.kind) g
+
+phase_kind : (v : View) (p : Pid) (a : Phase) (i : MsgId) (t : Told) → IsIn v p a → token_in a ≡ Some i → v.told i ≡ Some t → mark_in a ≡ mark_of t.kind
+phase_kind v p Nowhere i t h e told = cc
+phase_kind v p (Rests at) i t h e told = cc
+phase_kind v p (Over at) i t h e told = cc
+phase_kind v p (Moves k s d None) i t h e told = cc
+phase_kind v p (Moves k s d (Some j)) i t h e told =
+    let f : j ≡ i = cc in
+    ap mark_of (sym (told_kind k s d p j v t h (ap v.told f ∙ told)))
+
+-- all phases of a process have this mark
+abbrev pub HasMark : View → Pid → Option Mark → Type 0
+HasMark v p o = (a : Phase) → IsIn v p a → is_due a ≡ false → mark_in a ≡ o
+
+pub token_mark : (v : View) (p : Pid) (k : MessageKind) → TokenOf v p k → HasMark v p (mark_of k)
+token_mark v p k t a h due =
+    phase_kind v p a t.id t.what h (h.alone t.id t.what t.spot t.told (ap is_between t.kind ∙ t.between) t.about t.stands) t.told ∙ ap mark_of t.kind
+
+pub here_mark : (v : View) (p : Pid) (m : ℕ) → v.known m p ≡ Here → HasMark v p None
+here_mark v p m here a h due = ap mark_in (rests_here a m (sym (ap (knows a m) here) ∙ h.known m))
+
+settled_mark : (v : View) (p : Pid) → ((m : ℕ) → is_settled (v.known m p) ≡ true) → HasMark v p None
+settled_mark v p settled Nowhere h due = refl
+settled_mark v p settled (Rests at) h due = refl
+settled_mark v p settled (Over at) h due = refl
+settled_mark v p settled (Moves k s d o) h due = absurd (moves_unsettled v p k s d o h settled)
+
+pub spares_mark : (v w : View) (p : Pid) (a b : Phase) → Spares v w p → IsIn v p a → IsIn w p b → is_due a ≡ false → is_due b ≡ false → mark_in b ≡ mark_in a
+spares_mark v w p Nowhere b s h k da db = settled_mark w p (λ m. s.still m (rest_settled Nowhere m (v.known m p) da refl (h.known m))) b k db
+spares_mark v w p (Rests at) b s h k da db = settled_mark w p (λ m. s.still m (rest_settled (Rests at) m (v.known m p) da refl (h.known m))) b k db
+spares_mark v w p (Over at) b s h k da db = settled_mark w p (λ m. s.still m (rest_settled (Over at) m (v.known m p) da refl (h.known m))) b k db
+spares_mark v w p (Moves c m n None) b s h k da db = cc
+spares_mark v w p (Moves c m n (Some i)) b s h k da db =
+    let t = told_between p c m n in
+    let between = between_of c m n h.apart in
+    let (y, x) = s.on i t h.token.spot h.token.told between refl h.token.stands in
+    let token : TokenOf w p c = record { id = i; what = t; told = s.kept i t h.token.told; kind = refl; between = between; about = refl; spot = y; stands = x } in
+    token_mark w p c token b k db
+
+-- from one view to another with these marks of a process
+abbrev pub Marked : View → View → Pid → List Mark → Type 0
+Marked v w p ms = (a b : Phase) → IsIn v p a → IsIn w p b → is_due a ≡ false → is_due b ≡ false → (in_order (mark_in a) ms ≡ true) × (open_after (mark_in a) ms ≡ mark_in b)
+
+pub none_marked : (v w : View) (p : Pid) (ms : List Mark) → ms ≡ [] → Spares v w p → Marked v w p ms
+none_marked v w p ms none s a b h k da db =
+    (ap (in_order (mark_in a)) none, ap (open_after (mark_in a)) none ∙ sym (spares_mark v w p a b s h k da db))
+
+pub some_marked : (v w : View) (p : Pid) (ms ns : List Mark) (x y : Option Mark) → ms ≡ ns → HasMark v p x → HasMark w p y → in_order x ns ≡ true → open_after x ns ≡ y → Marked v w p ms
+some_marked v w p ms ns x y is before behind order ends a b h k da db =
+    let e = before a h da in
+    (ap (in_order (mark_in a)) is ∙ ap (λ (o : Option Mark). in_order o ns) e ∙ order, ap (open_after (mark_in a)) is ∙ ap (λ (o : Option Mark). open_after o ns) e ∙ ends ∙ sym (behind b k db))

@@ -1,0 +1,172 @@
+-- Wherever the rule leads there are trails that all addresses are on; where a process doesn't move, its trail ends where it is.
+use Rattle.std.proofs.Common.{◌≡◌, ◌≢◌, ℕ, ◌+◌, ◌==◌, not, Bool, true, false, List, [], ◌∷◌, length, refl, ap, ◌∙◌, sym, subst, inl, inr, arith}
+use Rattle.std.proofs.lemmas.Bool.{false≢true}
+use Rattle.std.proofs.lemmas.Bool.Decides.{nat_tests}
+use Rattle.std.specs.Prelude.{if◌then◌else◌, slice_get}
+use Rattle.std.specs.declared.option.Option.{Option}
+use Rattle.std.specs.declared.option.Option.TheVariants.{Some}
+use Rattle.dm_link.specs.declared.Pid.{Pid}
+use Rattle.dm_message.specs.declared.MsgId.{MsgId}
+use Rattle.dm_message.specs.declared.kind.MessageKind.{MessageKind}
+use Rattle.dm_onekernel.specs.declared.boot.Boot.{Boot}
+use Rattle.dm_onekernel.specs.Options.{bind}
+use Rattle.dm_schedule.specs.declared.Step.{Step}
+use Rattle.dm_laws.proofs.Steps.{bind-is}
+use Rattle.dm_line.specs.declared.line.Line.{Line}
+use Rattle.dm_rule.specs.Laws.{Leads}
+use Rattle.dm_rule.specs.Phases.{Phase, Nowhere, Rests, Over, Moves, IsIn, is_away, is_here, is_over, is_unknown, is_restart, is_early, is_between, leaves, comes}
+use Rattle.dm_rule.specs.Point.{Point, first_point, after, after_line}
+use Rattle.dm_rule.specs.Trails.{Trails, Trodden, first_trodden, along, trails_after}
+use Rattle.dm_rule.specs.View.{View, Known, Unknown, Here, Frozen, Incoming, Forward, Ended}
+use Rattle.dm_rule.proofs.Lines.{parts}
+use Rattle.dm_rule.proofs.Trails.Along.{along_treads}
+use Rattle.dm_rule.proofs.Trails.Found.{treads_start}
+use Rattle.dm_rule.proofs.Trails.Treads.{Treads}
+use Rattle.dm_movelaws.specs.AtRest.{is_moving}
+use Rattle.dm_movelaws.specs.Links.{IsThere}
+use Rattle.dm_movelaws.proofs.After.{group_after}
+use Rattle.dm_movelaws.proofs.Promise.Trail.{TrailKnown}
+use Rattle.dm_movelaws.proofs.Stages.Spares.{restart_late}
+use Rattle.dm_movelaws.proofs.Trail.Always.{Holds, carries}
+use Rattle.dm_movelaws.proofs.Trail.Placed.{is_held, Placed}
+
+abbrev trodden : Point → Trails → Trodden
+trodden pt t = record { point = pt; trails = t }
+
+-- wherever lines lead, trails lead along
+along_there : (ls : List Line) (pt end : Point) (t : Trails) → after pt ls ≡ Some end → (u : Trails) × (along (trodden pt t) ls ≡ Some (trodden end u))
+along_there [] pt end t e = let f : pt ≡ end = cc in (t, ap (λ (q : Point). Some (trodden q t)) f)
+along_there (l ∷ ls) pt end t e =
+    let (next, first, rest) = bind-is (after_line pt l) (λ (q : Point). after q ls) end e in
+    let (u, is) = along_there ls next end (trails_after pt.view t l) rest in
+    (u, ap (λ (o : Option Point). bind o (λ (n : Point). along (trodden n (trails_after pt.view t l)) ls)) first ∙ is)
+
+-- and so it is group by group
+record Trod (b : Boot) (pt : Point) : Type 0 where
+  trails : Trails
+  holds : Holds b (trodden pt trails)
+  treads : Treads pt trails
+
+trod_on : (b : Boot) (es : List Step) (pt end : Point) → Leads b pt es end → Trod b pt → Trod b end
+trod_on b [] pt end leads h = subst (Trod b) leads h
+trod_on b (e ∷ es) pt end (w, fit, is, rest) h =
+    let x = trodden pt h.trails in
+    let (u, comes) = along_there w.lines pt w.point h.trails (group_after b pt e w is) in
+    trod_on b es w.point end rest
+    (record {
+      trails = u;
+      holds = carries.keeps b x (trodden w.point u) e w fit is comes h.holds h.treads;
+      treads = along_treads w.lines x (trodden w.point u) comes (carries.fits b x e w fit is h.holds h.treads) h.treads;
+    })
+
+-- a process that doesn't move is where its trail ends
+unknown_is : (x : Known) → is_unknown x ≡ true → x ≡ Unknown
+unknown_is Unknown e = refl
+unknown_is Here e = absurd (false≢true e)
+unknown_is (Frozen to) e = absurd (false≢true e)
+unknown_is (Incoming from) e = absurd (false≢true e)
+unknown_is (Forward at moves) e = absurd (false≢true e)
+unknown_is Ended e = absurd (false≢true e)
+
+here_held : (x : Known) → is_here x ≡ true → is_held x ≡ true
+here_held Here e = refl
+here_held Unknown e = absurd (false≢true e)
+here_held (Frozen to) e = absurd (false≢true e)
+here_held (Incoming from) e = absurd (false≢true e)
+here_held (Forward at moves) e = absurd (false≢true e)
+here_held Ended e = absurd (false≢true e)
+
+over_held : (x : Known) → is_over x ≡ true → is_held x ≡ true
+over_held Ended e = refl
+over_held Unknown e = absurd (false≢true e)
+over_held Here e = absurd (false≢true e)
+over_held (Frozen to) e = absurd (false≢true e)
+over_held (Incoming from) e = absurd (false≢true e)
+over_held (Forward at moves) e = absurd (false≢true e)
+
+-- one that moves is leaving, or its destination waits for it
+still_leaves : (k : MessageKind) (d : ℕ) (x : Known) → is_moving x ≡ false → leaves k d x ≡ true → is_restart k ≡ true
+still_leaves k d (Forward to moves) still e = (parts (is_restart k) (d == to) e).0
+still_leaves k d (Frozen to) still e = absurd (false≢true (sym still))
+still_leaves k d Unknown still e = absurd (false≢true e)
+still_leaves k d Here still e = absurd (false≢true e)
+still_leaves k d (Incoming from) still e = absurd (false≢true e)
+still_leaves k d Ended still e = absurd (false≢true e)
+
+still_comes : (k : MessageKind) (s : ℕ) (x : Known) → is_moving x ≡ false → comes k s x ≡ true → is_early k ≡ true
+still_comes k s Unknown still e = e
+still_comes k s (Forward at moves) still e = e
+still_comes k s (Incoming from) still e = absurd (false≢true (sym still))
+still_comes k s Here still e = absurd (false≢true e)
+still_comes k s (Frozen to) still e = absurd (false≢true e)
+still_comes k s Ended still e = absurd (false≢true e)
+
+same_machine : (m : ℕ) → (m == m) ≡ true
+same_machine m = grind (arith, nat_tests)
+
+at_self : (m : ℕ) (x y : Bool) → (if m == m then x else y) ≡ true → x ≡ true
+at_self m x y e = sym (ap (λ (c : Bool). if c then x else y) (same_machine m)) ∙ e
+
+at_other : (s d : ℕ) (x y z : Bool) → (s == d) ≡ false → (if s == d then x else if d == d then y else z) ≡ true → y ≡ true
+at_other s d x y z apart e = at_self d y z (sym (ap (λ (c : Bool). if c then x else if d == d then y else z) apart) ∙ e)
+
+not_true : (c : Bool) → not c ≡ true → c ≡ false
+not_true false e = refl
+not_true true e = absurd (false≢true e)
+
+never_moves : (v : View) (p : Pid) (k : MessageKind) (s d : ℕ) (o : Option MsgId) → IsIn v p (Moves k s d o) → ((m : ℕ) → is_moving (v.known m p) ≡ false) → ⊥
+never_moves v p k s d o h still =
+    let restart = still_leaves k d (v.known s p) (still s) (at_self s (leaves k d (v.known s p)) (if d == s then comes k s (v.known s p) else is_away (v.known s p)) (h.known s)) in
+    let early = still_comes k s (v.known d p) (still d) (at_other s d (leaves k d (v.known d p)) (comes k s (v.known d p)) (is_away (v.known d p)) (not_true (s == d) (parts (is_between k) (not (s == d)) h.apart).1) (h.known d)) in
+    false≢true (sym (restart_late k restart) ∙ early)
+
+long_in : (v : View) (t : Trails) (p : Pid) (phase : Phase) → IsIn v p phase → Placed v t p → ((m : ℕ) → is_moving (v.known m p) ≡ false) → length (t p) ≡ v.moves p + 1
+long_in v t p Nowhere h on still = let k = on.unmade (λ m. unknown_is (v.known m p) (h.known m)) in let none = k.0 in let one = k.1 in omega (arith, none, one)
+long_in v t p (Rests at) h on still = on.long at (here_held (v.known at p) (at_self at (is_here (v.known at p)) (is_away (v.known at p)) (h.known at)))
+long_in v t p (Over at) h on still = on.long at (over_held (v.known at p) (at_self at (is_over (v.known at p)) (is_away (v.known at p)) (h.known at)))
+long_in v t p (Moves k s d o) h on still = absurd (never_moves v p k s d o h still)
+
+-- and it is there
+here_is : (x : Known) → is_here x ≡ true → x ≡ Here
+here_is Here e = refl
+here_is Unknown e = absurd (false≢true e)
+here_is (Frozen to) e = absurd (false≢true e)
+here_is (Incoming from) e = absurd (false≢true e)
+here_is (Forward at moves) e = absurd (false≢true e)
+here_is Ended e = absurd (false≢true e)
+
+over_is : (x : Known) → is_over x ≡ true → x ≡ Ended
+over_is Ended e = refl
+over_is Unknown e = absurd (false≢true e)
+over_is Here e = absurd (false≢true e)
+over_is (Frozen to) e = absurd (false≢true e)
+over_is (Incoming from) e = absurd (false≢true e)
+over_is (Forward at moves) e = absurd (false≢true e)
+
+away_at : (x y c : Bool) → c ≡ false → (if c then x else y) ≡ true → y ≡ true
+away_at x y c off e = sym (ap (λ (d : Bool). if d then x else y) off) ∙ e
+
+there_in : (v : View) (t : Trails) (p : Pid) (phase : Phase) (n : ℕ) → IsIn v p phase → Placed v t p → ((m : ℕ) → is_moving (v.known m p) ≡ false) → v.known n p ≢ Unknown → (m : ℕ) × (slice_get (t p) (v.moves p) ≡ Some m) × IsThere v p m
+there_in v t p Nowhere n h on still some = absurd (some (unknown_is (v.known n p) (h.known n)))
+there_in v t p (Rests at) n h on still some =
+    let here = at_self at (is_here (v.known at p)) (is_away (v.known at p)) (h.known at) in
+    (at, on.now at (here_held (v.known at p) here), record { now = inl (here_is (v.known at p) here); away = λ m off. away_at (is_here (v.known m p)) (is_away (v.known m p)) (at == m) off (h.known m) })
+there_in v t p (Over at) n h on still some =
+    let over = at_self at (is_over (v.known at p)) (is_away (v.known at p)) (h.known at) in
+    (at, on.now at (over_held (v.known at p) over), record { now = inr (over_is (v.known at p) over); away = λ m off. away_at (is_over (v.known m p)) (is_away (v.known m p)) (at == m) off (h.known m) })
+there_in v t p (Moves k s d o) n h on still some = absurd (never_moves v p k s d o h still)
+
+-- wherever the rule leads
+pub trail_known : TrailKnown
+trail_known b es pt valid leads =
+    let first : Trod b (first_point b) = record { trails = (first_trodden b).trails; holds = carries.start b valid; treads = treads_start b valid } in
+    let h = trod_on b es (first_point b) pt leads first in
+    let phases = h.holds.both.run.based.phased.phases in (
+      h.trails,
+      record {
+        addresses = h.treads.links;
+        about = h.treads.own.about;
+        long = λ p still. long_in pt.view h.trails p (phases.of p) (phases.each p) (h.holds.places p) still;
+        there = λ p n still some. there_in pt.view h.trails p (phases.of p) n (phases.each p) (h.holds.places p) still some;
+      },
+    )

@@ -1,0 +1,223 @@
+-- The trails that printed lines lay stand, and from each place that is named for a process the forwarding addresses lead to it.
+use Rattle.std.proofs.Common.{◌≡◌, ◌≢◌, ◌⊎◌, ℕ, zero, suc, ◌-◌, ◌<◌, ◌==◌, ◌||◌, Bool, true, false, is_some, List, [], ◌∷◌, ◌++◌, length, refl, ap, ◌∙◌, sym, subst, inl, inr, arith}
+use Rattle.std.proofs.lemmas.Bool.{cases_Bool, false≢true}
+use Rattle.std.proofs.lemmas.Option.{slice_get_within}
+use Rattle.std.specs.Prelude.{slice_get}
+use Rattle.std.specs.declared.option.Option.{Option}
+use Rattle.std.specs.declared.option.Option.TheVariants.{None, Some}
+use Rattle.dm_link.specs.declared.Pid.{Pid}
+use Rattle.dm_link.specs.Names.{Place}
+use Rattle.dm_onekernel.specs.declared.boot.Boot.{Boot}
+use Rattle.dm_onekernel.specs.Boot.{IsValid}
+use Rattle.dm_onekernel.specs.Kernel.{Life, OneKernel}
+use Rattle.dm_onekernel.specs.Options.{bind}
+use Rattle.dm_schedule.specs.declared.Step.{Step}
+use Rattle.dm_laws.proofs.Steps.{bind-is}
+use Rattle.dm_line.specs.declared.line.Line.{Line}
+use Rattle.dm_rule.specs.Addresses.{Receiver, Sender, unmoved}
+use Rattle.dm_rule.specs.Laws.{Leads}
+use Rattle.dm_rule.specs.Point.{Point, first_point, after, after_line}
+use Rattle.dm_rule.specs.Trails.{Trails, Trail, IsOn, Trodden, first_trodden, along, trails_after}
+use Rattle.dm_rule.specs.View.{View, Known, Unknown, Here, Frozen, Incoming, Forward, Ended}
+use Rattle.dm_rule.proofs.Trails.Along.{along_treads}
+use Rattle.dm_rule.proofs.Trails.Found.{treads_start}
+use Rattle.dm_rule.proofs.Trails.Leads.{trail_leads}
+use Rattle.dm_rule.proofs.Trails.Treads.{Treads}
+use Rattle.dm_rule.proofs.Trails.Within.{Within, trail_within}
+use Rattle.dm_rulelaws.specs.Fits.{is_server}
+use Rattle.dm_rulelaws.specs.Found.{is_fixed}
+use Rattle.dm_rulelaws.specs.KnownStands.{KnownStands, agrees, server_at}
+use Rattle.dm_rulelaws.specs.Order.{LeadsBy}
+use Rattle.dm_rulelaws.proofs.Found.Real.{made_free, server_fixed}
+use Rattle.dm_movelaws.specs.Trail.{is_made, has_it, ends_walk, IsNamed, ByHolder, ByOwn, ByRequest, ByUpdate, ByForward, Reaches, IsLast, TrailStands, TrailsStand, IsLed, AddressesLead}
+use Rattle.dm_movelaws.proofs.After.{group_after}
+use Rattle.dm_movelaws.proofs.Trail.Always.{Holds, carries}
+use Rattle.dm_movelaws.proofs.Trail.Placed.{is_held}
+use Rattle.dm_movelaws.proofs.Trail.Real.{named_made}
+
+abbrev trodden : Point → Trails → Trodden
+trodden pt t = record { point = pt; trails = t }
+
+-- wherever lines lead, trails lead along
+along_there : (ls : List Line) (pt end : Point) (t : Trails) → after pt ls ≡ Some end → (u : Trails) × (along (trodden pt t) ls ≡ Some (trodden end u))
+along_there [] pt end t e = let f : pt ≡ end = cc in (t, ap (λ (q : Point). Some (trodden q t)) f)
+along_there (l ∷ ls) pt end t e =
+    let (next, first, rest) = bind-is (after_line pt l) (λ (q : Point). after q ls) end e in
+    let (u, is) = along_there ls next end (trails_after pt.view t l) rest in
+    (u, ap (λ (o : Option Point). bind o (λ (n : Point). along (trodden n (trails_after pt.view t l)) ls)) first ∙ is)
+
+along-append : (xs ys : List Line) (x y : Trodden) → along x xs ≡ Some y → along x (xs ++ ys) ≡ along y ys
+along-append [] ys x y e = let f : x ≡ y = cc in ap (λ (z : Trodden). along z ys) f
+along-append (l ∷ xs) ys x y e =
+    let (next, first, rest) = bind-is (after_line x.point l) (λ (n : Point). along (trodden n (trails_after x.point.view x.trails l)) xs) y e in
+    ap (λ (o : Option Point). bind o (λ (n : Point). along (trodden n (trails_after x.point.view x.trails l)) (xs ++ ys))) first ∙ along-append xs ys (trodden next (trails_after x.point.view x.trails l)) y rest
+
+-- where lines lead, with the trails that they lay
+record Laid (b : Boot) (pt : Point) (t : Trails) (ls : List Line) (end : Point) : Type 0 where
+  trails : Trails
+  lays : along (trodden pt t) ls ≡ Some (trodden end trails)
+  holds : Holds b (trodden end trails)
+  treads : Treads end trails
+
+laid_none : (b : Boot) (pt : Point) (t : Trails) → Holds b (trodden pt t) → Treads pt t → Laid b pt t [] pt
+laid_none b pt t h on = record { trails = t; lays = refl; holds = h; treads = on }
+
+laid_more : (b : Boot) (pt mid end : Point) (t u : Trails) (xs ys : List Line) → along (trodden pt t) xs ≡ Some (trodden mid u) → Laid b mid u ys end → Laid b pt t (xs ++ ys) end
+laid_more b pt mid end t u xs ys first k = record { trails = k.trails; lays = along-append xs ys (trodden pt t) (trodden mid u) first ∙ k.lays; holds = k.holds; treads = k.treads }
+
+laid_by : (b : Boot) (es : List Step) (ls : List Line) (pt end : Point) (t : Trails) → LeadsBy b pt es ls end → Holds b (trodden pt t) → Treads pt t → Laid b pt t ls end
+laid_by b [] ls pt end t (none, same) h on = subst (λ (xs : List Line). Laid b pt t xs end) (sym none) (subst (Laid b pt t []) same (laid_none b pt t h on))
+laid_by b (e ∷ es) ls pt end t (w, rest, fit, is, are, more) h on =
+    let (u, comes) = along_there w.lines pt w.point t (group_after b pt e w is) in
+    let holds = carries.keeps b (trodden pt t) (trodden w.point u) e w fit is comes h on in
+    let treads = along_treads w.lines (trodden pt t) (trodden w.point u) comes (carries.fits b (trodden pt t) e w fit is h on) on in
+    subst (λ (xs : List Line). Laid b pt t xs end) (sym are) (laid_more b pt w.point end t u w.lines rest comes (laid_by b es rest w.point end u more holds treads))
+
+laid_first : (b : Boot) (es : List Step) (ls : List Line) (pt : Point) → IsValid b → LeadsBy b (first_point b) es ls pt → Laid b (first_point b) (first_trodden b).trails ls pt
+laid_first b es ls pt valid way = laid_by b es ls (first_point b) pt (first_trodden b).trails way (carries.start b valid) (treads_start b valid)
+
+-- whatever leads somewhere leads by lines
+pub lines_there : (b : Boot) (es : List Step) (pt end : Point) → Leads b pt es end → (ls : List Line) × LeadsBy b pt es ls end
+lines_there b [] pt end way = ([], (refl, way))
+lines_there b (e ∷ es) pt end (w, fit, is, more) = let (ls, rest) = lines_there b es w.point end more in (w.lines ++ ls, (w, ls, fit, is, refl, rest))
+
+-- lists of one place
+one_place : (xs : List ℕ) (m : ℕ) → length xs ≡ 1 → slice_get xs 0 ≡ Some m → xs ≡ m ∷ []
+one_place [] m long e = absurd (omega (arith, long))
+one_place (x ∷ []) m long e = let f : x ≡ m = cc in ap (λ (y : ℕ). y ∷ []) f
+one_place (x ∷ y ∷ ys) m long e = absurd (omega (arith, long))
+
+only_place : (m c k : ℕ) → slice_get (m ∷ []) c ≡ Some k → (c ≡ 0) × (k ≡ m)
+only_place m zero k e = (refl, (let f : m ≡ k = cc in sym f))
+only_place m (suc c) k e = cc
+
+place_is : (place : Place) (m : ℕ) → place.moves ≡ 0 → place.at ≡ m → place ≡ unmoved m
+place_is place m moves at = λ i. record { at = at i; moves = moves i }
+
+-- what was never made
+none_is : (o : Option Life) → is_some o ≡ false → o ≡ None
+none_is None e = refl
+none_is (Some x) e = absurd (false≢true (sym e))
+
+agrees_none : (k : Known) → agrees k None ≡ true → k ≡ Unknown
+agrees_none Unknown e = refl
+agrees_none Here e = absurd (false≢true e)
+agrees_none (Frozen to) e = absurd (false≢true e)
+agrees_none (Incoming from) e = absurd (false≢true e)
+agrees_none (Forward at moves) e = absurd (false≢true e)
+agrees_none Ended e = absurd (false≢true e)
+
+held_it : (k : Known) → has_it k ≡ true → is_held k ≡ true
+held_it Unknown e = e
+held_it Here e = e
+held_it (Frozen to) e = e
+held_it (Incoming from) e = e
+held_it (Forward at moves) e = e
+held_it Ended e = e
+
+or_made : (s : OneKernel) (p : Pid) (c : Bool) → is_server p ≡ c → (c || is_some (s.processes p)) ≡ true → (is_server p ≡ true) ⊎ ((is_server p ≡ false) × (is_some (s.processes p) ≡ true))
+or_made s p true is e = inl is
+or_made s p false is e = inr (is, e)
+
+here_known : (k : Known) → k ≡ Here → k ≢ Unknown
+here_known k e f = let g : Here ≡ Unknown = sym e ∙ f in cc
+
+-- the last machine of a trail doesn't forward
+walk_ends : (k : Known) → k ≢ Unknown → ((m c : ℕ) → k ≡ Forward m c → ⊥) → ends_walk k ≡ true
+walk_ends Unknown some off = absurd (some refl)
+walk_ends Here some off = refl
+walk_ends (Frozen to) some off = refl
+walk_ends (Incoming from) some off = refl
+walk_ends (Forward m c) some off = absurd (off m c refl)
+walk_ends Ended some off = refl
+
+-- what was never made has only been at home
+never_made : (b : Boot) (pt : Point) (t : Trails) (p : Pid) → Holds b (trodden pt t) → is_fixed p ≡ true → pt.kernel.processes p ≡ None
+never_made b pt t p h fixed = elim (cases_Bool (is_some (pt.kernel.processes p))) [
+  | inl some ↦ absurd (false≢true (sym (made_free pt p h.both.run.based.phased.sane.sound.made some) ∙ fixed))
+  | inr none ↦ none_is (pt.kernel.processes p) none
+]
+
+alone_long : (b : Boot) (pt : Point) (t : Trails) (p : Pid) → Holds b (trodden pt t) → pt.kernel.processes p ≡ None → length (t p) ≡ 1
+alone_long b pt t p h none = elim (cases_Bool (is_server p)) [
+  | inl server ↦
+      let here : pt.view.known 0 p ≡ Here = h.both.run.based.known.server 0 p server in
+      let long = (h.places p).long 0 (ap is_held here) in
+      let moves = h.both.run.based.unmoved p none in
+      omega (arith, long, moves)
+  | inr process ↦ ((h.places p).unmade (λ m. agrees_none (pt.view.known m p) (sym (ap (agrees (pt.view.known m p)) none) ∙ h.both.run.based.known.agree m p process))).1
+]
+
+alone : (b : Boot) (pt : Point) (t : Trails) (p : Pid) → Holds b (trodden pt t) → Treads pt t → pt.kernel.processes p ≡ None → t p ≡ p.home ∷ []
+alone b pt t p h on none = one_place (t p) p.home (alone_long b pt t p h none) (on.trail p).begins
+
+-- what was made is known at home
+at_home : (s : OneKernel) (v : View) (p : Pid) → KnownStands s v → is_made s p ≡ true → v.known p.home p ≢ Unknown
+at_home s v p h made = elim (or_made s p (is_server p) refl made) [
+  | inl server ↦ here_known (v.known p.home p) (h.server p.home p server ∙ ap server_at (server_fixed p server).1)
+  | inr process ↦ h.home p process.0 process.1
+]
+
+-- each place that is named is on the trail
+named_on : (pt : Point) (t : Trails) (q : Pid) (place : Place) → Treads pt t → IsNamed pt q place → IsOn t q place
+named_on pt t q place on (ByHolder h is at) = subst (IsOn t q) at (on.links h q is)
+named_on pt t q place on (ByOwn i u own told to at) = subst (IsOn t q) at (subst (λ (p : Pid). IsOn t p (pt.addresses (Receiver i))) to (on.own.receiver i u own told))
+named_on pt t q place on (ByRequest i u own told asks to at) = subst (IsOn t q) at (subst (λ (p : Pid). IsOn t p (pt.addresses (Sender i))) to (on.own.sender i u own told asks))
+named_on pt t q place on (ByUpdate i u told about) = on.own.about i u q place.at place.moves told about
+named_on pt t q place on (ByForward m e) = (on.trail q).named m place.at place.moves e
+
+-- a forward leads further along the trail
+no_further : (v : View) (t : Trails) (p : Pid) (place : Place) (m c : ℕ) → Trail v t p → IsLast t p place → v.known place.at p ≡ Forward m c → ⊥
+no_further v t p place m c trail is e =
+    let rises = trail.behind place.at m c place.moves e is.on in
+    let less = slice_get_within (t p) c m (trail.named place.at m c e) in
+    let long = is.long in
+    omega (arith, rises, less, long)
+
+some_machines : (n k : ℕ) → k < n → n ≡ suc (n - 1)
+some_machines n k less = omega (arith, less)
+
+reaches : (b : Boot) (pt : Point) (t : Trails) (p : Pid) (place : Place) → Holds b (trodden pt t) → Treads pt t → is_made pt.kernel p ≡ true → IsOn t p place → Reaches pt p place
+reaches b pt t p place h on made is =
+    let n = pt.kernel.machines - 1 in
+    let known = at_home pt.kernel pt.view p h.both.run.based.known made in
+    let all : Within pt.kernel.machines pt.view = carries.within b (trodden pt t) h in
+    let within : Within (suc n) pt.view = subst (λ (k : ℕ). Within k pt.view) (some_machines pt.kernel.machines pt.view.acting all.acting) all in
+    trail_leads pt.view t p n p.home place (on.trail p) known (trail_within (suc n) pt.view t p p.home within (on.trail p) known) is
+
+-- what holds of the trails so far
+stand_at : (b : Boot) (pt : Point) (t : Trails) → Holds b (trodden pt t) → Treads pt t → TrailStands pt t
+stand_at b pt t h on = record {
+  begins = λ p. (on.trail p).begins;
+  fixed = λ p e. alone b pt t p h on (never_made b pt t p h e);
+  unmade = λ p none. alone b pt t p h on none;
+  named = λ q place is. named_on pt t q place on is;
+  last = λ m p e. record { on = (h.places p).now m (held_it (pt.view.known m p) e); long = (h.places p).long m (held_it (pt.view.known m p) e) };
+  coming = λ m k c p e f. record { on = (h.places p).next m k c e f; long = (let long = (h.places p).longer m k c e f in omega (arith, long)) };
+  ends = λ p place made is.
+      walk_ends (pt.view.known place.at p) ((on.trail p).kept place.at p.home place.moves (at_home pt.kernel pt.view p h.both.run.based.known made) is.on) (λ m c e. no_further pt.view t p place m c (on.trail p) is e);
+  within = λ p place made is. trail_within pt.kernel.machines pt.view t p p.home (carries.within b (trodden pt t) h) (on.trail p) (at_home pt.kernel pt.view p h.both.run.based.known made) place.moves place.at is;
+  reached = λ p place made is. reaches b pt t p place h on made is;
+}
+
+pub trails_stand : TrailsStand
+trails_stand b es ls pt valid way = let k = laid_first b es ls pt valid way in (k.trails, k.lays, stand_at b pt k.trails k.holds k.treads)
+
+-- who has only been at home is named there
+home_only : (pt : Point) (t : Trails) (q : Pid) (place : Place) → TrailStands pt t → IsNamed pt q place → is_fixed q ≡ true → place ≡ unmoved q.home
+home_only pt t q place s named fixed =
+    let k = only_place q.home place.moves place.at (sym (ap (λ (xs : List ℕ). slice_get xs place.moves) (s.fixed q fixed)) ∙ s.named q place named) in
+    place_is place q.home k.0 k.1
+
+led_by : (pt : Point) (t : Trails) (q : Pid) (place : Place) → TrailStands pt t → IsNamed pt q place → ((q.num == 0) ≡ false → is_made pt.kernel q ≡ true) → IsLed pt q place
+led_by pt t q place s named made = record {
+  led = λ other. s.reached q place (made other) (s.named q place named);
+  home = λ fixed. home_only pt t q place s named fixed;
+  made = made;
+}
+
+pub addresses_lead : AddressesLead
+addresses_lead b es pt q place valid way named =
+    let (ls, lines) = lines_there b es (first_point b) pt way in
+    let k = laid_first b es ls pt valid lines in
+    led_by pt k.trails q place (stand_at b pt k.trails k.holds k.treads) named (λ other. named_made b es pt q place valid way other named)

@@ -1,0 +1,175 @@
+-- What an update does wherever the rule leads.
+use Rattle.std.proofs.Common.{◌≡◌, ◌⊎◌, ℕ, ◌<◌, ◌≤◌, ◌==◌, ◌&&◌, ◌||◌, Bool, true, false, not, [], ◌++◌, refl, ap, ◌∙◌, sym, inl, inr, nat_lt, arith}
+use Rattle.std.specs.Prelude.{if◌then◌else◌}
+use Rattle.std.proofs.lemmas.Bool.{cases_Bool, false≢true}
+use Rattle.std.proofs.lemmas.Bool.Decides.{nat_tests}
+use Rattle.std.specs.declared.option.Option.{Option}
+use Rattle.std.specs.declared.option.Option.TheVariants.{None, Some}
+use Rattle.dm_link.specs.declared.Pid.{Pid}
+use Rattle.dm_link.specs.Names.{Place, pid_eq}
+use Rattle.dm_message.specs.declared.MsgId.{MsgId}
+use Rattle.dm_onekernel.specs.declared.boot.Boot.{Boot}
+use Rattle.dm_onekernel.specs.Boot.{switchboard, manager}
+use Rattle.dm_onekernel.specs.Kernel.{Life, Alive, OneKernel}
+use Rattle.dm_onekernel.specs.Kernel as kernels
+use Rattle.dm_onekernel.specs.Step as kernel
+use Rattle.dm_laws.proofs.Equal.{pid_eq-is, pid_eq-same}
+use Rattle.dm_schedule.specs.declared.Step.{Step}
+use Rattle.dm_schedule.specs.declared.Step.TheVariants as step
+use Rattle.dm_rule.specs.Addresses as addresses
+use Rattle.dm_rule.specs.Addresses.{Addresses, Holder, belongs_to, leads_to, is_pid, is_behind, place_told, updated, updated_to}
+use Rattle.dm_rule.specs.Migrating.{holders_of, behind_among, behind_count, numbered, answers_in, slots_in}
+use Rattle.dm_rule.specs.Parts.{Spelled}
+use Rattle.dm_rule.specs.Point.{Point}
+use Rattle.dm_rule.specs.View.{View, Told, About, NothingElse, Target, Of, Ended, after_head}
+use Rattle.dm_rule.specs.View as view
+use Rattle.dm_rulelaws.specs.Fits.{is_server}
+use Rattle.dm_rulelaws.specs.KnownStands.{KnownStands, agrees}
+use Rattle.dm_movelaws.specs.Updates.{Updated, UpdatesAlways}
+use Rattle.dm_rulelaws.proofs.Goes.Always.{front_own}
+use Rattle.dm_rulelaws.proofs.Goes.Runs.{Both}
+use Rattle.dm_rulelaws.proofs.Own.Told.{is_place, own_sort}
+use Rattle.dm_rulelaws.proofs.RunsAlways.{run_always}
+use Rattle.dm_movelaws.proofs.Updates.Groups.{Handled, handled_by}
+use Rattle.dm_movelaws.proofs.Updates.Listed.{listed}
+
+-- what it tells
+record Tells (a : About) : Type 0 where
+  process : Pid
+  place : Place
+  is : a ≡ view.Place process place.at place.moves
+
+tells : (a : About) → is_place a ≡ true → Tells a
+tells NothingElse e = absurd (false≢true e)
+tells (Target m) e = absurd (false≢true e)
+tells (Of p) e = absurd (false≢true e)
+tells (view.Place p m c) e = record { process = p; place = record { at = m; moves = c }; is = refl }
+
+second : (b c : Bool) → (b && c) ≡ true → c ≡ true
+second true c e = e
+second false c e = absurd (false≢true e)
+
+-- the head changes nothing that it reads
+head_told : (v : View) (d : Step) → (after_head v d).told ≡ v.told
+head_told v (step.Turn m) = refl
+head_told v (step.Tick m) = refl
+head_told v (step.Deliver a b k) = refl
+head_told v (step.Migrate p m) = refl
+
+record Kept (v w : View) : Type 0 where
+  known : w.known ≡ v.known
+  queue : w.queue ≡ v.queue
+  held : w.held ≡ v.held
+  ring : w.ring ≡ v.ring
+
+head_kept : (v : View) (d : Step) → Kept v (after_head v d)
+head_kept v (step.Turn m) = record { known = refl; queue = refl; held = refl; ring = refl }
+head_kept v (step.Tick m) = record { known = refl; queue = refl; held = refl; ring = refl }
+head_kept v (step.Deliver a b k) = record { known = refl; queue = refl; held = refl; ring = refl }
+head_kept v (step.Migrate p m) = record { known = refl; queue = refl; held = refl; ring = refl }
+
+address : (s : OneKernel) (v w : View) (a : Addresses) (id : MsgId) (t : Told) (p : Pid) (at_ : Place) (h : Holder) → w.told ≡ v.told → v.told id ≡ Some t → t.about ≡ view.Place p at_.at at_.moves
+    → updated s w a (w.told id) h ≡ (if is_behind s a t.receiver p at_.moves h then at_ else a h)
+address s v w a id t p at_ h same told about =
+    ap (λ (f : MsgId → Option Told). updated s w a (f id) h) same
+    ∙ ap (λ (o : Option Told). updated s w a o h) told
+    ∙ ap (λ (x : About). updated_to s a (Some t.receiver) (place_told x) h) about
+
+-- whether an address is behind
+pid_true : (p : Pid) (o : Option Pid) → o ≡ Some p → is_pid p o ≡ true
+pid_true p o e = ap (is_pid p) e ∙ pid_eq-same p
+
+pid_is : (p : Pid) (o : Option Pid) → is_pid p o ≡ true → o ≡ Some p
+pid_is p None e = absurd (false≢true e)
+pid_is p (Some q) e = ap Some (sym (pid_eq-is p q e))
+
+three : (a b c : Bool) → (a && (b && c)) ≡ true → (a ≡ true) × (b ≡ true) × (c ≡ true)
+three true true c e = (refl, refl, e)
+three true false c e = absurd (false≢true e)
+three false b c e = absurd (false≢true e)
+
+behind_is : (s : OneKernel) (a : Addresses) (q p : Pid) (c : ℕ) (h : Holder) (x : Bool) → belongs_to q h ≡ true → leads_to s h ≡ Some p → nat_lt (a h).moves c ≡ x → is_behind s a q p c h ≡ x
+behind_is s a q p c h x mine leads e =
+    ap (λ (b : Bool). b && (is_pid p (leads_to s h) && nat_lt (a h).moves c)) mine
+    ∙ ap (λ (b : Bool). b && nat_lt (a h).moves c) (pid_true p (leads_to s h) leads)
+    ∙ e
+
+-- an ended process has no links
+ended_none : (o : Option Life) → agrees Ended o ≡ true → kernel.alive o ≡ None
+ended_none None e = refl
+ended_none (Some (Alive x)) e = absurd (false≢true e)
+ended_none (Some (kernels.Ended y)) e = refl
+
+either : (b c : Bool) → (b || c) ≡ false → (b ≡ false) × (c ≡ false)
+either true c e = absurd (false≢true (sym e))
+either false c e = (refl, e)
+
+none_listed : (s : OneKernel) (q : Pid) → is_server q ≡ false → kernel.alive (s.processes q) ≡ None → holders_of s q ≡ []
+none_listed s q server none =
+    let k = either (pid_eq q switchboard) (pid_eq q manager) server in
+    let names = numbered addresses.Name 0 s.switchboard.names in
+    let children = numbered addresses.Child 1 s.manager.children ++ answers_in s.manager.pending in
+    let slots = slots_in q (kernel.alive (s.processes q)) in
+    ap (λ (c : Bool). if c then names else if pid_eq q manager then children else slots) k.0
+    ∙ ap (λ (c : Bool). if c then children else slots) k.1
+    ∙ ap (slots_in q) none
+
+count_is : (s : OneKernel) (v : View) (a : Addresses) (t : Told) (p : Pid) (at_ : Place) (m n : ℕ) → t.about ≡ view.Place p at_.at at_.moves → KnownStands s v
+    → (n ≡ behind_count s a t.receiver (place_told t.about)) ⊎ ((n ≡ 0) × (is_server t.receiver ≡ false) × (v.known m t.receiver ≡ Ended))
+    → behind_among (is_behind s a t.receiver p at_.moves) (holders_of s t.receiver) ≡ n
+count_is s v a t p at_ m n about known counts = elim counts [
+  | inl e ↦ sym (e ∙ ap (λ (x : About). behind_count s a t.receiver (place_told x)) about)
+  | inr e ↦
+      let none = ended_none (s.processes t.receiver) (sym (ap (λ (k : view.Known). agrees k (s.processes t.receiver)) e.2) ∙ known.agree m t.receiver e.1) in
+      ap (behind_among (is_behind s a t.receiver p at_.moves)) (none_listed s t.receiver e.1 none) ∙ sym e.0
+]
+
+updated_by : (b : Boot) (pt : Point) (d : Step) (w : Spelled) (id : MsgId) (n : ℕ) → Both b pt → Handled b pt d w id n → Updated pt w.point id n
+updated_by b pt d w id n both h =
+    let u = h.handles in
+    let t = u.told in
+    let s = pt.kernel in
+    let a = pt.addresses in
+    let own = front_own b h.machine pt id u.rest u.box u.none both.run both.own in
+    let sort : own_sort t.kind t.receiver t.about ≡ true = both.own.own id t u.is own.mine in
+    let place : is_place t.about ≡ true = second (not (t.receiver.num == 0)) (is_place t.about) (sym (ap (λ k. own_sort k t.receiver t.about) u.update) ∙ sort) in
+    let x = tells t.about place in
+    let behind = is_behind s a t.receiver x.process x.place.moves in
+    let now : (g : Holder) → w.point.addresses g ≡ (if behind g then x.place else a g) =
+    λ g. ap (λ (q : Point). q.addresses g) (sym h.point) ∙ address s pt.view (after_head pt.view d) a id t x.process x.place g (head_told pt.view d) u.is x.is in
+    let lag : (g : Holder) → behind g ≡ true → w.point.addresses g ≡ x.place = λ g e. now g ∙ ap (λ (c : Bool). if c then x.place else a g) e in
+    let stay : (g : Holder) → behind g ≡ false → w.point.addresses g ≡ a g = λ g e. now g ∙ ap (λ (c : Bool). if c then x.place else a g) e in
+    record {
+      told = t;
+      is = u.is;
+      update = u.update;
+      process = x.process;
+      place = x.place;
+      about = x.is;
+      raised = λ g mine leads. elim (cases_Bool (nat_lt (a g).moves x.place.moves)) [
+        | inl less ↦ (let e : (w.point.addresses g).moves ≡ x.place.moves = ap (λ (p : Place). p.moves) (lag g (behind_is s a t.receiver x.process x.place.moves g true mine leads less)) in omega (arith, e))
+        | inr more ↦ (let e : (w.point.addresses g).moves ≡ (a g).moves = ap (λ (p : Place). p.moves) (stay g (behind_is s a t.receiver x.process x.place.moves g false mine leads more)) in
+            let f : x.place.moves ≤ (a g).moves = grind (arith, nat_tests) in omega (arith, e, f))
+      ];
+      followed = λ g mine leads less. lag g (behind_is s a t.receiver x.process x.place.moves g true mine leads (let f : nat_lt (a g).moves x.place.moves ≡ true = grind (arith, nat_tests) in f));
+      others = λ g most. elim (cases_Bool (behind g)) [
+        | inl e ↦
+            let k = three (belongs_to t.receiver g) (is_pid x.process (leads_to s g)) (nat_lt (a g).moves x.place.moves) e in
+            let f = most k.0 (pid_is x.process (leads_to s g) k.1) in
+            let less : (a g).moves < x.place.moves = let l = k.2 in grind (arith, nat_tests) in
+            absurd (omega (arith, f, less))
+        | inr e ↦ stay g e
+      ];
+      count = count_is s pt.view a t x.process x.place h.machine n x.is both.run.based.known u.counts;
+      listed = λ g q mine other leads. listed s t.receiver g q both.run.based.phased.sane.sound.made both.run.based.pending mine other leads;
+      kernel = sym (ap (λ (q : Point). q.kernel) h.point);
+      known = sym (ap (λ (q : Point). q.view.known) h.point) ∙ (head_kept pt.view d).known;
+      queue = sym (ap (λ (q : Point). q.view.queue) h.point) ∙ (head_kept pt.view d).queue;
+      held = sym (ap (λ (q : Point). q.view.held) h.point) ∙ (head_kept pt.view d).held;
+      ring = sym (ap (λ (q : Point). q.view.ring) h.point) ∙ (head_kept pt.view d).ring;
+    }
+
+pub updates_always : UpdatesAlways
+updates_always b es pt d w id n earlier later valid leads is there =
+    let h = handled_by b pt d w id n earlier later is there in
+    (h.lines, updated_by b pt d w id n (run_always b es pt valid leads) h)

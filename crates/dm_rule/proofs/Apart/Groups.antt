@@ -1,0 +1,152 @@
+-- A group has no label of a process that moves, and leaves its plain value.
+use Rattle.std.proofs.Common.{◌≡◌, ◌≢◌, ℕ, ◌+◌, ◌==◌, Bool, true, false, List, [], ◌∷◌, ◌++◌, length, refl, ap, ◌∙◌, sym, subst}
+use Rattle.std.specs.Prelude.{if◌then◌else◌, slice_get}
+use Rattle.std.specs.declared.option.Option.{Option}
+use Rattle.std.specs.declared.option.Option.TheVariants.{None, Some}
+use Rattle.std.proofs.lemmas.Bool.{false≢true}
+use Rattle.dm_link.specs.declared.Pid.{Pid}
+use Rattle.dm_link.specs.Names.{pid_of}
+use Rattle.dm_message.specs.declared.MsgId.{MsgId}
+use Rattle.dm_message.specs.declared.kind.MessageKind.{MessageKind}
+use Rattle.dm_message.specs.Kinds.{plain_kind}
+use Rattle.dm_onekernel.specs.declared.boot.Boot.{Boot}
+use Rattle.dm_onekernel.specs.declared.label.Label.{Label}
+use Rattle.dm_onekernel.specs.Boot.{first_number}
+use Rattle.dm_onekernel.specs.Options.{bind}
+use Rattle.dm_onekernel.specs.Kernel.{OneKernel}
+use Rattle.dm_onekernel.specs.Step as kernel
+use Rattle.dm_schedule.specs.declared.Step.{Step}
+use Rattle.dm_schedule.specs.declared.Step.TheVariants as step
+use Rattle.dm_line.specs.declared.line.Line.{Line}
+use Rattle.dm_line.specs.declared.line.Line.TheVariants as line
+use Rattle.dm_line.specs.declared.line.Load.TheVariants as load
+use Rattle.dm_rule.specs.View.{Here, own_id}
+use Rattle.dm_rule.specs.Addresses.{Receiver}
+use Rattle.dm_rule.specs.Point.{Point, label_of, kernel_after, moved, after_line, after, first_point}
+use Rattle.dm_rule.specs.Parts.{Part, Says, Routes, Again, Owns, Transmits, Spelled, lines_of, puts, goes_out, packet_line, behind, spelled}
+use Rattle.dm_rule.specs.Migrating.{migrates}
+use Rattle.dm_rule.specs.Phases.{Nowhere, Moves, knows, IsIn}
+use Rattle.dm_rule.specs.Apart.{Spares, AllSpare}
+use Rattle.dm_rule.specs.Rule as rule
+use Rattle.dm_rule.specs.Rule.{group_of}
+use Rattle.dm_rule.specs.Laws.{MovingStaysAlways}
+use Rattle.dm_laws.proofs.Steps.{bind-is}
+use Rattle.dm_rule.proofs.Groups.{arrives_net, resends_net}
+use Rattle.dm_rule.proofs.Phases.Lives.{nowhere_known}
+use Rattle.dm_rule.proofs.Phases.Groups.{Rooted}
+use Rattle.dm_rule.proofs.Phases.Always.{phased_start, phased_on}
+use Rattle.dm_rule.proofs.Rooted.Groups.{moves_away, rooted}
+use Rattle.dm_rule.proofs.Apart.Steps.{Keeps, keeps_step}
+use Rattle.dm_rule.proofs.Apart.Rows.{SparesPart, FirstApart, ApartOf, apart_first}
+use Rattle.dm_rule.proofs.Apart.Turns.{turns_apart, net_apart, migrates_apart}
+
+-- what lines say, seen from a kernel, and where they lead
+record Left (z : OneKernel) (y : Pid) (pt next : Point) (ls : List Line) : Type 0 where
+  spare : AllSpare z y ls
+  same : next.kernel.processes y ≡ pt.kernel.processes y
+
+spare_append : (z : OneKernel) (y : Pid) (ls ms : List Line) → AllSpare z y ls → AllSpare z y ms → AllSpare z y (ls ++ ms)
+spare_append z y [] ms h k = k
+spare_append z y (l ∷ ls) ms h k = (h.0, spare_append z y ls ms h.1 k)
+
+keeps_is : (s t : OneKernel) (y : Pid) (o : Option OneKernel) → o ≡ Some t → Keeps s y o → t.processes y ≡ s.processes y
+keeps_is s t y None e h = cc
+keeps_is s t y (Some u) e h = ap (λ (k : OneKernel). k.processes y) (let f : t ≡ u = cc in f) ∙ h
+
+kernel_same : (s t : OneKernel) (y : Pid) (o : Option Label) → Spares s y o → kernel_after s o ≡ Some t → t.processes y ≡ s.processes y
+kernel_same s t y None off e = ap (λ (k : OneKernel). k.processes y) (let f : t ≡ s = cc in f)
+kernel_same s t y (Some l) off e = keeps_is s t y (kernel.step s l) e (keeps_step s y l off)
+
+one_left : (z : OneKernel) (y : Pid) (pt next : Point) (l : Line) (ls : List Line) → Spares pt.kernel y (label_of l) → Spares z y (label_of l) → Some (l ∷ []) ≡ Some ls → after pt ls ≡ Some next → Left z y pt next ls
+one_left z y pt next l ls here there is leads =
+    let f : l ∷ [] ≡ ls = cc in
+    let (mid, first, last) = bind-is (after_line pt l) (λ q. after q []) next (ap (after pt) f ∙ leads) in
+    let (s, step_, then_) = bind-is (kernel_after pt.kernel (label_of l)) (λ s. Some (moved pt l s)) mid first in
+    let g : moved pt l s ≡ mid = cc in
+    let e : mid ≡ next = cc in
+    record {
+      spare = subst (AllSpare z y) f (there, tt);
+      same = ap (λ (q : Point). q.kernel.processes y) (sym (g ∙ e)) ∙ kernel_same pt.kernel s y (label_of l) here step_;
+    }
+
+puts_by : (z : OneKernel) (y : Pid) (pt next : Point) (b : ℕ) (i : MsgId) (k : MessageKind) (q : Pid) (c d : Bool)
+    → after pt (line.Put pt.view.acting b i k q ∷ (if c then [] else if d then packet_line pt.view pt.view.acting b (load.Data (length (pt.view.pair pt.view.acting b).ids)) ∷ [] else [])) ≡ Some next
+    → Left z y pt next (line.Put pt.view.acting b i k q ∷ (if c then [] else if d then packet_line pt.view pt.view.acting b (load.Data (length (pt.view.pair pt.view.acting b).ids)) ∷ [] else []))
+puts_by z y pt next b i k q true d is =
+    let f : moved pt (line.Put pt.view.acting b i k q) pt.kernel ≡ next = cc in record { spare = (tt, tt); same = ap (λ (r : Point). r.kernel.processes y) (sym f) }
+puts_by z y pt next b i k q false false is =
+    let f : moved pt (line.Put pt.view.acting b i k q) pt.kernel ≡ next = cc in record { spare = (tt, tt); same = ap (λ (r : Point). r.kernel.processes y) (sym f) }
+puts_by z y pt next b i k q false true is =
+    let mid = moved pt (line.Put pt.view.acting b i k q) pt.kernel in
+    let f : moved mid (packet_line pt.view pt.view.acting b (load.Data (length (pt.view.pair pt.view.acting b).ids))) mid.kernel ≡ next = cc in
+    record { spare = (tt, (tt, tt)); same = ap (λ (r : Point). r.kernel.processes y) (sym f) }
+
+puts_left : (z : OneKernel) (y : Pid) (pt next : Point) (b : ℕ) (i : MsgId) (k : MessageKind) (q : Pid) (ls : List Line) → Some (puts pt.view b i k q) ≡ Some ls → after pt ls ≡ Some next → Left z y pt next ls
+puts_left z y pt next b i k q ls is leads =
+    let f : puts pt.view b i k q ≡ ls = cc in
+    subst (Left z y pt next) f (puts_by z y pt next b i k q (pt.view.acting == b) (goes_out (pt.view.pair pt.view.acting b)) (ap (after pt) f ∙ leads))
+
+part_left : (z : OneKernel) (y : Pid) (pt next : Point) (p : Part) (ls : List Line) → SparesPart pt.kernel y p → SparesPart z y p → lines_of pt p ≡ Some ls → after pt ls ≡ Some next → Left z y pt next ls
+part_left z y pt next (Says l) ls here there is leads = one_left z y pt next l ls here there is leads
+part_left z y pt next (Routes i) ls here there is leads =
+    let (m, bag, last) = bind-is (pt.kernel.bag i) (λ m. Some (puts pt.view (pt.addresses (Receiver i)).at i (plain_kind m.what) m.to)) ls is in
+    puts_left z y pt next (pt.addresses (Receiver i)).at i (plain_kind m.what) m.to ls last leads
+part_left z y pt next (Again i b) ls here there is leads =
+    let (t, told, last) = bind-is (pt.view.told i) (λ t. Some (puts pt.view b i t.kind t.receiver)) ls is in
+    puts_left z y pt next b i t.kind t.receiver ls last leads
+part_left z y pt next (Owns k q b) ls here there is leads = puts_left z y pt next b (own_id pt.view) k q ls is leads
+part_left z y pt next (Transmits a b l) ls here there is leads = one_left z y pt next (packet_line pt.view a b l) ls tt tt is leads
+
+parts_left : (z : OneKernel) (y : Pid) (ps : List Part) (pt : Point) (w : Spelled) → FirstApart pt.kernel y ps → FirstApart z y ps → spelled pt ps ≡ Some w → Left z y pt w.point w.lines
+parts_left z y [] pt w here there is = let f : record { lines = []; point = pt } ≡ w = cc in subst (λ (x : Spelled). Left z y pt x.point x.lines) f (record { spare = tt; same = refl })
+parts_left z y (p ∷ ps) pt w here there is =
+    let (ls, lines, rest) = bind-is (lines_of pt p) (λ (xs : List Line). bind (after pt xs) (λ (q : Point). bind (spelled q ps) (λ (v : Spelled). Some (behind xs v)))) w is in
+    let (next, leads, last) = bind-is (after pt ls) (λ (q : Point). bind (spelled q ps) (λ (v : Spelled). Some (behind ls v))) w rest in
+    let (v, more, end) = bind-is (spelled next ps) (λ (x : Spelled). Some (behind ls x)) w last in
+    let f : behind ls v ≡ w = cc in
+    let one = part_left z y pt next p ls here.0 there.0 lines leads in
+    let others = parts_left z y ps next v (apart_first next.kernel y ps here.1) (apart_first z y ps there.1) more in
+    subst (λ (x : Spelled). Left z y pt x.point x.lines) f (record { spare = spare_append z y ls v.lines one.spare others.spare; same = others.same ∙ one.same })
+
+-- a group
+apart_some : (z : OneKernel) (y : Pid) (o : Option (List Part)) (ps : List Part) → o ≡ Some ps → ApartOf z y o → FirstApart z y ps
+apart_some z y o ps e h = subst (ApartOf z y) e h
+
+group_left : (b : Boot) (pt : Point) (d : Step) (w : Spelled) (y : Pid) → ApartOf pt.kernel y (rule.outcome b pt d) → group_of b pt d ≡ Some w → Left pt.kernel y pt w.point w.lines
+group_left b pt d w y h e =
+    let (parts, is, more) = bind-is (rule.outcome b pt d) (λ parts. bind (after_line pt (line.Head d)) (λ begun. bind (spelled begun parts) (λ w. Some (rule.headed (line.Head d) w)))) w e in
+    let (start, head, last) = bind-is (after_line pt (line.Head d)) (λ begun. bind (spelled begun parts) (λ w. Some (rule.headed (line.Head d) w))) w more in
+    let (rest, told, end) = bind-is (spelled start parts) (λ w. Some (rule.headed (line.Head d) w)) w last in
+    let f : moved pt (line.Head d) pt.kernel ≡ start = cc in
+    let g : rule.headed (line.Head d) rest ≡ w = cc in
+    let fits = apart_some pt.kernel y (rule.outcome b pt d) parts is h in
+    let k = parts_left pt.kernel y parts (moved pt (line.Head d) pt.kernel) rest fits fits (ap (λ p. spelled p parts) f ∙ told) in
+    subst (λ (x : Spelled). Left pt.kernel y pt x.point x.lines) g (record { spare = (tt, k.spare); same = k.same })
+
+outcome_apart : (b : Boot) (pt : Point) (d : Step) (y : Pid) → Rooted pt → ((m : ℕ) → pid_of m (first_number + pt.kernel.made m) ≢ y) → ((m : ℕ) (p : Pid) → pt.view.known m p ≡ Here → p ≢ y) → ApartOf pt.kernel y (rule.outcome b pt d)
+outcome_apart b pt (step.Turn m) y h child off = turns_apart y b pt m (pt.view.inbox m) (child m) (off m) (h.served m)
+outcome_apart b pt (step.Tick m) y h child off = (tt, net_apart y (rule.resends pt.view m pt.kernel.machines) (resends_net pt.view m pt.kernel.machines))
+outcome_apart b pt (step.Deliver a c k) y h child off =
+    let s = slice_get (pt.view.pair a c).wire k in
+    let qs = rule.arrives a c (pt.view.pair a c) (pt.view.pair c a) s in
+    apart_first pt.kernel y qs (net_apart y qs (arrives_net a c (pt.view.pair a c) (pt.view.pair c a) s))
+outcome_apart b pt (step.Migrate p m) y h child off = apart_first pt.kernel y (migrates pt p) (migrates_apart y pt p)
+
+-- what moves is here nowhere, and was made
+moves_known : (k : MessageKind) (s d : ℕ) (o : Option MsgId) → Moves k s d o ≡ Nowhere → ⊥
+moves_known k s d o e = cc
+
+moving_left : (b : Boot) (pt : Point) (d : Step) (w : Spelled) (y : Pid) (k : MessageKind) (s t : ℕ) (o : Option MsgId) → Rooted pt → IsIn pt.view y (Moves k s t o) → group_of b pt d ≡ Some w → Left pt.kernel y pt w.point w.lines
+moving_left b pt d w y k s t o h phase e =
+    group_left b pt d w y
+    (outcome_apart b pt d y h
+    (λ m is. moves_known k s t o (nowhere_known (Moves k s t o)
+    (λ j. sym (ap (knows (Moves k s t o) j) (ap (pt.view.known j) (sym is) ∙ h.unborn m j)) ∙ phase.known j)))
+    (λ m p here is. false≢true (sym (moves_away k s t m o (s == m) (t == m) refl refl) ∙ sym (ap (knows (Moves k s t o) m) (ap (pt.view.known m) (sym is) ∙ here)) ∙ phase.known m))) e
+
+-- wherever the rule leads
+pub moving_stays_always : MovingStaysAlways
+moving_stays_always b es pt d w p k s t id valid leads e phase =
+    let h = phased_on b es (first_point b) pt leads (phased_start b valid) in
+    let left = moving_left b pt d w p k s t id (rooted pt h.sane h.ground) phase e in
+    (left.spare, left.same)

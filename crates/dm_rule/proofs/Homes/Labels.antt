@@ -1,0 +1,229 @@
+-- Each label keeps addresses where they may be, as at homes, and what it does to the rings too.
+use Rattle.std.proofs.Common.{◌≡◌, ℕ, ◌==◌, ◌&&◌, Bool, true, false, not, List, [], ◌∷◌, ◌++◌, refl, ap, ◌∙◌, sym, inl, inr, arith}
+use Rattle.std.specs.Prelude.{⊤, if◌then◌else◌, filter}
+use Rattle.std.specs.declared.option.Option.{Option}
+use Rattle.std.specs.declared.option.Option.TheVariants.{None, Some}
+use Rattle.std.proofs.lemmas.Bool.{cases_Bool}
+use Rattle.std.proofs.lemmas.Bool.Decides.{nat_tests}
+use Rattle.dm_link.specs.declared.Pid.{Pid}
+use Rattle.dm_link.specs.Names.{Place, pid_eq}
+use Rattle.dm_message.specs.declared.MsgId.{MsgId}
+use Rattle.dm_message.specs.declared.kind.MessageKind.{MessageKind}
+use Rattle.dm_message.specs.declared.kind.MessageKind.TheVariants as kind
+use Rattle.dm_onekernel.specs.declared.label.Label.{Label}
+use Rattle.dm_onekernel.specs.declared.label.Label.TheVariants as label
+use Rattle.dm_onekernel.specs.Kernel.{OneKernel}
+use Rattle.dm_onekernel.specs.Step as kernel
+use Rattle.dm_line.specs.Sets.{at_machine, at_record, without, moved_back}
+use Rattle.dm_rule.specs.View as view
+use Rattle.dm_rule.specs.View.{View, Told, Known, Unknown, Here, Frozen, Incoming, Forward, after_label, served_told, kills, ended, serving, handled}
+use Rattle.dm_rule.specs.Addresses.{Addresses, given, gives, unmoved, here}
+use Rattle.dm_rule.specs.Homes.{are_home}
+use Rattle.dm_rule.proofs.Homes.{IsHome, AtHome}
+use Rattle.dm_rule.proofs.Homes.Steps.{ran_home, call_home, send_home, wait_home, out_home, end_home}
+use Rattle.dm_rule.proofs.Homes.Receives.{receive_home, refuse_home}
+use Rattle.dm_rule.proofs.Homes.Serves.{Named, ReceivedAt, ServedAt, EndedAt, dropped_home, gone_home, no_space_home, served_home, created_home}
+use Rattle.dm_rule.proofs.Homes.Manager.{took_home}
+
+-- a label is said where its process is at home, or where its message's receiver is
+abbrev pub SaidAt : OneKernel → ℕ → Label → Type 0
+SaidAt s m (label.Ran p k) = p.home ≡ m
+SaidAt s m (label.Call p n c) = p.home ≡ m
+SaidAt s m (label.Send p id) = p.home ≡ m
+SaidAt s m (label.Wait p) = p.home ≡ m
+SaidAt s m (label.Out p w) = p.home ≡ m
+SaidAt s m (label.End p y) = p.home ≡ m
+SaidAt s m (label.Receive p id) = p.home ≡ m
+SaidAt s m (label.Refuse p id c) = p.home ≡ m
+SaidAt s m (label.Dropped id) = ⊤
+SaidAt s m (label.Served id) = ReceivedAt s m id
+SaidAt s m (label.Gone id) = ReceivedAt s m id
+SaidAt s m (label.Took id) = ReceivedAt s m id
+SaidAt s m (label.Created id child) = ReceivedAt s m id × (child.home ≡ m)
+SaidAt s m (label.NoSpace id f b) = ReceivedAt s m id
+
+here_home : (v : View) (p : Pid) → ((q : Pid) → v.moves q ≡ 0) → p.home ≡ v.acting → here v p ≡ unmoved p.home
+here_home v p still at = ap (λ (n : ℕ). record { at = v.acting; moves = n }) (still p) ∙ ap unmoved (sym at)
+
+-- a label is said where its process is, where its message's receiver is or has ended, or at a server's or a kernel's home
+abbrev pub SaidOn : (Pid → Place → Type 0) → OneKernel → View → Addresses → Label → Type 0
+SaidOn P s v a (label.Ran p k) = ⊤
+SaidOn P s v a (label.Call p n c) = P p (here v p)
+SaidOn P s v a (label.Send p id) = P p (here v p)
+SaidOn P s v a (label.Wait p) = P p (here v p)
+SaidOn P s v a (label.Out p w) = P p (here v p)
+SaidOn P s v a (label.End p y) = ⊤
+SaidOn P s v a (label.Receive p id) = ⊤
+SaidOn P s v a (label.Refuse p id c) = ⊤
+SaidOn P s v a (label.Dropped id) = ⊤
+SaidOn P s v a (label.Served id) = ServedAt P s v id
+SaidOn P s v a (label.Gone id) = EndedAt P s v a id
+SaidOn P s v a (label.Took id) = ReceivedAt s v.acting id
+SaidOn P s v a (label.Created id child) = ReceivedAt s v.acting id
+SaidOn P s v a (label.NoSpace id f b) = ReceivedAt s v.acting id
+
+-- each label keeps addresses where they may be
+pub label_on : (P : Pid → Place → Type 0) (s t : OneKernel) (v : View) (a : Addresses) (l : Label) → kernel.step s l ≡ Some t → Named s → SaidOn P s v a l → AtHome P s a → AtHome P t (given a (gives s v a l))
+label_on P s t v a (label.Ran p k) is named at h = ran_home P s t v a p k is h
+label_on P s t v a (label.Call p n c) is named at h = call_home P s t v a p n c is at h
+label_on P s t v a (label.Send p id) is named at h = send_home P s t v a p id is at h
+label_on P s t v a (label.Wait p) is named at h = wait_home P s t v a p is at h
+label_on P s t v a (label.Out p w) is named at h = out_home P s t v a p w is at h
+label_on P s t v a (label.End p y) is named at h = end_home P s t a p y is h
+label_on P s t v a (label.Receive p id) is named at h = receive_home P s t v a p id is h
+label_on P s t v a (label.Refuse p id c) is named at h = refuse_home P s t a p id c is h
+label_on P s t v a (label.Dropped id) is named at h = dropped_home P s t a id is h
+label_on P s t v a (label.Served id) is named at h = served_home P s t v a id is named at h
+label_on P s t v a (label.Gone id) is named at h = gone_home P s t v a id is named at h
+label_on P s t v a (label.Took id) is named at h = took_home P s t v a id is named at h
+label_on P s t v a (label.Created id child) is named at h = created_home P s t v a id child is named at h
+label_on P s t v a (label.NoSpace id f b) is named at h = no_space_home P s t v a id f b is named at h
+
+-- as long as nothing moves
+said_home : (s : OneKernel) (v : View) (a : Addresses) (l : Label) → ((q : Pid) → v.moves q ≡ 0) → SaidAt s v.acting l → AtHome IsHome s a → SaidOn IsHome s v a l
+said_home s v a (label.Ran p k) still at h = tt
+said_home s v a (label.Call p n c) still at h = here_home v p still at
+said_home s v a (label.Send p id) still at h = here_home v p still at
+said_home s v a (label.Wait p) still at h = here_home v p still at
+said_home s v a (label.Out p w) still at h = here_home v p still at
+said_home s v a (label.End p y) still at h = tt
+said_home s v a (label.Receive p id) still at h = tt
+said_home s v a (label.Refuse p id c) still at h = tt
+said_home s v a (label.Dropped id) still at h = tt
+said_home s v a (label.Served id) still at h = λ m there. here_home v m.to still (at m there)
+said_home s v a (label.Gone id) still at h = λ m there.
+    ap (λ (n : ℕ). record { at = v.acting; moves = n }) (ap (λ (p : Place). p.moves) (h.messages id m there).receiver) ∙ ap unmoved (sym (at m there))
+said_home s v a (label.Took id) still at h = at
+said_home s v a (label.Created id child) still at h = at.0
+said_home s v a (label.NoSpace id f b) still at h = at
+
+pub label_home : (s t : OneKernel) (v : View) (a : Addresses) (l : Label) → kernel.step s l ≡ Some t → Named s → ((q : Pid) → v.moves q ≡ 0) → SaidAt s v.acting l → AtHome IsHome s a → AtHome IsHome t (given a (gives s v a l))
+label_home s t v a l is named still at h = label_on IsHome s t v a l is named (said_home s v a l still at h) h
+
+-- rings
+both : (b c : Bool) → (b && c) ≡ true → (b ≡ true) × (c ≡ true)
+both true c e = (refl, e)
+both false c e = cc
+
+filter_home_if : (m : ℕ) (p : Pid) (ps : List Pid) (b : Bool) → (p.home == m) ≡ true → are_home m ps ≡ true → are_home m (if b then p ∷ ps else ps) ≡ true
+filter_home_if m p ps true e h = ap (λ (c : Bool). c && are_home m ps) e ∙ h
+filter_home_if m p ps false e h = h
+
+filter_home : (m : ℕ) (ps : List Pid) (f : Pid → Bool) → are_home m ps ≡ true → are_home m (filter f ps) ≡ true
+filter_home m [] f h = refl
+filter_home m (p ∷ ps) f h =
+    let k = both (p.home == m) (are_home m ps) h in
+    filter_home_if m p (filter f ps) (f p) k.0 (filter_home m ps f k.1)
+
+pub without_home : (m : ℕ) (p : Pid) (ps : List Pid) → are_home m ps ≡ true → are_home m (without p ps) ≡ true
+without_home m p ps h = filter_home m ps (λ q. not (pid_eq p q)) h
+
+pub joins_home : (m : ℕ) (p : Pid) (ps : List Pid) → p.home ≡ m → are_home m ps ≡ true → are_home m (ps ++ p ∷ []) ≡ true
+joins_home m p [] e h = grind (arith, nat_tests)
+joins_home m p (q ∷ qs) e h =
+    let k = both (q.home == m) (are_home m qs) h in
+    ap (λ (c : Bool). c && are_home m (qs ++ p ∷ [])) k.0 ∙ joins_home m p qs e k.1
+
+-- rings whose processes are at home, and no process has moved
+-- what a machine knows of a process as long as nothing moves
+abbrev pub is_still : Known → Bool
+is_still Unknown = true
+is_still Here = true
+is_still (Frozen to) = false
+is_still (Incoming from) = false
+is_still (Forward at moves) = false
+is_still view.Ended = true
+
+pub record RingsHome (v : View) : Type 0 where
+  pub moves : (p : Pid) → v.moves p ≡ 0
+  pub ring : (m : ℕ) → are_home m (v.ring m) ≡ true
+  pub known : (m : ℕ) (p : Pid) → is_still (v.known m p) ≡ true
+
+known_if : (b : Bool) (k j : Known) → is_still k ≡ true → is_still j ≡ true → is_still (if b then k else j) ≡ true
+known_if true k j h i = h
+known_if false k j h i = i
+
+known_set : (v : View) (a : ℕ) (p : Pid) (k : Known) → is_still k ≡ true → RingsHome v → (m : ℕ) (q : Pid) → is_still (at_record v.known a p k m q) ≡ true
+known_set v a p k h r m q = known_if ((a == m) && pid_eq p q) k (v.known m q) h (r.known m q)
+
+-- the acting machine has another ring
+ring_set : (f : ℕ → List Pid) (m : ℕ) (ps : List Pid) → are_home m ps ≡ true → ((n : ℕ) → are_home n (f n) ≡ true) → (n : ℕ) → are_home n (at_machine f m ps n) ≡ true
+ring_set f m ps h k n = elim (cases_Bool (m == n)) [
+  | inl same ↦
+      let is : m ≡ n = grind (arith, nat_tests) in
+      ap (λ (c : Bool). are_home n (if c then ps else f n)) same ∙ ap (λ (i : ℕ). are_home i ps) (sym is) ∙ h
+  | inr apart ↦ ap (λ (c : Bool). are_home n (if c then ps else f n)) apart ∙ k n
+]
+
+pub rings_set : (v w : View) (ps : List Pid) → w.moves ≡ v.moves → w.ring ≡ at_machine v.ring v.acting ps → ((m : ℕ) (p : Pid) → is_still (w.known m p) ≡ true) → are_home v.acting ps ≡ true → RingsHome v → RingsHome w
+rings_set v w ps moves ring known h k = record {
+  known = known;
+  moves = λ p. ap (λ (f : Pid → ℕ). f p) moves ∙ k.moves p;
+  ring = λ m. ap (λ (f : ℕ → List Pid). are_home m (f m)) ring ∙ ring_set v.ring v.acting ps h k.ring m;
+}
+
+pub rings_same : (v w : View) → w.moves ≡ v.moves → w.ring ≡ v.ring → w.known ≡ v.known → RingsHome v → RingsHome w
+rings_same v w moves ring known k = record {
+  known = λ m p. ap (λ (f : ℕ → Pid → Known). is_still (f m p)) known ∙ k.known m p;
+  moves = λ p. ap (λ (f : Pid → ℕ). f p) moves ∙ k.moves p;
+  ring = λ m. ap (λ (f : ℕ → List Pid). are_home m (f m)) ring ∙ k.ring m;
+}
+
+kills_rings : (v : View) (k : MessageKind) (o : Option Pid) → RingsHome v → RingsHome (kills k v o)
+kills_rings v kind.Kill (Some p) h = rings_set v (ended v p) (without p (v.ring v.acting)) refl refl (known_set v v.acting p view.Ended refl h) (without_home v.acting p (v.ring v.acting) (h.ring v.acting)) h
+kills_rings v kind.User o h = h
+kills_rings v kind.Stop o h = h
+kills_rings v kind.Resume o h = h
+kills_rings v kind.Read o h = h
+kills_rings v kind.Write o h = h
+kills_rings v kind.Block o h = h
+kills_rings v kind.Written o h = h
+kills_rings v kind.Gone o h = h
+kills_rings v kind.Create o h = h
+kills_rings v kind.Created o h = h
+kills_rings v kind.NoRoom o h = h
+kills_rings v kind.Migrate o h = h
+kills_rings v kind.Update o h = h
+kills_rings v kind.Ask o h = h
+kills_rings v kind.Refuse o h = h
+kills_rings v kind.PullState o h = h
+kills_rings v kind.State o h = h
+kills_rings v kind.PullBlock o h = h
+kills_rings v kind.Memory o h = h
+kills_rings v kind.AllTaken o h = h
+kills_rings v kind.Restart o h = h
+kills_rings v kind.Move o h = h
+kills_rings v kind.Moved o h = h
+kills_rings v kind.CallOff o h = h
+kills_rings v kind.Bury o h = h
+kills_rings v kind.Kill None h = h
+
+told_rings : (v : View) (o : Option Told) → RingsHome v → RingsHome (served_told v o)
+told_rings v None h = h
+told_rings v (Some t) h = kills_rings v t.kind (Some t.receiver) h
+
+handled_rings : (v : View) (id : MsgId) → RingsHome v → RingsHome (handled v id)
+handled_rings v id h = record { moves = h.moves; ring = h.ring; known = h.known }
+
+dropped_rings : (v : View) (id : MsgId) (o : Option Pid) → RingsHome v → RingsHome (view.dropped_for v id o)
+dropped_rings v id None h = h
+dropped_rings v id (Some p) h = record { moves = h.moves; ring = h.ring; known = h.known }
+
+back_home : (v : View) (p : Pid) → p.home ≡ v.acting → RingsHome v → are_home v.acting (moved_back p (v.ring v.acting)) ≡ true
+back_home v p at h = joins_home v.acting p (without p (v.ring v.acting)) at (without_home v.acting p (v.ring v.acting) (h.ring v.acting))
+
+pub label_rings : (s : OneKernel) (v : View) (l : Label) → SaidAt s v.acting l → RingsHome v → RingsHome (after_label v l)
+label_rings s v (label.Ran p k) at h = rings_set v (after_label v (label.Ran p k)) (moved_back p (v.ring v.acting)) refl refl h.known (back_home v p at h) h
+label_rings s v (label.Call p n c) at h = h
+label_rings s v (label.Send p id) at h = h
+label_rings s v (label.Wait p) at h = h
+label_rings s v (label.Out p w) at h = h
+label_rings s v (label.End p y) at h = rings_set v (after_label v (label.End p y)) (without p (v.ring v.acting)) refl refl (known_set v v.acting p view.Ended refl h) (without_home v.acting p (v.ring v.acting) (h.ring v.acting)) h
+label_rings s v (label.Receive p id) at h = rings_set v (after_label v (label.Receive p id)) (moved_back p (v.ring v.acting)) refl refl h.known (back_home v p at h) h
+label_rings s v (label.Refuse p id c) at h = rings_set v (after_label v (label.Refuse p id c)) (moved_back p (v.ring v.acting)) refl refl h.known (back_home v p at h) h
+label_rings s v (label.Dropped id) at h = dropped_rings (handled v id) id (view.receiver_of (v.told id)) (handled_rings v id h)
+label_rings s v (label.Served id) at h = told_rings (handled v id) (v.told id) (handled_rings v id h)
+label_rings s v (label.Gone id) at h = handled_rings v id h
+label_rings s v (label.Took id) at h = handled_rings v id h
+label_rings s v (label.Created id p) at h = rings_set v (after_label v (label.Created id p)) (v.ring v.acting ++ p ∷ []) refl refl (known_set v v.acting p Here refl h) (joins_home v.acting p (v.ring v.acting) at.1 (h.ring v.acting)) h
+label_rings s v (label.NoSpace id f b) at h = handled_rings v id h

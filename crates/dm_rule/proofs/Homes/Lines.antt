@@ -1,0 +1,241 @@
+-- Each line that is said where it belongs keeps all of it: addresses, rings and lists; so do the parts of a group.
+use Rattle.std.proofs.Common.{◌≡◌, ℕ, ◌+◌, ◌≤◌, ◌==◌, ◌&&◌, Bool, true, false, List, [], ◌∷◌, ◌++◌, length, drop, refl, ap, ◌∙◌, sym, subst, is_some, is_none, arith, nat_le}
+use Rattle.std.specs.Prelude.{if◌then◌else◌}
+use Rattle.std.specs.declared.option.Option.{Option}
+use Rattle.std.specs.declared.option.Option.TheVariants.{None, Some}
+use Rattle.std.proofs.lemmas.Bool.Decides.{nat_tests}
+use Rattle.dm_link.specs.declared.Pid.{Pid}
+use Rattle.dm_link.specs.Names.{Place}
+use Rattle.dm_message.specs.declared.MsgId.{MsgId}
+use Rattle.dm_message.specs.declared.kind.MessageKind.{MessageKind}
+use Rattle.dm_message.specs.declared.kind.MessageKind.TheVariants as kind
+use Rattle.dm_message.specs.Kinds.{plain_kind}
+use Rattle.dm_message.specs.Plain.{PlainMessage}
+use Rattle.dm_onekernel.specs.declared.boot.Boot.{Boot}
+use Rattle.dm_onekernel.specs.declared.label.Label.{Label}
+use Rattle.dm_onekernel.specs.declared.label.Label.TheVariants as label
+use Rattle.dm_onekernel.specs.Boot.{IsValid}
+use Rattle.dm_onekernel.specs.Kernel.{OneKernel}
+use Rattle.dm_onekernel.specs.Step as kernel
+use Rattle.dm_laws.specs.Laws.{entry, in_bag, reception}
+use Rattle.dm_laws.proofs.Sound.{Sound}
+use Rattle.dm_laws.proofs.Steps.{bind-is}
+use Rattle.dm_laws.proofs.Runs.{after_step, start-sound}
+use Rattle.dm_line.specs.declared.line.Line.{Line}
+use Rattle.dm_line.specs.declared.line.Line.TheVariants as line
+use Rattle.dm_line.specs.declared.line.Load.{Load}
+use Rattle.dm_line.specs.declared.line.Load.TheVariants as load
+use Rattle.dm_rule.specs.Spots.{untaken}
+use Rattle.dm_rule.specs.View as view
+use Rattle.dm_rule.specs.View.{View, Pair, Told, after_label, after_put, after_packet, after_taken, after_early, after_acked, queued_for, handled}
+use Rattle.std.specs.Prelude.{◌||◌}
+use Rattle.dm_link.specs.Names.{pid_eq}
+use Rattle.dm_message.specs.Plain as what
+use Rattle.dm_message.specs.Plain.{PlainWhat}
+use Rattle.dm_onekernel.specs.declared.boot.BootProcess.{BootProcess}
+use Rattle.dm_onekernel.specs.Boot.{switchboard, manager}
+use Rattle.dm_rule.specs.View.{Known, Unknown, Here, known_at}
+use Rattle.dm_rule.specs.Addresses.{Addresses, Receiver, Gets, given, own_gives, first_gives, addresses_after}
+use Rattle.dm_rule.specs.Point.{Point, first_point, after, after_line, moved}
+use Rattle.dm_rule.specs.Parts.{Routes, lines_of, puts, packet_line, goes_out}
+use Rattle.dm_rule.specs.Homes.{Homes, is_for_home}
+use Rattle.dm_rule.proofs.Homes.{IsHome, AtHome, homes_are}
+use Rattle.dm_rule.proofs.Homes.Start.{start_at_home, Homes-start}
+use Rattle.dm_rule.proofs.Homes.Labels.{SaidAt, label_home, RingsHome, is_still, rings_same, label_rings}
+use Rattle.dm_rule.proofs.Homes.Lists.{stands, all_stand, ListsHome, Old, lists_on, label_lists, put_lists, pair_set, are_for}
+
+-- a step leaves a message of the bag as it is, or takes it out
+abbrev pub NoneReplaced : Type 0
+NoneReplaced = (r e : MsgId → ℕ) (s t : OneKernel) (l : Label) → kernel.step s l ≡ Some t → Sound r e s → (i : MsgId) (x y : PlainMessage) → s.bag i ≡ Some x → t.bag i ≡ Some y → x ≡ y
+
+-- all that holds as long as nothing moves, with the receptions and entries so far
+pub record Home (r e : MsgId → ℕ) (pt : Point) : Type 0 where
+  pub sound : Sound r e pt.kernel
+  pub at : AtHome IsHome pt.kernel pt.addresses
+  pub rings : RingsHome pt.view
+  pub lists : ListsHome pt.kernel e pt.view
+
+pub homes_of : (r e : MsgId → ℕ) (pt : Point) → Home r e pt → Homes pt
+homes_of r e pt h = record {
+  home = homes_are IsHome pt.kernel pt.addresses h.at;
+  moves = h.rings.moves;
+  ring = h.rings.ring;
+  inbox = λ m. are_for pt.kernel e m (pt.view.inbox m) (h.lists.inbox m);
+  queue = λ m p. are_for pt.kernel e m (pt.view.queue m p) (h.lists.queue m p);
+  pending = h.at.pending;
+  untaken = λ a m. are_for pt.kernel e m (untaken (pt.view.pair a m)) (h.lists.untaken a m);
+}
+
+start_if : (c : Bool) (k : Known) → is_still k ≡ true → is_still (if c then Here else k) ≡ true
+start_if true k h = refl
+start_if false k h = h
+
+start_known : (ps : List BootProcess) (m : ℕ) (q : Pid) → is_still (known_at ps m q) ≡ true
+start_known [] m q = start_if ((m == 0) && (pid_eq q switchboard || pid_eq q manager)) Unknown refl
+start_known (p ∷ ps) m q = start_if (pid_eq p.pid q && (p.pid.home == m)) (known_at ps m q) (start_known ps m q)
+
+pub home_start : (b : Boot) → IsValid b → Home (λ i. 0) (λ i. 0) (first_point b)
+home_start b valid = record {
+  sound = start-sound b valid;
+  at = start_at_home b valid;
+  rings = let h = Homes-start b valid in record { moves = h.moves; ring = h.ring; known = λ m p. start_known b.processes m p };
+  lists = record { inbox = λ m. refl; queue = λ m p. refl; untaken = λ a m. refl };
+}
+
+-- what is kept by what follows, on the same machine
+pub record Kept (m : ℕ) (pt : Point) : Type 0 where
+  pub r : MsgId → ℕ
+  pub e : MsgId → ℕ
+  pub home : Home r e pt
+  pub acting : pt.view.acting ≡ m
+
+old_of : (a b : Option PlainMessage) (e : ℕ) (x : PlainMessage) → nat_le 1 e ≡ true → e + (if is_none a && is_some b then 1 else 0) ≤ 1 → b ≡ Some x → ((y : PlainMessage) → a ≡ Some y → y ≡ x) → a ≡ Some x
+old_of (Some y) b e x entered once there same = ap Some (same y refl)
+old_of None None e x entered once there same = cc
+old_of None (Some z) e x entered once there same = absurd (let f : 1 ≤ e = grind (arith, nat_tests) in omega (arith, f, once))
+
+-- a label
+label_line : NoneReplaced → (r e : MsgId → ℕ) (pt : Point) (l : Label) (t : OneKernel) → kernel.step pt.kernel l ≡ Some t → SaidAt pt.kernel pt.view.acting l → Home r e pt
+    → Home (λ i. r i + reception i l) (λ i. e i + entry i pt.kernel t) (moved pt (line.Label l) t)
+label_line none r e pt l t is at h =
+    let a = after_step r e pt.kernel t l is h.sound in
+    let old : Old e pt.kernel t = λ i x entered there. old_of (pt.kernel.bag i) (t.bag i) (e i) x entered (a.sound.entered.once i) there (λ y was. none r e pt.kernel t l is h.sound i y x was there) in
+    record {
+      sound = a.sound;
+      at = label_home pt.kernel t pt.view pt.addresses l is h.sound.entered.named h.rings.moves at h.at;
+      rings = label_rings pt.kernel pt.view l at h.rings;
+      lists = lists_on pt.kernel t e (λ i. e i + entry i pt.kernel t) (after_label pt.view l) old (λ i. omega arith) (label_lists pt.kernel e pt.view l h.lists);
+    }
+
+acting_kills : (v : View) (k : MessageKind) (o : Option Pid) → (view.kills k v o).acting ≡ v.acting
+acting_kills v kind.Kill (Some p) = refl
+acting_kills v kind.Kill None = refl
+acting_kills v kind.User o = refl
+acting_kills v kind.Stop o = refl
+acting_kills v kind.Resume o = refl
+acting_kills v kind.Read o = refl
+acting_kills v kind.Write o = refl
+acting_kills v kind.Block o = refl
+acting_kills v kind.Written o = refl
+acting_kills v kind.Gone o = refl
+acting_kills v kind.Create o = refl
+acting_kills v kind.Created o = refl
+acting_kills v kind.NoRoom o = refl
+acting_kills v kind.Migrate o = refl
+acting_kills v kind.Update o = refl
+acting_kills v kind.Ask o = refl
+acting_kills v kind.Refuse o = refl
+acting_kills v kind.PullState o = refl
+acting_kills v kind.State o = refl
+acting_kills v kind.PullBlock o = refl
+acting_kills v kind.Memory o = refl
+acting_kills v kind.AllTaken o = refl
+acting_kills v kind.Restart o = refl
+acting_kills v kind.Move o = refl
+acting_kills v kind.Moved o = refl
+acting_kills v kind.CallOff o = refl
+acting_kills v kind.Bury o = refl
+
+acting_told : (v : View) (o : Option Told) → (view.served_told v o).acting ≡ v.acting
+acting_told v None = refl
+acting_told v (Some t) = acting_kills v t.kind (Some t.receiver)
+
+acting_dropped : (v : View) (id : MsgId) (o : Option Pid) → (view.dropped_for v id o).acting ≡ v.acting
+acting_dropped v id None = refl
+acting_dropped v id (Some p) = refl
+
+pub acting_label : (v : View) (l : Label) → (after_label v l).acting ≡ v.acting
+acting_label v (label.Dropped id) = acting_dropped (handled v id) id (view.receiver_of (v.told id))
+acting_label v (label.Served id) = acting_told (handled v id) (v.told id)
+acting_label v (label.Ran p k) = refl
+acting_label v (label.Call p n c) = refl
+acting_label v (label.Send p id) = refl
+acting_label v (label.Wait p) = refl
+acting_label v (label.Out p w) = refl
+acting_label v (label.End p y) = refl
+acting_label v (label.Receive p id) = refl
+acting_label v (label.Refuse p id c) = refl
+acting_label v (label.Gone id) = refl
+acting_label v (label.Took id) = refl
+acting_label v (label.Created id p) = refl
+acting_label v (label.NoSpace id f b) = refl
+
+-- a pair whose messages stay
+pub same_lists : (s : OneKernel) (e : MsgId → ℕ) (v : View) (a b : ℕ) (p : Pair) → p.ids ≡ (v.pair a b).ids → p.taken ≡ (v.pair a b).taken → ListsHome s e v → ListsHome s e (view.with_pair v a b p)
+same_lists s e v a b p ids taken h = record {
+  inbox = h.inbox;
+  queue = h.queue;
+  untaken = pair_set s e v.pair a b p (ap (λ (is : List MsgId). all_stand s e b (drop p.taken is)) ids ∙ ap (λ (n : ℕ). all_stand s e b (drop n (v.pair a b).ids)) taken ∙ h.untaken a b) h.untaken;
+}
+
+pub packet_line_home : (r e : MsgId → ℕ) (pt : Point) (a b k : ℕ) (l : Load) → Home r e pt → Home r e (moved pt (line.Packet a b k l) pt.kernel)
+packet_line_home r e pt a b k l h =
+    let p = pt.view.pair a b in
+    let q : Pair = record p { gone = view.gone_after l p.gone; wire = p.wire ++ record { load = l; delivered = false } ∷ [] } in
+    record { sound = h.sound; at = h.at; rings = rings_same pt.view (view.with_pair pt.view a b q) refl refl refl h.rings; lists = same_lists pt.kernel e pt.view a b q refl refl h.lists }
+
+-- a message of the bag has its places from the label that sent it
+own_none : (s : OneKernel) (v : View) (a : Addresses) (id : MsgId) (q : Pid) (w : PlainWhat) → own_gives s v a id q (plain_kind w) ≡ []
+own_none s v a id q (what.User x1 x2 x3 x4) = refl
+own_none s v a id q what.Stop = refl
+own_none s v a id q what.Resume = refl
+own_none s v a id q what.Kill = refl
+own_none s v a id q (what.Read x1 x2) = refl
+own_none s v a id q (what.Write x1 x2) = refl
+own_none s v a id q (what.Block x1) = refl
+own_none s v a id q what.Written = refl
+own_none s v a id q what.Gone = refl
+own_none s v a id q (what.Create x1 x2) = refl
+own_none s v a id q (what.Created x1) = refl
+own_none s v a id q what.NoRoom = refl
+own_none s v a id q (what.Move x1) = refl
+own_none s v a id q (what.Moved x1) = refl
+
+first_none : (o : Option Told) (gs : List Gets) → gs ≡ [] → first_gives o gs ≡ []
+first_none None gs e = e
+first_none (Some t) gs e = refl
+
+pub put_places : (s : OneKernel) (v : View) (a : Addresses) (from b : ℕ) (id : MsgId) (w : PlainWhat) (q : Pid) → addresses_after s v a (line.Put from b id (plain_kind w) q) ≡ a
+put_places s v a from b id w q = ap (given a) (first_none (v.told id) (own_gives s v a id q (plain_kind w)) (own_none s v a id q w))
+
+put_at_home : (s : OneKernel) (v : View) (a : Addresses) (from b : ℕ) (id : MsgId) (w : PlainWhat) (q : Pid) → AtHome IsHome s a → AtHome IsHome s (addresses_after s v a (line.Put from b id (plain_kind w) q))
+put_at_home s v a from b id w q h = subst (AtHome IsHome s) (sym (put_places s v a from b id w q)) h
+
+-- a routed message
+routed_home : (r e : MsgId → ℕ) (pt : Point) (id : MsgId) (m : PlainMessage) (b : ℕ) → pt.kernel.bag id ≡ Some m → b ≡ m.to.home → Home r e pt → Home r e (moved pt (line.Put pt.view.acting b id (plain_kind m.what) m.to) pt.kernel)
+routed_home r e pt id m b there is h =
+    let w = after_put pt.view pt.view.acting b id (plain_kind m.what) m.to in
+    let few = h.sound.entered.fewer id in
+    let one : in_bag (pt.kernel.bag id) ≡ 1 = ap in_bag there in
+    let entered : 1 ≤ e id = omega (arith, few, one) in
+    let first : nat_le 1 (e id) ≡ true = grind (arith, nat_tests) in
+    let second : is_for_home b (pt.kernel.bag id) ≡ true = ap (is_for_home b) there ∙ (let f : (m.to.home == b) ≡ true = grind (arith, nat_tests) in f) in
+    let at : stands pt.kernel e b id ≡ true = ap (λ (c : Bool). c && is_for_home b (pt.kernel.bag id)) first ∙ second in
+    record { sound = h.sound; at = put_at_home pt.kernel pt.view pt.addresses pt.view.acting b id m.what m.to h.at; rings = rings_same pt.view w refl refl refl h.rings; lists = put_lists pt.kernel e pt.view pt.view.acting b id (plain_kind m.what) m.to at h.lists }
+
+-- its packet goes out at once, or later
+packet_if : (r e : MsgId → ℕ) (pt pt' : Point) (c d : Bool) (a b k : ℕ) (l : Load) → Home r e pt → after pt (if c then [] else if d then line.Packet a b k l ∷ [] else []) ≡ Some pt' → Kept pt.view.acting pt'
+packet_if r e pt pt' true d a b k l h is = let f : pt ≡ pt' = cc in subst (Kept pt.view.acting) f (record { r = r; e = e; home = h; acting = refl })
+packet_if r e pt pt' false false a b k l h is = let f : pt ≡ pt' = cc in subst (Kept pt.view.acting) f (record { r = r; e = e; home = h; acting = refl })
+packet_if r e pt pt' false true a b k l h is =
+    let f : moved pt (line.Packet a b k l) pt.kernel ≡ pt' = cc in
+    subst (Kept pt.view.acting) f (record { r = r; e = e; home = packet_line_home r e pt a b k l h; acting = refl })
+
+pub routes_keep : (r e : MsgId → ℕ) (pt pt' : Point) (id : MsgId) (ls : List Line) → Home r e pt → lines_of pt (Routes id) ≡ Some ls → after pt ls ≡ Some pt' → Kept pt.view.acting pt'
+routes_keep r e pt pt' id ls h is next =
+    let b = (pt.addresses (Receiver id)).at in
+    let (m, there, last) = bind-is (pt.kernel.bag id) (λ (x : PlainMessage). Some (puts pt.view b id (plain_kind x.what) x.to)) ls is in
+    let f : puts pt.view b id (plain_kind m.what) m.to ≡ ls = cc in
+    let at : b ≡ m.to.home = ap (λ (p : Place). p.at) (h.at.messages id m there).receiver in
+    let c = pt.view.acting in
+    let rest = if (c == b) then [] else if goes_out (pt.view.pair c b) then packet_line pt.view c b (load.Data (length (pt.view.pair c b).ids)) ∷ [] else [] in
+    packet_if r e (moved pt (line.Put c b id (plain_kind m.what) m.to) pt.kernel) pt' (c == b) (goes_out (pt.view.pair c b)) c b (length (pt.view.pair c b).wire) (load.Data (length (pt.view.pair c b).ids))
+    (routed_home r e pt id m b there at h) (ap (after pt) f ∙ next)
+
+pub label_keeps : NoneReplaced → (r e : MsgId → ℕ) (pt pt' : Point) (l : Label) → SaidAt pt.kernel pt.view.acting l → Home r e pt → after pt (line.Label l ∷ []) ≡ Some pt' → Kept pt.view.acting pt'
+label_keeps none r e pt pt' l at h is =
+    let (mid, first, last) = bind-is (after_line pt (line.Label l)) (λ (x : Point). after x []) pt' is in
+    let (t, step, then_) = bind-is (kernel.step pt.kernel l) (λ (s : OneKernel). Some (moved pt (line.Label l) s)) mid first in
+    let f : moved pt (line.Label l) t ≡ mid = cc in
+    let g : mid ≡ pt' = cc in
+    subst (Kept pt.view.acting) (f ∙ g) (record { r = λ i. r i + reception i l; e = λ i. e i + entry i pt.kernel t; home = label_line none r e pt l t step at h; acting = acting_label pt.view l })

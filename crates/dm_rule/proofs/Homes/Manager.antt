@@ -1,0 +1,292 @@
+-- What the process manager does keeps addresses where they may be.
+use Rattle.std.proofs.Common.{◌≡◌, ℕ, zero, suc, ◌+◌, ◌==◌, ◌&&◌, Bool, true, false, List, [], ◌∷◌, ◌++◌, refl, ap, ◌∙◌, sym, subst, inl, inr, arith, nat_lt, length}
+use Rattle.std.specs.Prelude.{if◌then◌else◌, slice_get}
+use Rattle.std.specs.declared.option.Option.{Option}
+use Rattle.std.specs.declared.option.Option.TheVariants.{None, Some}
+use Rattle.std.proofs.lemmas.Bool.Decides.{nat_tests}
+use Rattle.dm_link.specs.declared.Pid.{Pid}
+use Rattle.dm_link.specs.Names.{Place, pid_eq}
+use Rattle.dm_link.specs.Plain.{PlainLink}
+use Rattle.dm_message.specs.declared.MsgId.{MsgId}
+use Rattle.dm_message.specs.Ids.{id_eq, id_of}
+use Rattle.dm_message.specs.Plain as what
+use Rattle.dm_message.specs.Plain.{PlainMessage, PlainWhat}
+use Rattle.dm_onekernel.specs.declared.label.Label.TheVariants as label
+use Rattle.dm_onekernel.specs.Options.{bind}
+use Rattle.dm_onekernel.specs.Kernel.{OneKernel}
+use Rattle.dm_onekernel.specs.Service.{without_message}
+use Rattle.dm_onekernel.specs.Step as kernel
+use Rattle.dm_laws.proofs.Equal.{id_eq-same}
+use Rattle.dm_laws.proofs.Steps.{bind-is}
+use Rattle.dm_rule.specs.View.{View}
+use Rattle.dm_rule.specs.Addresses as addresses
+use Rattle.dm_rule.specs.Addresses.{Addresses, Gets, gets, given, gives, Slot, Owner, Receiver, Sender, Enclosed, unmoved, here, fills, fills_by, made, sends_what, receives_links, receives_what, slot_after, owner_in}
+use Rattle.dm_onekernel.specs.Service as service
+use Rattle.dm_link.specs.Names.{pid_of}
+use Rattle.dm_rule.specs.Addresses.{answers, serves_what, lands, child_links}
+use Rattle.std.specs.Prelude.{◌*◌}
+use Rattle.dm_onekernel.specs.Kernel.{Pending, Manager}
+use Rattle.dm_onekernel.specs.Boot.{switchboard, manager}
+use Rattle.dm_onekernel.specs.Switchboard as board
+use Rattle.dm_onekernel.specs.Manager as manage
+use Rattle.dm_rule.specs.Addresses.{Child, Name, Answer, encloses, enclosed_from, place_named, board_finds, board_keeps, board_takes, manager_sends, manager_tells, manager_answers, manager_takes}
+use Rattle.dm_rule.specs.Homes.{links_in, ascends}
+use Rattle.dm_rule.proofs.Homes.{place_as, pid_as, acts_at, AtHome}
+use Rattle.dm_rule.proofs.Homes.Rows.{SameProcess, SameMessage, sent_home, at_home_out, process_same, encloses_servers, encloses_process, encloses_message, encloses_at}
+use Rattle.dm_rule.proofs.Homes.Serves.{two, two_sends, Named, ReceivedAt}
+use Rattle.dm_rule.proofs.Homes.Servers.{get_last, ascends_more, ascends_last, ascends_without, numbered_from, pending_last, still_pending, board_row}
+
+abbrev TookAt : (Pid → Place → Type 0) → OneKernel → View → Addresses → MsgId → MsgId → ℕ → manage.Took → Type 0
+TookAt P s v a id mid code k = AtHome P (service.manager_took s id k) (given a (manager_sends v a mid code k.message))
+
+abbrev LinksHome : (Pid → Place → Type 0) → Addresses → MsgId → List PlainLink → Type 0
+LinksHome P a id links = (n : ℕ) (w : PlainLink) → slice_get links n ≡ Some w → P w.to (a (Enclosed id n))
+
+took_if : (P : Pid → Place → Type 0) (s : OneKernel) (v : View) (a : Addresses) (id mid : MsgId) (code : ℕ) (b : Bool) (k l : manage.Took) → TookAt P s v a id mid code k → TookAt P s v a id mid code l → TookAt P s v a id mid code (if b then k else l)
+took_if P s v a id mid code true k l h j = h
+took_if P s v a id mid code false k l h j = j
+
+-- its count rises
+counted : (P : Pid → Place → Type 0) (s : OneKernel) (a : Addresses) (id : MsgId) → AtHome P s a → AtHome P (record (without_message s id) { manager = record s.manager { sent = s.manager.sent + 1 } }) a
+counted P s a id h =
+    let u = at_home_out P s a id h in
+    record { processes = u.processes; messages = u.messages; children = u.children; named = u.named; answers = u.answers; rooted = u.rooted; pending = ascends_more s.manager.pending 0 s.manager.sent h.pending }
+
+bad_home : (P : Pid → Place → Type 0) (s : OneKernel) (v : View) (a : Addresses) (id mid : MsgId) (code : ℕ) (links : List PlainLink) → LinksHome P a mid links → v.acting ≡ 0 → AtHome P s a → TookAt P s v a id mid code (manage.bad_request s.manager links)
+bad_home P s v a id mid code [] en at h =
+    let u = at_home_out P s a id h in
+    record { processes = u.processes; messages = u.messages; children = u.children; named = u.named; answers = u.answers; rooted = u.rooted; pending = u.pending }
+bad_home P s v a id mid code (l ∷ ls) en at h =
+    let m = board.goes_over manager s.manager.sent l (2 ∷ []) [] in
+    two_sends P (record (without_message s id) { manager = record s.manager { sent = s.manager.sent + 1 } }) a m (a (Enclosed mid 0)) (unmoved v.acting) (counted P s a id h) refl (en 0 l refl) (acts_at P manager v.acting (h.rooted manager) at)
+
+pub enclosed_at : (a : Addresses) (id : MsgId) (n : ℕ) (ls : List PlainLink) (k : ℕ) (w : PlainLink) → slice_get ls k ≡ Some w → slice_get (enclosed_from a id n ls) k ≡ Some (a (Enclosed id (n + k)))
+enclosed_at a id n [] k w e = cc
+enclosed_at a id n (l ∷ ls) zero w e = let f : n ≡ n + 0 = omega arith in ap (λ (i : ℕ). Some (a (Enclosed id i))) f
+enclosed_at a id n (l ∷ ls) (suc k) w e = let f : (n + 1) + k ≡ n + suc k = omega arith in enclosed_at a id (n + 1) ls k w e ∙ ap (λ (i : ℕ). Some (a (Enclosed id i))) f
+
+asks_for_home : (P : Pid → Place → Type 0) (s : OneKernel) (v : View) (a : Addresses) (id mid : MsgId) (code machine image : ℕ) (l : PlainLink) (ls : List PlainLink) → LinksHome P a mid (l ∷ ls) → v.acting ≡ 0 → AtHome P s a
+    → TookAt P s v a id mid code (manage.asks_for s.manager machine image l ls)
+asks_for_home P s v a id mid code machine image l ls en at h =
+    let u = at_home_out P s a id h in
+    let n = s.manager.sent in
+    let sent = id_of manager n in
+    let ps = enclosed_from a mid 1 ls in
+    let to = unmoved machine in
+    let from = unmoved v.acting in
+    let pl = a (Enclosed mid 0) in
+    let c = given a (encloses sent 0 ps) in
+    let b = given c (gets (Receiver sent) to ∷ gets (Sender sent) from ∷ gets (Answer n) pl ∷ []) in
+    let k = manage.asks_for s.manager machine image l ls in
+    let m : PlainMessage = record { id = sent; to = pid_of machine 0; sender = manager; what = what.Create image ls } in
+    let t = record (without_message s id) { manager = k.manager } in
+    let servers = encloses_servers a sent 0 ps in
+    record {
+      processes = λ q x e. process_same P a b q x (let w = encloses_process a sent 0 ps q in record { slot = w.slot; owner = w.owner }) (h.processes q x e);
+      messages = sent_home P t a b m u.messages
+          (λ i e. let w = encloses_message a sent 0 ps i e in record {
+            receiver = ap (λ (d : Bool). if d then to else c (Receiver i)) e ∙ w.receiver;
+            sender = ap (λ (d : Bool). if d then from else c (Sender i)) e ∙ w.sender;
+            enclosed = w.enclosed;
+          })
+          (record {
+            receiver = place_as P (ap (λ (d : Bool). if d then to else c (Receiver sent)) (id_eq-same sent)) (h.rooted (pid_of machine 0));
+            sender = place_as P (ap (λ (d : Bool). if d then from else c (Sender sent)) (id_eq-same sent)) (acts_at P manager v.acting (h.rooted manager) at);
+            enclosed = λ j w e. place_as P (encloses_at a sent 0 ps j j (a (Enclosed mid (1 + j))) (enclosed_at a mid 1 ls j w e) (omega arith) ∙ (let f : 1 + j ≡ suc j = omega arith in ap (λ (i : ℕ). a (Enclosed mid i)) f)) (en (suc j) w e);
+          });
+      children = λ j q e. place_as P (servers.child j) (h.children j q e);
+      named = λ j w e. place_as P (servers.name j) (h.named j w e);
+      answers = λ j r e. elim (pending_last s.manager.pending n j l r (λ q f. let g = (numbered_from s.manager.pending 0 n j q h.pending f).1 in let z : (n == j) ≡ false = grind (arith, nat_tests) in z) e) [
+        | inl g ↦ place_as P (ap (λ (d : Bool). if d then pl else c (Answer j)) g.0) (pid_as P (ap (λ (w : PlainLink). w.to) g.1) (en 0 l refl))
+        | inr g ↦ place_as P (ap (λ (d : Bool). if d then pl else c (Answer j)) g.0 ∙ servers.answer j) (h.answers j r g.1)
+      ];
+      rooted = h.rooted;
+      pending = ascends_last s.manager.pending 0 n l h.pending;
+    }
+
+wants_home : (P : Pid → Place → Type 0) (s : OneKernel) (v : View) (a : Addresses) (id mid : MsgId) (code machine image : ℕ) (links : List PlainLink) → LinksHome P a mid links → v.acting ≡ 0 → AtHome P s a
+    → TookAt P s v a id mid code (manage.wants_child s.manager s.machines (length s.images) machine image links)
+wants_home P s v a id mid code machine image [] en at h = bad_home P s v a id mid code [] en at h
+wants_home P s v a id mid code machine image (l ∷ ls) en at h =
+    took_if P s v a id mid code (nat_lt machine s.machines && nat_lt image (length s.images)) (manage.asks_for s.manager machine image l ls) (manage.bad_request s.manager (l ∷ ls))
+    (asks_for_home P s v a id mid code machine image l ls en at h) (bad_home P s v a id mid code (l ∷ ls) en at h)
+
+requests_home : (P : Pid → Place → Type 0) (s : OneKernel) (v : View) (a : Addresses) (id mid : MsgId) (code : ℕ) (body : List ℕ) (links : List PlainLink) → LinksHome P a mid links → v.acting ≡ 0 → AtHome P s a
+    → TookAt P s v a id mid code (manage.requests s.manager s.machines (length s.images) body links)
+requests_home P s v a id mid code [] links en at h = bad_home P s v a id mid code links en at h
+requests_home P s v a id mid code (b ∷ []) links en at h = bad_home P s v a id mid code links en at h
+requests_home P s v a id mid code (b ∷ c ∷ []) links en at h = bad_home P s v a id mid code links en at h
+requests_home P s v a id mid code (b ∷ c ∷ d ∷ []) links en at h = bad_home P s v a id mid code links en at h
+requests_home P s v a id mid code (b ∷ c ∷ d ∷ e ∷ []) links en at h =
+    took_if P s v a id mid code (b == 1) (manage.wants_child s.manager s.machines (length s.images) c (256 * d + e) links) (manage.bad_request s.manager links)
+    (wants_home P s v a id mid code c (256 * d + e) links en at h) (bad_home P s v a id mid code links en at h)
+requests_home P s v a id mid code (b ∷ c ∷ d ∷ e ∷ f ∷ fs) links en at h = bad_home P s v a id mid code links en at h
+
+-- a message to a child
+tells_home : (P : Pid → Place → Type 0) (s : OneKernel) (v : View) (a : Addresses) (id : MsgId) (code : ℕ) (child : Pid) (w : PlainWhat) → links_in w ≡ [] → P child (a (Child code)) → v.acting ≡ 0 → AtHome P s a
+    → AtHome P (service.manager_took s id (manage.tells s.manager child w)) (given a (two (id_of manager s.manager.sent) (a (Child code)) (unmoved v.acting)))
+tells_home P s v a id code child w none to at h =
+    two_sends P (record (without_message s id) { manager = record s.manager { sent = s.manager.sent + 1 } }) a (record { id = id_of manager s.manager.sent; to = child; sender = manager; what = w }) (a (Child code)) (unmoved v.acting)
+    (counted P s a id h) none to (acts_at P manager v.acting (h.rooted manager) at)
+
+control_by : (P : Pid → Place → Type 0) (s : OneKernel) (v : View) (a : Addresses) (id mid : MsgId) (code : ℕ) (child : Pid) (b c d : Bool) (links : List PlainLink) → P child (a (Child code)) → LinksHome P a mid links → v.acting ≡ 0 → AtHome P s a
+    → TookAt P s v a id mid code (manage.controls_child s.manager child (if b then Some what.Stop else if c then Some what.Resume else if d then Some what.Kill else None) links)
+control_by P s v a id mid code child true c d links to en at h = tells_home P s v a id code child what.Stop refl to at h
+control_by P s v a id mid code child false true d links to en at h = tells_home P s v a id code child what.Resume refl to at h
+control_by P s v a id mid code child false false true links to en at h = tells_home P s v a id code child what.Kill refl to at h
+control_by P s v a id mid code child false false false links to en at h = bad_home P s v a id mid code links en at h
+
+controls_home : (P : Pid → Place → Type 0) (s : OneKernel) (v : View) (a : Addresses) (id mid : MsgId) (code : ℕ) (o : Option Pid) (body : List ℕ) (links : List PlainLink) → manage.child_numbered s.manager.children code ≡ o → LinksHome P a mid links → v.acting ≡ 0 → AtHome P s a
+    → TookAt P s v a id mid code (manage.controls s.manager o body links)
+controls_home P s v a id mid code (Some child) (op ∷ []) links is en at h = control_by P s v a id mid code child (op == 2) (op == 3) (op == 4) links (h.children code child is) en at h
+controls_home P s v a id mid code (Some child) [] links is en at h = bad_home P s v a id mid code links en at h
+controls_home P s v a id mid code (Some child) (b ∷ c ∷ cs) links is en at h = bad_home P s v a id mid code links en at h
+controls_home P s v a id mid code None [] links is en at h = bad_home P s v a id mid code links en at h
+controls_home P s v a id mid code None (b ∷ []) links is en at h = bad_home P s v a id mid code links en at h
+controls_home P s v a id mid code None (b ∷ c ∷ cs) links is en at h = bad_home P s v a id mid code links en at h
+
+user_home : (P : Pid → Place → Type 0) (s : OneKernel) (v : View) (a : Addresses) (id mid : MsgId) (code : ℕ) (body : List ℕ) (links : List PlainLink) → LinksHome P a mid links → v.acting ≡ 0 → AtHome P s a
+    → TookAt P s v a id mid code (manage.takes_user s.manager s.machines (length s.images) code body links)
+user_home P s v a id mid code body links en at h =
+    took_if P s v a id mid code (code == 0) (manage.requests s.manager s.machines (length s.images) body links) (manage.controls s.manager (manage.child_numbered s.manager.children code) body links)
+    (requests_home P s v a id mid code body links en at h) (controls_home P s v a id mid code (manage.child_numbered s.manager.children code) body links refl en at h)
+
+-- an answer about a child
+enclosed_one : (P : Pid → Place → Type 0) (a : Addresses) (sent : MsgId) (pl : Place) (ls : List PlainLink) → ((k : ℕ) (w : PlainLink) → slice_get ls k ≡ Some w → (k ≡ 0) × (P w.to pl)) → (k : ℕ) (w : PlainLink) → slice_get ls k ≡ Some w
+    → P w.to (given a (gets (Enclosed sent 0) pl ∷ []) (Enclosed sent k))
+enclosed_one P a sent pl ls h k w e =
+    let f = h k w e in
+    let zero_is = f.0 in
+    let same : (id_eq sent sent && (0 == k)) ≡ true = let g = id_eq-same sent in grind (arith, nat_tests) in
+    place_as P (ap (λ (c : Bool). if c then pl else a (Enclosed sent k)) same) f.1
+
+-- the manager goes on as g, and answers over the link of a request
+answers_home : (P : Pid → Place → Type 0) (s : OneKernel) (v : View) (a c : Addresses) (id : MsgId) (n : ℕ) (r : Pending) (g : Manager) (byte : ℕ) (ls : List PlainLink) → manage.pending_numbered n s.manager.pending ≡ Some r → v.acting ≡ 0 → AtHome P s a
+    → ((k : ℕ) (w : PlainLink) → slice_get ls k ≡ Some w → (k ≡ 0) × (P w.to (unmoved v.acting))) → g.sent ≡ s.manager.sent → g.pending ≡ manage.without_pending n s.manager.pending
+    → ((q : Pid) → SameProcess a c q) → ((i : MsgId) → SameMessage a c i) → ((k : ℕ) → c (Name k) ≡ a (Name k)) → ((k : ℕ) → c (Answer k) ≡ a (Answer k)) → ((k : ℕ) (q : Pid) → manage.child_numbered g.children k ≡ Some q → P q (c (Child k)))
+    → AtHome P (service.manager_took s id (manage.answers g r.answer byte ls)) (given c (gets (Receiver (id_of manager g.sent)) (a (Answer n)) ∷ gets (Sender (id_of manager g.sent)) (unmoved v.acting) ∷ gets (Enclosed (id_of manager g.sent) 0) (unmoved v.acting) ∷ []))
+answers_home P s v a c id n r g byte ls there at h one count pending process message name answer child =
+    let sent = id_of manager g.sent in
+    let from = unmoved v.acting in
+    let to = a (Answer n) in
+    let b = given c (gets (Receiver sent) to ∷ gets (Sender sent) from ∷ gets (Enclosed sent 0) from ∷ []) in
+    let m = board.goes_over manager g.sent r.answer (byte ∷ []) ls in
+    let u = at_home_out P s a id h in
+    let t = record (without_message s id) { manager = record g { sent = g.sent + 1 } } in
+    record {
+      processes = λ q x e. process_same P a b q x (let w = process q in record { slot = w.slot; owner = w.owner }) (h.processes q x e);
+      messages = sent_home P t a b m u.messages
+          (λ i e. let w = message i in record {
+            receiver = ap (λ (d : Bool). if d then to else c (Receiver i)) e ∙ w.receiver;
+            sender = ap (λ (d : Bool). if d then from else c (Sender i)) e ∙ w.sender;
+            enclosed = λ k. ap (λ (d : Bool). if d && (0 == k) then from else c (Enclosed i k)) e ∙ w.enclosed k;
+          })
+          (record {
+            receiver = place_as P (ap (λ (d : Bool). if d then to else c (Receiver sent)) (id_eq-same sent)) (h.answers n r there);
+            sender = place_as P (ap (λ (d : Bool). if d then from else c (Sender sent)) (id_eq-same sent)) (acts_at P manager v.acting (h.rooted manager) at);
+            enclosed = enclosed_one P c sent from ls one;
+          });
+      children = child;
+      named = λ k w e. place_as P (name k) (h.named k w e);
+      answers = λ k w e. place_as P (answer k) (h.answers k w (still_pending s.manager.pending 0 s.manager.sent n k w h.pending (ap (manage.pending_numbered k) (sym pending) ∙ e)));
+      rooted = h.rooted;
+      pending = ap (λ (ps : List Pending). ascends 0 ps (g.sent + 1)) pending ∙ ap (λ (i : ℕ). ascends 0 (manage.without_pending n s.manager.pending) (i + 1)) count
+          ∙ ascends_more (manage.without_pending n s.manager.pending) 0 s.manager.sent (ascends_without s.manager.pending 0 s.manager.sent n h.pending);
+    }
+
+child_last : (P : Pid → Place → Type 0) (ps : List Pid) (child : Pid) (n : ℕ) (q : Pid) (a : Addresses) → P child (unmoved child.home) → ((k : ℕ) (w : Pid) → manage.child_numbered ps k ≡ Some w → P w (a (Child k))) → manage.child_numbered (ps ++ child ∷ []) n ≡ Some q
+    → P q (given a (gets (Child (length ps + 1)) (unmoved child.home) ∷ []) (Child n))
+child_last P ps child zero q a own h e = cc
+child_last P ps child (suc n) q a own h e = elim (get_last ps child n q e) [
+  | inl g ↦
+      let f = g.0 in
+      let same : ((length ps + 1) == suc n) ≡ true = grind (arith, nat_tests) in
+      place_as P (ap (λ (c : Bool). if c then unmoved child.home else a (Child (suc n))) same) (pid_as P g.1 own)
+  | inr g ↦
+      let f = g.0 in
+      let apart : ((length ps + 1) == suc n) ≡ false = grind (arith, nat_tests) in
+      place_as P (ap (λ (c : Bool). if c then unmoved child.home else a (Child (suc n))) apart) (h (suc n) q g.1)
+]
+
+one_link : (P : Pid → Place → Type 0) (place : Place) (l : PlainLink) → P l.to place → (k : ℕ) (w : PlainLink) → slice_get (l ∷ []) k ≡ Some w → (k ≡ 0) × (P w.to place)
+one_link P place l at zero w e = let f : l ≡ w = cc in (refl, pid_as P (ap (λ (u : PlainLink). u.to) f) at)
+one_link P place l at (suc k) w e = absurd (let f : None ≡ Some w = e in cc)
+
+created_by : (P : Pid → Place → Type 0) (s : OneKernel) (v : View) (a : Addresses) (id : MsgId) (m : PlainMessage) (child : Pid) (o : Option Pending) (k : manage.Took) → manage.pending_numbered m.id.n s.manager.pending ≡ o → manage.takes_created s.manager m.id.n child o ≡ Some k
+    → v.acting ≡ 0 → AtHome P s a → AtHome P (service.manager_took s id k) (given a (gets (Child (length s.manager.children + 1)) (unmoved child.home) ∷ manager_answers v a m.id.n k.message))
+created_by P s v a id m child None k is e at h = cc
+created_by P s v a id m child (Some r) k is e at h =
+    let g = record s.manager { children = s.manager.children ++ child ∷ []; pending = manage.without_pending m.id.n s.manager.pending } in
+    let l = manage.control_link (length s.manager.children + 1) in
+    let f : manage.answers g r.answer 0 (l ∷ []) ≡ k = cc in
+    let c = given a (gets (Child (length s.manager.children + 1)) (unmoved child.home) ∷ []) in
+    let w = answers_home P s v a c id m.id.n r g 0 (l ∷ []) is at h (one_link P (unmoved v.acting) l (acts_at P l.to v.acting (h.rooted l.to) at)) refl refl (λ q. record { slot = λ i. refl; owner = refl }) (λ i. record { receiver = refl; sender = refl; enclosed = λ j. refl }) (λ i. refl) (λ i. refl)
+    (λ n q there. child_last P s.manager.children child n q a (h.rooted child) h.children there) in
+    let u : AtHome P (service.manager_took s id (manage.answers g r.answer 0 (l ∷ []))) (given a (gets (Child (length s.manager.children + 1)) (unmoved child.home) ∷ manager_answers v a m.id.n (manage.answers g r.answer 0 (l ∷ [])).message)) =
+    record {
+      processes = λ q x there. let z = w.processes q x there in record { slots = z.slots; owner = z.owner };
+      messages = λ i x there. let z = w.messages i x there in record { receiver = z.receiver; sender = z.sender; enclosed = z.enclosed };
+      children = w.children;
+      named = w.named;
+      answers = w.answers;
+      rooted = w.rooted;
+      pending = w.pending;
+    } in
+    subst (λ (t : manage.Took). AtHome P (service.manager_took s id t) (given a (gets (Child (length s.manager.children + 1)) (unmoved child.home) ∷ manager_answers v a m.id.n t.message))) f u
+
+no_room_by : (P : Pid → Place → Type 0) (s : OneKernel) (v : View) (a : Addresses) (id : MsgId) (n : ℕ) (o : Option Pending) (k : manage.Took) → manage.pending_numbered n s.manager.pending ≡ o → manage.takes_no_room s.manager n o ≡ Some k
+    → v.acting ≡ 0 → AtHome P s a → AtHome P (service.manager_took s id k) (given a (manager_answers v a n k.message))
+no_room_by P s v a id n None k is e at h = cc
+no_room_by P s v a id n (Some r) k is e at h =
+    let g = record s.manager { pending = manage.without_pending n s.manager.pending } in
+    let f : manage.answers g r.answer 1 [] ≡ k = cc in
+    let w = answers_home P s v a a id n r g 1 [] is at h (λ i x there. absurd (let z : None ≡ Some x = there in cc)) refl refl (λ q. record { slot = λ i. refl; owner = refl }) (λ i. record { receiver = refl; sender = refl; enclosed = λ j. refl }) (λ i. refl) (λ i. refl) h.children in
+    subst (λ (t : manage.Took). AtHome P (service.manager_took s id t) (given a (manager_answers v a n t.message))) f w
+
+manager_row : (P : Pid → Place → Type 0) (s t : OneKernel) (v : View) (a : Addresses) (id : MsgId) (m : PlainMessage) (w : PlainWhat) → m.what ≡ w → m.id ≡ id → s.bag id ≡ Some m → v.acting ≡ 0 → AtHome P s a
+    → bind (manage.takes s.manager s.machines (length s.images) m w) (λ (k : manage.Took). Some (service.manager_took s id k)) ≡ Some t
+    → AtHome P t (given a (manager_takes s v a m w (manage.takes s.manager s.machines (length s.images) m w)))
+manager_row P s t v a id m (what.User code channel body links) is name there at h e =
+    let k = manage.takes_user s.manager s.machines (length s.images) code body links in
+    let f : service.manager_took s id k ≡ t = cc in
+    let hm = h.messages id m there in
+    subst (λ (u : OneKernel). AtHome P u (given a (manager_sends v a m.id code k.message))) f
+    (user_home P s v a id m.id code body links (λ n w g. place_as P (ap (λ (i : MsgId). a (Enclosed i n)) name) (hm.enclosed n w (ap (λ (x : PlainWhat). slice_get (links_in x) n) is ∙ g))) at h)
+manager_row P s t v a id m (what.Created child) is name there at h e =
+    let o = manage.takes_created s.manager m.id.n child (manage.pending_numbered m.id.n s.manager.pending) in
+    let (k, took, last) = bind-is o (λ (x : manage.Took). Some (service.manager_took s id x)) t e in
+    let f : service.manager_took s id k ≡ t = cc in
+    subst (λ (u : OneKernel). AtHome P u (given a (manager_takes s v a m (what.Created child) o))) f
+    (subst (λ (p : Option manage.Took). AtHome P (service.manager_took s id k) (given a (manager_takes s v a m (what.Created child) p))) (sym took) (created_by P s v a id m child (manage.pending_numbered m.id.n s.manager.pending) k refl took at h))
+manager_row P s t v a id m what.NoRoom is name there at h e =
+    let o = manage.takes_no_room s.manager m.id.n (manage.pending_numbered m.id.n s.manager.pending) in
+    let (k, took, last) = bind-is o (λ (x : manage.Took). Some (service.manager_took s id x)) t e in
+    let f : service.manager_took s id k ≡ t = cc in
+    subst (λ (u : OneKernel). AtHome P u (given a (manager_takes s v a m what.NoRoom o))) f
+    (subst (λ (p : Option manage.Took). AtHome P (service.manager_took s id k) (given a (manager_takes s v a m what.NoRoom p))) (sym took) (no_room_by P s v a id m.id.n (manage.pending_numbered m.id.n s.manager.pending) k refl took at h))
+manager_row P s t v a id m what.Stop is name there at h e = cc
+manager_row P s t v a id m what.Resume is name there at h e = cc
+manager_row P s t v a id m what.Kill is name there at h e = cc
+manager_row P s t v a id m (what.Read f g) is name there at h e = cc
+manager_row P s t v a id m (what.Write f g) is name there at h e = cc
+manager_row P s t v a id m (what.Block f) is name there at h e = cc
+manager_row P s t v a id m what.Written is name there at h e = cc
+manager_row P s t v a id m what.Gone is name there at h e = cc
+manager_row P s t v a id m (what.Create f g) is name there at h e = cc
+manager_row P s t v a id m (what.Move f) is name there at h e = cc
+manager_row P s t v a id m (what.Moved f) is name there at h e = cc
+
+takes_by : (P : Pid → Place → Type 0) (s t : OneKernel) (v : View) (a : Addresses) (id : MsgId) (m : PlainMessage) (b c : Bool) → pid_eq m.to switchboard ≡ b → pid_eq m.to manager ≡ c → m.id ≡ id → s.bag id ≡ Some m → m.to.home ≡ v.acting → AtHome P s a
+    → (if b then bind (board.takes s.switchboard m m.what) (λ (k : board.Took). Some (service.switchboard_took s id k))
+    else if c then bind (manage.takes s.manager s.machines (length s.images) m m.what) (λ (k : manage.Took). Some (service.manager_took s id k))
+    else None) ≡ Some t
+    → AtHome P t (given a (if b then board_takes s v a id m.what else manager_takes s v a m m.what (manage.takes s.manager s.machines (length s.images) m m.what)))
+takes_by P s t v a id m true c is as_ name there at h e = board_row P s t v a id m m.what refl there (let f : v.acting ≡ 0 = grind (arith, nat_tests) in f) h e
+takes_by P s t v a id m false true is as_ name there at h e = manager_row P s t v a id m m.what refl name there (let f : v.acting ≡ 0 = grind (arith, nat_tests) in f) h e
+takes_by P s t v a id m false false is as_ name there at h e = cc
+
+pub took_home : (P : Pid → Place → Type 0) (s t : OneKernel) (v : View) (a : Addresses) (id : MsgId) → kernel.step s (label.Took id) ≡ Some t → Named s → ReceivedAt s v.acting id → AtHome P s a → AtHome P t (given a (gives s v a (label.Took id)))
+took_home P s t v a id is named at h =
+    let (m, there, rest) = bind-is (s.bag id) (service.takes s id) t is in
+    subst (λ (gs : List Gets). AtHome P t (given a gs)) (ap (addresses.takes s v a id) (sym there))
+    (takes_by P s t v a id m (pid_eq m.to switchboard) (pid_eq m.to manager) refl refl (named id m there) there (at m there) h rest)

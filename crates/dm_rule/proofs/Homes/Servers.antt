@@ -1,0 +1,311 @@
+-- What servers do keeps addresses where they may be.
+use Rattle.std.proofs.Common.{◌≡◌, ℕ, zero, suc, ◌+◌, ◌==◌, ◌&&◌, Bool, true, false, List, [], ◌∷◌, ◌++◌, refl, ap, ◌∙◌, sym, subst, ◌⊎◌, inl, inr, arith, nat_lt, nat_le, length}
+use Rattle.std.specs.Prelude.{if◌then◌else◌, slice_get}
+use Rattle.std.specs.declared.option.Option.{Option}
+use Rattle.std.specs.declared.option.Option.TheVariants.{None, Some}
+use Rattle.std.proofs.lemmas.Bool.{cases_Bool}
+use Rattle.std.proofs.lemmas.Bool.Decides.{nat_tests}
+use Rattle.dm_link.specs.declared.Pid.{Pid}
+use Rattle.dm_link.specs.Names.{Place}
+use Rattle.dm_link.specs.Plain.{PlainLink}
+use Rattle.dm_message.specs.declared.MsgId.{MsgId}
+use Rattle.dm_message.specs.Ids.{id_eq, id_of}
+use Rattle.dm_message.specs.Plain as what
+use Rattle.dm_message.specs.Plain.{PlainMessage, PlainWhat}
+use Rattle.dm_onekernel.specs.Options.{bind}
+use Rattle.dm_onekernel.specs.Kernel.{OneKernel}
+use Rattle.dm_onekernel.specs.Service.{without_message}
+use Rattle.dm_laws.proofs.Equal.{id_eq-same}
+use Rattle.dm_rule.specs.View.{View}
+use Rattle.dm_rule.specs.Addresses.{Addresses, gets, given, Receiver, Sender, Enclosed, unmoved}
+use Rattle.dm_onekernel.specs.Service as service
+use Rattle.dm_onekernel.specs.Kernel.{NamedLink, Pending}
+use Rattle.dm_onekernel.specs.Boot.{switchboard, is_general}
+use Rattle.dm_onekernel.specs.Switchboard as board
+use Rattle.dm_onekernel.specs.Manager as manage
+use Rattle.dm_rule.specs.Addresses.{Child, Name, Answer, place_named, board_finds, board_keeps, board_takes}
+use Rattle.dm_rule.specs.Homes.{links_in, ascends}
+use Rattle.dm_rule.proofs.Homes.{place_as, pid_as, acts_at, AtHome}
+use Rattle.dm_rule.proofs.Homes.Rows.{SameProcess, SameMessage, sent_home, at_home_out, process_same}
+use Rattle.dm_rule.proofs.Homes.Serves.{two, two_off}
+
+-- a list with one more at its end
+pub get_last : {A : Type 0} (xs : List A) (y : A) (n : ℕ) (q : A) → slice_get (xs ++ y ∷ []) n ≡ Some q → (((length xs == n) ≡ true) × (y ≡ q)) ⊎ (((length xs == n) ≡ false) × (slice_get xs n ≡ Some q))
+get_last [] y zero q e = inl (refl, let f : Some y ≡ Some q = e in cc)
+get_last [] y (suc n) q e = absurd (let f : None ≡ Some q = e in cc)
+get_last (x ∷ xs) y zero q e = inr (let f : (length (x ∷ xs) == 0) ≡ false = grind (arith, nat_tests) in f, e)
+get_last (x ∷ xs) y (suc n) q e = elim (get_last xs y n q e) [
+  | inl h ↦ inl (let g = h.0 in let f : (length (x ∷ xs) == suc n) ≡ true = grind (arith, nat_tests) in f, h.1)
+  | inr h ↦ inr (let g = h.0 in let f : (length (x ∷ xs) == suc n) ≡ false = grind (arith, nat_tests) in f, h.1)
+]
+
+-- requests in order
+pub and-both : (b c : Bool) → (b && c) ≡ true → (b ≡ true) × (c ≡ true)
+and-both true c e = (refl, e)
+and-both false c e = cc
+
+ascends_le : (ps : List Pending) (from to : ℕ) → ascends from ps to ≡ true → nat_le from to ≡ true
+ascends_le [] from to e = e
+ascends_le (p ∷ ps) from to e =
+    let k = and-both (nat_le from p.n) (ascends (p.n + 1) ps to) e in
+    let first = k.0 in
+    let rest = ascends_le ps (p.n + 1) to k.1 in
+    grind (arith, nat_tests)
+
+pub ascends_more : (ps : List Pending) (from to : ℕ) → ascends from ps to ≡ true → ascends from ps (to + 1) ≡ true
+ascends_more [] from to e = grind (arith, nat_tests)
+ascends_more (p ∷ ps) from to e =
+    let k = and-both (nat_le from p.n) (ascends (p.n + 1) ps to) e in
+    ap (λ (b : Bool). b && ascends (p.n + 1) ps (to + 1)) k.0 ∙ ascends_more ps (p.n + 1) to k.1
+
+ascends_less : (ps : List Pending) (from less to : ℕ) → nat_le less from ≡ true → ascends from ps to ≡ true → ascends less ps to ≡ true
+ascends_less [] from less to le e = grind (arith, nat_tests)
+ascends_less (p ∷ ps) from less to le e =
+    let k = and-both (nat_le from p.n) (ascends (p.n + 1) ps to) e in
+    let first = k.0 in
+    let f : nat_le less p.n ≡ true = grind (arith, nat_tests) in
+    ap (λ (b : Bool). b && ascends (p.n + 1) ps to) f ∙ k.1
+
+pub ascends_last : (ps : List Pending) (from to : ℕ) (l : PlainLink) → ascends from ps to ≡ true → ascends from (ps ++ record { n = to; answer = l } ∷ []) (to + 1) ≡ true
+ascends_last [] from to l e = grind (arith, nat_tests)
+ascends_last (p ∷ ps) from to l e =
+    let k = and-both (nat_le from p.n) (ascends (p.n + 1) ps to) e in
+    ap (λ (b : Bool). b && ascends (p.n + 1) (ps ++ record { n = to; answer = l } ∷ []) (to + 1)) k.0 ∙ ascends_last ps (p.n + 1) to l k.1
+
+pub ascends_without : (ps : List Pending) (from to n : ℕ) → ascends from ps to ≡ true → ascends from (manage.without_pending n ps) to ≡ true
+ascends_without [] from to n e = e
+ascends_without (p ∷ ps) from to n e =
+    let k = and-both (nat_le from p.n) (ascends (p.n + 1) ps to) e in
+    let first = k.0 in
+    elim (cases_Bool (p.n == n)) [
+      | inl same ↦
+          ap (λ (b : Bool). ascends from (if b then ps else p ∷ manage.without_pending n ps) to) same ∙ ascends_less ps (p.n + 1) from to (let f : nat_le from (p.n + 1) ≡ true = grind (arith, nat_tests) in f) k.1
+      | inr apart ↦
+          ap (λ (b : Bool). ascends from (if b then ps else p ∷ manage.without_pending n ps) to) apart
+          ∙ ap (λ (b : Bool). b && ascends (p.n + 1) (manage.without_pending n ps) to) k.0 ∙ ascends_without ps (p.n + 1) to n k.1
+    ]
+
+pub numbered_from : (ps : List Pending) (from to n : ℕ) (r : Pending) → ascends from ps to ≡ true → manage.pending_numbered n ps ≡ Some r → (nat_le from n ≡ true) × (nat_lt n to ≡ true)
+numbered_from [] from to n r e f = cc
+numbered_from (p ∷ ps) from to n r e f =
+    let k = and-both (nat_le from p.n) (ascends (p.n + 1) ps to) e in
+    let first = k.0 in
+    elim (cases_Bool (p.n == n)) [
+      | inl same ↦
+          let le = ascends_le ps (p.n + 1) to k.1 in
+          (let g : nat_le from n ≡ true = grind (arith, nat_tests) in g, let g : nat_lt n to ≡ true = grind (arith, nat_tests) in g)
+      | inr apart ↦
+          let h = numbered_from ps (p.n + 1) to n r k.1 (sym (ap (λ (b : Bool). if b then Some p else manage.pending_numbered n ps) apart) ∙ f) in
+          let low = h.0 in
+          (let g : nat_le from n ≡ true = grind (arith, nat_tests) in g, h.1)
+    ]
+
+pub pending_last : (ps : List Pending) (to n : ℕ) (l : PlainLink) (r : Pending) → ((q : Pending) → manage.pending_numbered n ps ≡ Some q → (to == n) ≡ false) → manage.pending_numbered n (ps ++ record { n = to; answer = l } ∷ []) ≡ Some r
+    → (((to == n) ≡ true) × (l ≡ r.answer)) ⊎ (((to == n) ≡ false) × (manage.pending_numbered n ps ≡ Some r))
+pending_last [] to n l r h e = elim (cases_Bool (to == n)) [
+  | inl same ↦
+      let z : Pending = record { n = to; answer = l } in
+      let f : Some z ≡ Some r = sym (ap (λ (b : Bool). if b then Some z else None) same) ∙ e in
+      let g : z ≡ r = cc in
+      inl (same, ap (λ (v : Pending). v.answer) g)
+  | inr apart ↦
+      let z : Pending = record { n = to; answer = l } in
+      absurd (let f : None ≡ Some r = sym (ap (λ (b : Bool). if b then Some z else None) apart) ∙ e in cc)
+]
+pending_last (p ∷ ps) to n l r h e =
+    let z : Pending = record { n = to; answer = l } in
+    elim (cases_Bool (p.n == n)) [
+      | inl same ↦
+          let one : manage.pending_numbered n (p ∷ ps) ≡ Some p = ap (λ (b : Bool). if b then Some p else manage.pending_numbered n ps) same in
+          let f : Some p ≡ Some r = sym (ap (λ (b : Bool). if b then Some p else manage.pending_numbered n (ps ++ z ∷ [])) same) ∙ e in
+          inr (h p one, one ∙ f)
+      | inr apart ↦
+          let off : manage.pending_numbered n (p ∷ ps) ≡ manage.pending_numbered n ps = ap (λ (b : Bool). if b then Some p else manage.pending_numbered n ps) apart in
+          elim (pending_last ps to n l r (λ q f. h q (off ∙ f)) (sym (ap (λ (b : Bool). if b then Some p else manage.pending_numbered n (ps ++ z ∷ [])) apart) ∙ e)) [
+            | inl g ↦ inl g
+            | inr g ↦ inr (g.0, off ∙ g.1)
+          ]
+    ]
+
+pub still_pending : (ps : List Pending) (from to n k : ℕ) (r : Pending) → ascends from ps to ≡ true → manage.pending_numbered k (manage.without_pending n ps) ≡ Some r → manage.pending_numbered k ps ≡ Some r
+still_pending [] from to n k r e f = f
+still_pending (p ∷ ps) from to n k r e f =
+    let w = and-both (nat_le from p.n) (ascends (p.n + 1) ps to) e in
+    elim (cases_Bool (p.n == n)) [
+      | inl same ↦
+          let g : manage.pending_numbered k ps ≡ Some r = sym (ap (λ (b : Bool). manage.pending_numbered k (if b then ps else p ∷ manage.without_pending n ps)) same) ∙ f in
+          let above = (numbered_from ps (p.n + 1) to k r w.1 g).0 in
+          let off : (p.n == k) ≡ false = grind (arith, nat_tests) in
+          ap (λ (b : Bool). if b then Some p else manage.pending_numbered k ps) off ∙ g
+      | inr apart ↦
+          let g : manage.pending_numbered k (p ∷ manage.without_pending n ps) ≡ Some r = sym (ap (λ (b : Bool). manage.pending_numbered k (if b then ps else p ∷ manage.without_pending n ps)) apart) ∙ f in
+          elim (cases_Bool (p.n == k)) [
+            | inl is ↦ ap (λ (b : Bool). if b then Some p else manage.pending_numbered k ps) is ∙ sym (ap (λ (b : Bool). if b then Some p else manage.pending_numbered k (manage.without_pending n ps)) is) ∙ g
+            | inr off ↦
+                ap (λ (b : Bool). if b then Some p else manage.pending_numbered k ps) off
+                ∙ still_pending ps (p.n + 1) to n k r w.1 (sym (ap (λ (b : Bool). if b then Some p else manage.pending_numbered k (manage.without_pending n ps)) off) ∙ g)
+          ]
+    ]
+
+-- the switchboard
+pub record AskedHome (P : Pid → Place → Type 0) (a b : Addresses) (sent : MsgId) (k : board.Asked) : Type 0 where
+  pub named : (n : ℕ) (w : NamedLink) → slice_get k.names n ≡ Some w → P w.link.to (b (Name n))
+  pub enclosed : (n : ℕ) (l : PlainLink) → slice_get (board.links_of_answer k.answer) n ≡ Some l → P l.to (b (Enclosed sent n))
+  pub process : (q : Pid) → SameProcess a b q
+  pub message : (i : MsgId) → id_eq sent i ≡ false → SameMessage a b i
+  pub child : (n : ℕ) → b (Child n) ≡ a (Child n)
+  pub answer : (n : ℕ) → b (Answer n) ≡ a (Answer n)
+
+abbrev NamesHome : (Pid → Place → Type 0) → Addresses → List NamedLink → Type 0
+NamesHome P a names = (n : ℕ) (w : NamedLink) → slice_get names n ≡ Some w → P w.link.to (a (Name n))
+
+abbrev AsksHome : (Pid → Place → Type 0) → Addresses → MsgId → MsgId → List NamedLink → List ℕ → board.Asked → Type 0
+AsksHome P a id sent names body k = AskedHome P a (given a (board_finds a sent names body k.answer ++ board_keeps a id names k.answer)) sent k
+
+plain_asked : (P : Pid → Place → Type 0) (a : Addresses) (sent : MsgId) (names : List NamedLink) (k : board.Answer) → board.links_of_answer k ≡ [] → NamesHome P a names → AskedHome P a a sent (record { names = names; answer = k })
+plain_asked P a sent names k none h = record {
+  named = h;
+  enclosed = λ n l e. absurd (let f : None ≡ Some l = ap (λ (ls : List PlainLink). slice_get ls n) (sym none) ∙ e in cc);
+  process = λ q. record { slot = λ n. refl; owner = refl };
+  message = λ i e. record { receiver = refl; sender = refl; enclosed = λ n. refl };
+  child = λ n. refl;
+  answer = λ n. refl;
+}
+
+asks_if : (P : Pid → Place → Type 0) (a : Addresses) (id sent : MsgId) (names : List NamedLink) (body : List ℕ) (b : Bool) (k l : board.Asked) → AsksHome P a id sent names body k → AsksHome P a id sent names body l → AsksHome P a id sent names body (if b then k else l)
+asks_if P a id sent names body true k l h j = h
+asks_if P a id sent names body false k l h j = j
+
+pub record FoundAt (name : List ℕ) (names : List NamedLink) (n : ℕ) (l : PlainLink) : Type 0 where
+  pub i : ℕ
+  pub k : NamedLink
+  pub there : slice_get names i ≡ Some k
+  pub link : k.link ≡ l
+  pub place : place_named name names n ≡ n + i
+
+pub found_at : (name : List ℕ) (names : List NamedLink) (n : ℕ) (l : PlainLink) → board.link_named name names ≡ Some l → FoundAt name names n l
+found_at name [] n l e = cc
+found_at name (k ∷ ks) n l e = elim (cases_Bool (board.bytes_eq k.name name)) [
+  | inl same ↦
+      let f : Some k.link ≡ Some l = sym (ap (λ (b : Bool). if b then Some k.link else board.link_named name ks) same) ∙ e in
+      record { i = 0; k = k; there = refl; link = let g : k.link ≡ l = cc in g; place = ap (λ (b : Bool). if b then n else place_named name ks (n + 1)) same ∙ (let g : n ≡ n + 0 = omega arith in g) }
+  | inr apart ↦
+      let h = found_at name ks (n + 1) l (sym (ap (λ (b : Bool). if b then Some k.link else board.link_named name ks) apart) ∙ e) in
+      let hp = h.place in
+      let hi = h.i in
+      record { i = suc hi; k = h.k; there = h.there; link = h.link; place = ap (λ (b : Bool). if b then n else place_named name ks (n + 1)) apart ∙ hp ∙ (let g : (n + 1) + hi ≡ n + suc hi = omega arith in g) }
+]
+
+found_one : (P : Pid → Place → Type 0) (a : Addresses) (sent : MsgId) (pl : Place) (l : PlainLink) → P l.to pl → (n : ℕ) (w : PlainLink) → slice_get (l ∷ []) n ≡ Some w → P w.to (given a (gets (Enclosed sent 0) pl ∷ []) (Enclosed sent n))
+found_one P a sent pl l at zero w e =
+    let f : l ≡ w = cc in
+    let same : (id_eq sent sent && (0 == 0)) ≡ true = let g = id_eq-same sent in grind (arith, nat_tests) in
+    place_as P (ap (λ (c : Bool). if c then pl else a (Enclosed sent 0)) same) (pid_as P (ap (λ (k : PlainLink). k.to) f) at)
+found_one P a sent pl l at (suc n) w e = absurd (let f : None ≡ Some w = e in cc)
+
+looks_up_home : (P : Pid → Place → Type 0) (a : Addresses) (id sent : MsgId) (names : List NamedLink) (op : ℕ) (name : List ℕ) (o : Option PlainLink) → board.link_named name names ≡ o → NamesHome P a names
+    → AsksHome P a id sent names (op ∷ name) (record { names = names; answer = board.found_or_unknown o })
+looks_up_home P a id sent names op name None is h = plain_asked P a sent names board.Unknown refl h
+looks_up_home P a id sent names op name (Some l) is h =
+    let f = found_at name names 0 l is in
+    let place : place_named name names 0 ≡ f.i = let p = f.place in omega (arith, p) in
+    let at : P l.to (a (Name (place_named name names 0))) = place_as P (ap (λ (n : ℕ). a (Name n)) place) (pid_as P (ap (λ (w : PlainLink). w.to) f.link) (h f.i f.k f.there)) in
+    let pl = a (Name (place_named name names 0)) in
+    record {
+      named = h;
+      enclosed = λ n w e. found_one P a sent pl l at n w e;
+      process = λ q. record { slot = λ n. refl; owner = refl };
+      message = λ i e. record { receiver = refl; sender = refl; enclosed = λ n. ap (λ (c : Bool). if c && (0 == n) then pl else a (Enclosed i n)) e };
+      child = λ n. refl;
+      answer = λ n. refl;
+    }
+
+registers_home : (P : Pid → Place → Type 0) (a : Addresses) (id sent : MsgId) (names : List NamedLink) (op : ℕ) (name : List ℕ) (l : PlainLink) (o : Option PlainLink) → P l.to (a (Enclosed id 1)) → NamesHome P a names
+    → AsksHome P a id sent names (op ∷ name) (board.registers_new names name l o)
+registers_home P a id sent names op name l (Some k) at h = plain_asked P a sent names board.Taken refl h
+registers_home P a id sent names op name l None at h = record {
+  named = λ n w e. elim (get_last names (record { name = name; link = l }) n w e) [
+    | inl g ↦ place_as P (ap (λ (c : Bool). if c then a (Enclosed id 1) else a (Name n)) g.0) (pid_as P (ap (λ (k : NamedLink). k.link.to) g.1) at)
+    | inr g ↦ place_as P (ap (λ (c : Bool). if c then a (Enclosed id 1) else a (Name n)) g.0) (h n w g.1)
+  ];
+  enclosed = λ n w e. absurd (let f : None ≡ Some w = e in cc);
+  process = λ q. record { slot = λ n. refl; owner = refl };
+  message = λ i e. record { receiver = refl; sender = refl; enclosed = λ n. refl };
+  child = λ n. refl;
+  answer = λ n. refl;
+}
+
+to_register : (P : Pid → Place → Type 0) (a : Addresses) (id sent : MsgId) (names : List NamedLink) (op : ℕ) (name : List ℕ) (ls : List PlainLink) → ((n : ℕ) (w : PlainLink) → slice_get ls n ≡ Some w → P w.to (a (Enclosed id (suc n)))) → NamesHome P a names
+    → AsksHome P a id sent names (op ∷ name) (board.asks_to_register names name ls)
+to_register P a id sent names op name [] en h = plain_asked P a sent names board.BadRequest refl h
+to_register P a id sent names op name (l ∷ []) en h =
+    asks_if P a id sent names (op ∷ name) (board.is_name name) (board.registers names name l) (board.bad_request names)
+    (asks_if P a id sent names (op ∷ name) (is_general l.kind) (board.registers_new names name l (board.link_named name names)) (record { names = names; answer = board.BadLink })
+    (registers_home P a id sent names op name l (board.link_named name names) (en 0 l refl) h) (plain_asked P a sent names board.BadLink refl h))
+    (plain_asked P a sent names board.BadRequest refl h)
+to_register P a id sent names op name (l ∷ k ∷ ks) en h = plain_asked P a sent names board.BadRequest refl h
+
+to_look_up : (P : Pid → Place → Type 0) (a : Addresses) (id sent : MsgId) (names : List NamedLink) (op : ℕ) (name : List ℕ) (ls : List PlainLink) → NamesHome P a names → AsksHome P a id sent names (op ∷ name) (board.asks_to_look_up names name ls)
+to_look_up P a id sent names op name [] h =
+    asks_if P a id sent names (op ∷ name) (board.is_name name) (board.looks_up names name) (board.bad_request names) (looks_up_home P a id sent names op name (board.link_named name names) refl h) (plain_asked P a sent names board.BadRequest refl h)
+to_look_up P a id sent names op name (l ∷ ls) h = plain_asked P a sent names board.BadRequest refl h
+
+asks_home : (P : Pid → Place → Type 0) (a : Addresses) (id sent : MsgId) (names : List NamedLink) (body : List ℕ) (ls : List PlainLink) → ((n : ℕ) (w : PlainLink) → slice_get ls n ≡ Some w → P w.to (a (Enclosed id (suc n)))) → NamesHome P a names
+    → AsksHome P a id sent names body (board.asks names body ls)
+asks_home P a id sent names [] ls en h = plain_asked P a sent names board.BadRequest refl h
+asks_home P a id sent names (op ∷ name) ls en h =
+    asks_if P a id sent names (op ∷ name) (op == 1) (board.asks_to_register names name ls) (if op == 2 then board.asks_to_look_up names name ls else board.bad_request names)
+    (to_register P a id sent names op name ls en h)
+    (asks_if P a id sent names (op ∷ name) (op == 2) (board.asks_to_look_up names name ls) (board.bad_request names) (to_look_up P a id sent names op name ls h) (plain_asked P a sent names board.BadRequest refl h))
+
+board_request : (P : Pid → Place → Type 0) (s : OneKernel) (v : View) (a : Addresses) (id : MsgId) (code channel : ℕ) (body : List ℕ) (links : List PlainLink) → ((n : ℕ) (w : PlainLink) → slice_get links n ≡ Some w → P w.to (a (Enclosed id n))) → v.acting ≡ 0 → AtHome P s a
+    → AtHome P (service.switchboard_took s id (board.takes_request s.switchboard body links)) (given a (board_takes s v a id (what.User code channel body links)))
+board_request P s v a id code channel body [] en at h =
+    let u = at_home_out P s a id h in
+    record { processes = u.processes; messages = u.messages; children = u.children; named = u.named; answers = u.answers; rooted = u.rooted; pending = u.pending }
+board_request P s v a id code channel body (l ∷ ls) en at h =
+    let u = at_home_out P s a id h in
+    let sent = id_of switchboard s.switchboard.sent in
+    let asked = board.asks s.switchboard.names body ls in
+    let k = asks_home P a id sent s.switchboard.names body ls (λ n w e. en (suc n) w e) h.named in
+    let b = given a (board_finds a sent s.switchboard.names body asked.answer ++ board_keeps a id s.switchboard.names asked.answer) in
+    let to = a (Enclosed id 0) in
+    let from = unmoved v.acting in
+    let m = board.goes_over switchboard s.switchboard.sent l (board.code_of_answer asked.answer ∷ []) (board.links_of_answer asked.answer) in
+    let t = record (without_message s id) { switchboard = (board.takes_request s.switchboard body (l ∷ ls)).switchboard } in
+    record {
+      processes = λ q x e. process_same P a (given b (two sent to from)) q x (let w = k.process q in record { slot = w.slot; owner = w.owner }) (h.processes q x e);
+      messages = sent_home P t a (given b (two sent to from)) m u.messages
+          (λ i e. let w = k.message i e in let z = two_off b sent to from i e in record { receiver = z.receiver ∙ w.receiver; sender = z.sender ∙ w.sender; enclosed = w.enclosed })
+          (record {
+            receiver = place_as P (ap (λ (c : Bool). if c then to else b (Receiver sent)) (id_eq-same sent)) (en 0 l refl);
+            sender = place_as P (ap (λ (c : Bool). if c then from else b (Sender sent)) (id_eq-same sent)) (acts_at P switchboard v.acting (h.rooted switchboard) at);
+            enclosed = k.enclosed;
+          });
+      children = λ n q e. place_as P (k.child n) (h.children n q e);
+      named = k.named;
+      answers = λ n r e. place_as P (k.answer n) (h.answers n r e);
+      rooted = h.rooted;
+      pending = h.pending;
+    }
+
+pub board_row : (P : Pid → Place → Type 0) (s t : OneKernel) (v : View) (a : Addresses) (id : MsgId) (m : PlainMessage) (w : PlainWhat) → m.what ≡ w → s.bag id ≡ Some m → v.acting ≡ 0 → AtHome P s a
+    → bind (board.takes s.switchboard m w) (λ (k : board.Took). Some (service.switchboard_took s id k)) ≡ Some t → AtHome P t (given a (board_takes s v a id w))
+board_row P s t v a id m (what.User code channel body links) is there at h e =
+    let k : service.switchboard_took s id (board.takes_request s.switchboard body links) ≡ t = cc in
+    let hm = h.messages id m there in
+    subst (λ (u : OneKernel). AtHome P u (given a (board_takes s v a id (what.User code channel body links)))) k
+    (board_request P s v a id code channel body links (λ n w f. hm.enclosed n w (ap (λ (x : PlainWhat). slice_get (links_in x) n) is ∙ f)) at h)
+board_row P s t v a id m what.Stop is there at h e = cc
+board_row P s t v a id m what.Resume is there at h e = cc
+board_row P s t v a id m what.Kill is there at h e = cc
+board_row P s t v a id m (what.Read f g) is there at h e = cc
+board_row P s t v a id m (what.Write f g) is there at h e = cc
+board_row P s t v a id m (what.Block f) is there at h e = cc
+board_row P s t v a id m what.Written is there at h e = cc
+board_row P s t v a id m what.Gone is there at h e = cc
+board_row P s t v a id m (what.Create f g) is there at h e = cc
+board_row P s t v a id m (what.Created f) is there at h e = cc
+board_row P s t v a id m what.NoRoom is there at h e = cc
+board_row P s t v a id m (what.Move f) is there at h e = cc
+board_row P s t v a id m (what.Moved f) is there at h e = cc

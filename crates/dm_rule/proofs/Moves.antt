@@ -1,0 +1,5 @@
+-- Lemmas of the family Moves, by file.
+pub mod Lists
+pub mod States
+pub mod Sent
+pub mod Rows

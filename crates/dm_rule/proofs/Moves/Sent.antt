@@ -1,0 +1,248 @@
+-- Messages that go on: one that is forwarded, and all that stand in the lists of a process that has left.
+use Rattle.std.proofs.Common.{◌≡◌, ℕ, zero, suc, ◌+◌, ◌≤◌, ◌==◌, ◌&&◌, Bool, true, false, List, [], ◌∷◌, ◌++◌, refl, ap, ◌∙◌, sym, subst, arith, length, length-append, ◌⊎◌, inl, inr}
+use Rattle.std.specs.Prelude.{if◌then◌else◌}
+use Rattle.std.specs.declared.option.Option.{Option}
+use Rattle.std.specs.declared.option.Option.TheVariants.{None, Some}
+use Rattle.std.proofs.lemmas.Bool.{cases_Bool}
+use Rattle.std.proofs.lemmas.Bool.Decides.{nat_tests}
+use Rattle.dm_link.specs.declared.Pid.{Pid}
+use Rattle.dm_message.specs.declared.MsgId.{MsgId}
+use Rattle.dm_message.specs.declared.kind.MessageKind.{MessageKind}
+use Rattle.dm_message.specs.Ids.{id_eq}
+use Rattle.dm_onekernel.specs.Options.{bind}
+use Rattle.dm_onekernel.specs.declared.label.Label.{Label}
+use Rattle.dm_onekernel.specs.Kernel.{OneKernel}
+use Rattle.dm_line.specs.declared.line.Line.{Line}
+use Rattle.dm_line.specs.declared.line.Line.TheVariants as line
+use Rattle.dm_line.specs.declared.line.Load.{Load}
+use Rattle.dm_rule.specs.View.{View, Pair, Told, view_after, handled, handled_first, receiver_of, is_kernels, own_id, forwarded_for, routed_on, after_put}
+use Rattle.dm_rule.specs.Point.{Point, label_of, kernel_after, moved, after}
+use Rattle.dm_rule.specs.Parts.{Part, Says, Again, Owns, Spelled, lines_of, puts, behind, spelled}
+use Rattle.dm_rule.specs.Migrating.{sends_on}
+use Rattle.dm_rule.specs.Spots.{Spot, Queue, Held, Inbox, Untaken, times, ids_at, standing}
+use Rattle.dm_laws.proofs.Equal.{id_eq-is}
+use Rattle.dm_laws.proofs.Steps.{bind-is}
+use Rattle.dm_rule.proofs.Once.{one_of}
+use Rattle.dm_rule.proofs.Lines.{Bag, hidden, Stands, Stands-same, Stands-handled}
+use Rattle.dm_rule.proofs.Letters.{letters}
+use Rattle.dm_rule.proofs.Hushed.{hushed}
+use Rattle.dm_rule.proofs.Pairs.Stand.{set_is, set_other}
+use Rattle.dm_rule.proofs.Pairs.Lines.{touches, pair_same}
+use Rattle.dm_rule.proofs.States.{State, PairsFit, says_next, said, State-at, by_packet, numbered_as, PutNext, puts_next}
+use Rattle.dm_rule.proofs.Said.{fits_as}
+use Rattle.dm_rule.proofs.Moves.Lists.{without_all, both_lists, both_once, both_times, emptied, Stands-emptied, under_way, first_off}
+use Rattle.dm_rule.proofs.Moves.States.{hidden_letters, front_way, Between, between_packet, arrived, again, by_own_put}
+
+-- a put, and a packet, keep that no more was taken than was routed
+one_longer : (p : Pair) (i : MsgId) → length (p.ids ++ i ∷ []) ≡ length p.ids + 1
+one_longer p i = simp length-append refl
+
+put_within : (a b : ℕ) (p : Pair) (i : MsgId) (c : Bool) → (a == b) ≡ c → p.taken ≤ length p.ids → (routed_on a b p i).taken ≤ length (p.ids ++ i ∷ [])
+put_within a b p i true e le =
+    let t : (routed_on a b p i).taken ≡ p.taken + 1 = ap (λ (c : Bool). if c then p.taken + 1 else p.taken) e in
+    let l = one_longer p i in
+    omega (arith, t, l, le)
+put_within a b p i false e le =
+    let t : (routed_on a b p i).taken ≡ p.taken = ap (λ (c : Bool). if c then p.taken + 1 else p.taken) e in
+    let l = one_longer p i in
+    omega (arith, t, l, le)
+
+put_home : (a b : ℕ) (p : Pair) (i : MsgId) → (a == b) ≡ true → p.taken ≡ length p.ids → (routed_on a b p i).taken ≡ length (p.ids ++ i ∷ [])
+put_home a b p i e is =
+    let t : (routed_on a b p i).taken ≡ p.taken + 1 = ap (λ (c : Bool). if c then p.taken + 1 else p.taken) e in
+    let l = one_longer p i in
+    omega (arith, t, l, is)
+
+same_two : (a b c : ℕ) → ((a == c) && (b == c)) ≡ true → (a ≡ b) × ((a == b) ≡ true)
+same_two a b c e = (grind (arith, nat_tests), grind (arith, nat_tests))
+
+pub fits_put : (v : View) (a b : ℕ) (i : MsgId) (k : MessageKind) (q : Pid) → PairsFit v → PairsFit (after_put v a b i k q)
+fits_put v a b i k q h = record {
+  within = λ c d. elim (cases_Bool ((a == c) && (b == d))) [
+    | inl same ↦ subst (λ (p : Pair). p.taken ≤ length p.ids) (sym (set_is v.pair a b (routed_on a b (v.pair a b) i) c d same)) (put_within a b (v.pair a b) i (a == b) refl (h.within a b))
+    | inr off ↦ subst (λ (p : Pair). p.taken ≤ length p.ids) (sym (set_other v.pair a b (routed_on a b (v.pair a b) i) c d off)) (h.within c d)
+  ];
+  home = λ c. elim (cases_Bool ((a == c) && (b == c))) [
+    | inl same ↦
+        let (ab, eq) = same_two a b c same in
+        let was : (v.pair a b).taken ≡ length (v.pair a b).ids = subst (λ n. (v.pair a n).taken ≡ length (v.pair a n).ids) ab (h.home a) in
+        subst (λ (p : Pair). p.taken ≡ length p.ids) (sym (set_is v.pair a b (routed_on a b (v.pair a b) i) c c same)) (put_home a b (v.pair a b) i eq was)
+    | inr off ↦ subst (λ (p : Pair). p.taken ≡ length p.ids) (sym (set_other v.pair a b (routed_on a b (v.pair a b) i) c c off)) (h.home c)
+  ];
+}
+
+pub fits_packet : (v : View) (a b k : ℕ) (l : Load) → PairsFit v → PairsFit (view_after v (line.Packet a b k l))
+fits_packet v a b k l h = record {
+  within = λ c d. elim (cases_Bool ((a == c) && (b == d))) [
+    | inl same ↦ subst (λ (p : Pair). p.taken ≤ length p.ids) (sym (set_is v.pair a b _ c d same)) (h.within a b)
+    | inr off ↦ subst (λ (p : Pair). p.taken ≤ length p.ids) (sym (set_other v.pair a b _ c d off)) (h.within c d)
+  ];
+  home = λ c. elim (cases_Bool ((a == c) && (b == c))) [
+    | inl same ↦
+        let (ab, eq) = same_two a b c same in
+        let was : (v.pair a b).taken ≡ length (v.pair a b).ids = subst (λ n. (v.pair a n).taken ≡ length (v.pair a n).ids) ab (h.home a) in
+        subst (λ (p : Pair). p.taken ≡ length p.ids) (sym (set_is v.pair a b _ c c same)) was
+    | inr off ↦ subst (λ (p : Pair). p.taken ≡ length p.ids) (sym (set_other v.pair a b _ c c off)) (h.home c)
+  ];
+}
+
+-- what stands on the way, and pairs that fit
+pub record Way (gone : List MsgId) (pt : Point) : Type 0 where
+  pub between : Between gone pt
+  pub fits : PairsFit pt.view
+
+pub record Steady (pt : Point) : Type 0 where
+  pub state : State None pt
+  pub fits : PairsFit pt.view
+
+pub way_packet : (gone : List MsgId) (q : Point) (a b k : ℕ) (l : Load) → Way gone q → Way gone (moved q (line.Packet a b k l) q.kernel)
+way_packet gone q a b k l h = record { between = between_packet gone q a b k l h.between; fits = fits_packet q.view a b k l h.fits }
+
+steady_packet : (q : Point) (a b k : ℕ) (l : Load) → Steady q → Steady (moved q (line.Packet a b k l) q.kernel)
+steady_packet q a b k l h = record { state = by_packet None q a b k l h.state; fits = fits_packet q.view a b k l h.fits }
+
+kernel_by : (s t : OneKernel) (o : Option Label) → o ≡ None → kernel_after s o ≡ Some t → s ≡ t
+kernel_by s t None none is = cc
+kernel_by s t (Some l) none is = cc
+
+-- a line that is no step
+pub record LineNext (pt : Point) (l : Line) (ps : List Part) (w : Spelled) : Type 0 where
+  pub rest : Spelled
+  pub more : spelled (moved pt l pt.kernel) ps ≡ Some rest
+  pub point : rest.point ≡ w.point
+
+pub line_next : (pt : Point) (l : Line) (ps : List Part) (w : Spelled) → label_of l ≡ None → spelled pt (Says l ∷ ps) ≡ Some w → LineNext pt l ps w
+line_next pt l ps w none e =
+    let k = says_next pt l ps w e in
+    let same : pt.kernel ≡ k.s = kernel_by pt.kernel k.s (label_of l) none k.is in
+    record { rest = k.rest; more = ap (λ s. spelled (moved pt l s) ps) same ∙ k.more; point = k.point }
+
+pub line_ends : (pt : Point) (l : Line) (w : Spelled) → label_of l ≡ None → State None (moved pt l pt.kernel) → spelled pt (Says l ∷ []) ≡ Some w → State None w.point
+line_ends pt l w none h e =
+    let k = line_next pt l [] w none e in
+    State-at None k.rest.point w.point k.point (State-at None (moved pt l pt.kernel) k.rest.point (said (moved pt l pt.kernel) k.rest k.more) h)
+
+-- the next message of the kernel is put
+pub owns_next : (pt : Point) (k : MessageKind) (q : Pid) (b : ℕ) (ps : List Part) (w : Spelled) → Steady pt → spelled pt (Owns k q b ∷ ps) ≡ Some w → PutNext Steady ps w
+owns_next pt k q b ps w h e =
+    puts_next Steady steady_packet pt (Owns k q b) b (own_id pt.view) k q ps w refl
+    (record { state = by_own_put pt b k q h.fits h.state; fits = fits_put pt.view pt.view.acting b (own_id pt.view) k q h.fits }) e
+
+pub steady_ends : (pt : Point) (w : Spelled) → Steady pt → spelled pt [] ≡ Some w → State None w.point
+steady_ends pt w h e = State-at None pt w.point (said pt w e) h.state
+
+pub owns_ends : (pt : Point) (k : MessageKind) (q : Pid) (b : ℕ) (w : Spelled) → Steady pt → spelled pt (Owns k q b ∷ []) ≡ Some w → State None w.point
+owns_ends pt k q b w h e =
+    let n = owns_next pt k q b [] w h e in
+    State-at None n.rest.point w.point n.point (steady_ends n.next n.rest n.stands n.more)
+
+-- and a line before it
+pub line_owns : (pt : Point) (l : Line) (k : MessageKind) (q : Pid) (b : ℕ) (w : Spelled) → label_of l ≡ None → touches l ≡ false → PairsFit pt.view → State None (moved pt l pt.kernel) → spelled pt (Says l ∷ Owns k q b ∷ []) ≡ Some w → State None w.point
+line_owns pt l k q b w none quiet fits h e =
+    let n = line_next pt l (Owns k q b ∷ []) w none e in
+    State-at None n.rest.point w.point n.point
+    (owns_ends (moved pt l pt.kernel) k q b n.rest (record { state = h; fits = fits_as pt.view (view_after pt.view l) (pair_same pt.view l quiet) fits }) n.more)
+
+-- the messages that were on the way are put again
+pub again_next : (pt : Point) (b : ℕ) (i : MsgId) (is : List MsgId) (ps : List Part) (w : Spelled) → Way (i ∷ is) pt → spelled pt (Again i b ∷ ps) ≡ Some w → PutNext (Way is) ps w
+again_next pt b i is ps w h e =
+    let (ls, lines, rest) = bind-is (lines_of pt (Again i b)) (λ ls. bind (after pt ls) (λ n. bind (spelled n ps) (λ v. Some (behind ls v)))) w e in
+    let (t, there, last) = bind-is (pt.view.told i) (λ t. Some (puts pt.view b i t.kind t.receiver)) ls lines in
+    puts_next (Way is) (way_packet is) pt (Again i b) b i t.kind t.receiver ps w (lines ∙ sym last)
+    (record { between = again pt b i is t h.fits there h.between; fits = fits_put pt.view pt.view.acting b i t.kind t.receiver h.fits }) e
+
+pub all_again : (is : List MsgId) (pt : Point) (b : ℕ) (ps : List Part) (w : Spelled) → Way is pt → spelled pt (sends_on b is ++ ps) ≡ Some w → PutNext (Way []) ps w
+all_again [] pt b ps w h e = record { next = pt; stands = h; rest = w; more = e; point = refl }
+all_again (i ∷ is) pt b ps w h e =
+    let n = again_next pt b i is (sends_on b is ++ ps) w h e in
+    let m = all_again is n.next b ps n.rest n.stands n.more in
+    record { next = m.next; stands = m.stands; rest = m.rest; more = m.more; point = m.point ∙ n.point }
+
+pub steadied : (pt : Point) → Way [] pt → Steady pt
+steadied pt h = record { state = arrived pt h.between; fits = h.fits }
+
+-- a message is forwarded
+forwarded_off : (v : View) (i : MsgId) (o : Option Pid) (z : Spot) → ids_at (forwarded_for (handled v i) o) z ≡ ids_at (handled v i) z
+forwarded_off v i None z = refl
+forwarded_off v i (Some p) (Queue m q) = refl
+forwarded_off v i (Some p) (Held m q) = refl
+forwarded_off v i (Some p) (Inbox m) = refl
+forwarded_off v i (Some p) (Untaken a b) = refl
+
+one_is : (i j : MsgId) → 1 ≤ times j (i ∷ []) → j ≡ i
+one_is i j least = elim (cases_Bool (id_eq j i)) [
+  | inl same ↦ id_eq-is j i same
+  | inr apart ↦ absurd (let z : one_of j i ≡ 0 = ap (λ (c : Bool). if c then 1 else 0) apart in omega (arith, least, z))
+]
+
+one_most : (i j : MsgId) (c : Bool) → (if c then 1 else 0) + 0 ≤ 1
+one_most i j true = omega arith
+one_most i j false = omega arith
+
+pub forwarded_way : (pt : Point) (i : MsgId) (is : List MsgId) (to : ℕ) → State None pt → pt.view.inbox pt.view.acting ≡ i ∷ is → Between (i ∷ []) (moved pt (line.Forwarded i to) pt.kernel)
+forwarded_way pt i is to h front =
+    let v = pt.view in
+    let l = line.Forwarded i to in
+    let hush = hushed v l refl in
+    let bag = letters h.own pt.kernel.bag in
+    let told : (j : MsgId) → (view_after v l).told j ≡ v.told j = λ j. ap (λ (f : MsgId → Option Told). f j) hush.told in
+    record {
+      r = h.r;
+      e = h.e;
+      sound = h.sound;
+      own = h.own;
+      stands = Stands-handled bag v (view_after v l) i is front (λ z. forwarded_off v i (receiver_of (v.told i)) z) told h.stands;
+      untold = λ j zero_ other. told j ∙ h.untold j zero_ other;
+      numbered = numbered_as v (view_after v l) hush.count hush.told h.numbered;
+      way = λ j least.
+          let ji : i ≡ j = sym (one_is i j least) in
+          let (q, way) = front_way pt i is h front in
+          subst (λ (x : MsgId). (q : Pid) × (bag x ≡ Some q) × (receiver_of ((view_after v l).told x) ≡ Some q)) ji (q, way, ap receiver_of (told i) ∙ h.stands.told i q way);
+      once = λ j. one_most i j (id_eq j i);
+    }
+
+-- a process has left: its lists are emptied
+without_same : (js : List MsgId) (bag other : Bag) → ((i : MsgId) → other i ≡ bag i) → (i : MsgId) → without_all js other i ≡ without_all js bag i
+without_same [] bag other e i = e i
+without_same (j ∷ js) bag other e i = ap (λ (x : Option Pid). if id_eq j i then None else x) (without_same js bag other e i)
+
+pub sent_off : (v : View) (p : Pid) (n : ℕ) (z : Spot) → ids_at (view_after v (line.SentOn p n)) z ≡ ids_at (emptied (handled_first v) p) z
+sent_off v p n (Queue m q) = refl
+sent_off v p n (Held m q) = refl
+sent_off v p n (Inbox m) = refl
+sent_off v p n (Untaken a b) = refl
+
+least_of : (m n : ℕ) → 1 ≤ m + n → (1 ≤ m) ⊎ (1 ≤ n)
+least_of zero n le = inr (omega (arith, le))
+least_of (suc m) n le = inl (omega arith)
+
+lists_way : (bag : Bag) (v : View) (p : Pid) (j : MsgId) → 1 ≤ times j (both_lists v p) → Stands bag v → (q : Pid) × (bag j ≡ Some q)
+lists_way bag v p j least h =
+    let sum = both_times v p j in
+    elim (least_of (standing v j (Queue v.acting p)) (standing v j (Held v.acting p)) (subst (λ n. 1 ≤ n) sum least)) [
+      | inl x ↦ under_way (bag j) (standing v j) (Queue v.acting p) x (h.kept j)
+      | inr y ↦ under_way (bag j) (standing v j) (Held v.acting p) y (h.kept j)
+    ]
+
+pub sent_way : (pt : Point) (p : Pid) (n : ℕ) (i : MsgId) (is : List MsgId) → State None pt → pt.view.inbox pt.view.acting ≡ i ∷ is → is_kernels i ≡ true → Between (both_lists pt.view p) (moved pt (line.SentOn p n) pt.kernel)
+sent_way pt p n i is h front mine =
+    let v = pt.view in
+    let l = line.SentOn p n in
+    let bag = letters h.own pt.kernel.bag in
+    let own = hidden (Some i) h.own in
+    let left : Bag = hidden (Some i) bag in
+    let same : (j : MsgId) → letters own pt.kernel.bag j ≡ left j = hidden_letters h.own pt.kernel.bag i mine in
+    let first : Stands left (handled_first v) = Stands-handled bag v (handled_first v) i is front (first_off v i is front) (λ j. refl) h.stands in
+    let ids = both_lists v p in
+    record {
+      r = h.r;
+      e = h.e;
+      sound = h.sound;
+      own = own;
+      stands = Stands-same (without_all ids left) (without_all ids (letters own pt.kernel.bag)) (view_after v l) (without_same ids left (letters own pt.kernel.bag) same)
+          (Stands-emptied left (handled_first v) (view_after v l) p (λ z. sent_off v p n z) (λ j. refl) first);
+      untold = h.untold;
+      numbered = h.numbered;
+      way = λ j least. (let (q, way) = lists_way left (handled_first v) p j least first in (q, same j ∙ way, first.told j q way));
+      once = λ j. both_once left (handled_first v) p j first.kept;
+    }

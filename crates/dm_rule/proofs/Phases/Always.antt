@@ -1,0 +1,128 @@
+-- Wherever the rule leads, each process is in a phase.
+use Rattle.std.proofs.Common.{◌≡◌, ℕ, ◌<◌, ◌≤◌, ◌==◌, ◌&&◌, ◌||◌, Bool, true, false, List, [], ◌∷◌, ◌++◌, length, refl, ap, ◌∙◌, sym, subst, inl, inr, arith}
+use Rattle.std.specs.Prelude.{if◌then◌else◌, map, option_map}
+use Rattle.std.specs.declared.option.Option.{Option}
+use Rattle.std.specs.declared.option.Option.TheVariants.{None, Some}
+use Rattle.std.proofs.lemmas.Bool.{cases_Bool}
+use Rattle.std.proofs.lemmas.Option.{slice_get_cases}
+use Rattle.std.proofs.lemmas.Bool.Decides.{nat_tests}
+use Rattle.dm_link.specs.declared.Pid.{Pid}
+use Rattle.dm_link.specs.Names.{pid_eq}
+use Rattle.dm_link.specs.Plain.{plain_link}
+use Rattle.dm_onekernel.specs.declared.boot.BootImage.{BootImage}
+use Rattle.dm_onekernel.specs.declared.boot.BootProcess.{BootProcess}
+use Rattle.dm_onekernel.specs.declared.boot.Boot.{Boot}
+use Rattle.dm_onekernel.specs.Boot.{IsValid, processes_are_valid, switchboard, manager}
+use Rattle.dm_onekernel.specs.Kernel.{Life, Alive}
+use Rattle.dm_onekernel.specs.Start.{begun, first_life, life_at}
+use Rattle.dm_schedule.specs.declared.Step.{Step}
+use Rattle.dm_rule.specs.View.{Known, Unknown, Here, known_at, ring_at}
+use Rattle.dm_rule.specs.Point.{Point, first_point}
+use Rattle.dm_rule.specs.Phases.{Rests, knows, is_due}
+use Rattle.dm_rule.specs.Laws.{IsStep, Leads, PhasesAlways}
+use Rattle.dm_rule.specs.Parts.{Spelled}
+use Rattle.dm_rule.specs.Rule.{group_of}
+use Rattle.dm_rule.proofs.Lines.{not_true}
+use Rattle.dm_rule.proofs.Pairs.{Pairs, Pairs-start, Pairs-group}
+use Rattle.dm_rule.proofs.States.{State}
+use Rattle.dm_rule.proofs.Groups.{fits, State-start, State-group}
+use Rattle.dm_rule.proofs.Telling.{Sane, sane_start, sane_group}
+use Rattle.dm_rule.proofs.Phases.Stand.{InPhases}
+use Rattle.dm_rule.proofs.Phases.Rests.{rests_here}
+use Rattle.dm_rule.proofs.Phases.Start.{phases_start}
+use Rattle.dm_rule.proofs.Phases.Groups.{phases_group}
+use Rattle.dm_rule.proofs.Rings.{AllHere}
+use Rattle.dm_rule.proofs.Rooted.Groups.{Grounded, rooted, roots_group}
+
+-- the rings of the boot file
+more_here : (f g : Pid → Known) (ps : List Pid) → ((q : Pid) → f q ≡ Here → g q ≡ Here) → AllHere f ps → AllHere g ps
+more_here f g [] more h = tt
+more_here f g (p ∷ ps) more h = (more p h.0, more_here f g ps more h.1)
+
+here_if : (c : Bool) (k : Known) → k ≡ Here → (if c then Here else k) ≡ Here
+here_if true k e = refl
+here_if false k e = e
+
+first_here : (p : Pid) (m : ℕ) (k : Known) → (p.home == m) ≡ true → (if pid_eq p p && (p.home == m) then Here else k) ≡ Here
+first_here p m k e = ap (λ (c : Bool). if c then Here else k) (let f : (pid_eq p p && (p.home == m)) ≡ true = grind (arith, nat_tests) in f)
+
+ring_row : (f : Pid → Known) (p : Pid) (ps : List Pid) (c : Bool) → (c ≡ true → f p ≡ Here) → AllHere f ps → AllHere f (if c then p ∷ ps else ps)
+ring_row f p ps true here h = (here refl, h)
+ring_row f p ps false here h = h
+
+rings_first : (ps : List BootProcess) (m : ℕ) → AllHere (known_at ps m) (ring_at ps m)
+rings_first [] m = tt
+rings_first (p ∷ ps) m =
+    ring_row (known_at (p ∷ ps) m) p.pid (ring_at ps m) (p.pid.home == m) (first_here p.pid m (known_at ps m p.pid))
+    (more_here (known_at ps m) (known_at (p ∷ ps) m) (ring_at ps m) (λ q e. here_if (pid_eq p.pid q && (p.pid.home == m)) (known_at ps m q) e) (rings_first ps m))
+
+-- each process of it is made
+image_there : (b : Boot) (p : BootProcess) → p.image < length b.images → first_life b p ≡ None → ⊥
+image_there b p le none = elim (slice_get_cases b.images p.image).1 [
+  | inl w ↦
+      let (i, within, is, got) = w in
+      let life : Option BootImage → Option Life = option_map (λ image. Alive (begun b.format image (map plain_link p.links))) in
+      let f : None ≡ Some (Alive (begun b.format i (map plain_link p.links))) = sym none ∙ ap life is in
+      cc
+  | inr w ↦ let past = w.0 in omega (arith, le, past)
+]
+
+known_first : (b : Boot) (earlier ps : List BootProcess) (m : ℕ) (q : Pid) → processes_are_valid b earlier ps ≡ true → life_at b ps q ≡ None → 3 ≤ q.num → known_at ps m q ≡ Unknown
+known_first b earlier [] m q valid none le = ap (λ (c : Bool). if c then Here else Unknown) (let f : ((m == 0) && (pid_eq q switchboard || pid_eq q manager)) ≡ false = grind (arith, nat_tests) in f)
+known_first b earlier (p ∷ ps) m q valid none le = elim (cases_Bool (pid_eq p.pid q)) [
+  | inl same ↦
+      let image : p.image < length b.images = grind (arith, nat_tests) in
+      absurd (image_there b p image (sym (ap (λ (c : Bool). if c then first_life b p else life_at b ps q) same) ∙ none))
+  | inr off ↦
+      let rest : processes_are_valid b (earlier ++ p ∷ []) ps ≡ true = grind (arith, nat_tests) in
+      ap (λ (c : Bool). if c && (p.pid.home == m) then Here else known_at ps m q) off
+      ∙ known_first b (earlier ++ p ∷ []) ps m q rest (sym (ap (λ (c : Bool). if c then first_life b p else life_at b ps q) off) ∙ none) le
+]
+
+ground_first : (b : Boot) → IsValid b → Grounded (first_point b)
+ground_first b valid = record {
+  rings = record { each = λ m. rings_first b.processes m };
+  lives = record { none = λ p is le n. known_first b [] b.processes n p valid.processes is le };
+}
+
+-- all that holds together
+pub record Phased (pt : Point) : Type 0 where
+  pub pairs : Pairs pt.view
+  pub state : State None pt
+  pub sane : Sane pt
+  pub ground : Grounded pt
+  pub phases : InPhases pt.view
+
+pub phased_start : (b : Boot) → IsValid b → Phased (first_point b)
+phased_start b valid = record { pairs = Pairs-start b; state = State-start b valid; sane = sane_start b valid; ground = ground_first b valid; phases = phases_start b }
+
+pub phased_group : (b : Boot) (pt : Point) (d : Step) (w : Spelled) → IsStep pt.kernel.machines d → group_of b pt d ≡ Some w → Phased pt → Phased w.point
+phased_group b pt d w fit is h =
+    let f = fits pt.view h.pairs in
+    record {
+      pairs = Pairs-group b pt d w fit is h.pairs;
+      state = State-group b pt d w is f h.state;
+      sane = sane_group b pt d w is h.sane;
+      ground = roots_group b pt d w is h.phases h.sane h.ground;
+      phases = phases_group b pt d w is h.phases h.state h.sane f (rooted pt h.sane h.ground);
+    }
+
+pub phased_on : (b : Boot) (es : List Step) (pt end : Point) → Leads b pt es end → Phased pt → Phased end
+phased_on b [] pt end leads h = subst Phased leads h
+phased_on b (d ∷ es) pt end (w, fit, is, rest) h = phased_on b es w.point end rest (phased_group b pt d w fit is h)
+
+-- a process is here on one machine at most
+rests_at : (m n : ℕ) → Rests m ≡ Rests n → m ≡ n
+rests_at m n e = cc
+
+pub here_once : (pt : Point) (p : Pid) (m n : ℕ) → InPhases pt.view → pt.view.known m p ≡ Here → pt.view.known n p ≡ Here → m ≡ n
+here_once pt p m n h at_m at_n =
+    let phase = h.of p in
+    let known = (h.each p).known in
+    let first : phase ≡ Rests m = rests_here phase m (sym (ap (knows phase m) at_m) ∙ known m) in
+    let other : phase ≡ Rests n = rests_here phase n (sym (ap (knows phase n) at_n) ∙ known n) in
+    rests_at m n (sym first ∙ other)
+
+-- wherever the rule leads
+pub phases_always : PhasesAlways
+phases_always b es pt p valid leads = let h = phased_on b es (first_point b) pt leads (phased_start b valid) in (h.phases.of p, h.phases.each p, not_true (is_due (h.phases.of p)) (λ e. let f : None ≡ Some p = h.phases.put p e in cc))

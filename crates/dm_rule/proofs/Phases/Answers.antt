@@ -1,0 +1,169 @@
+-- The message about a process that moves is handled, and the next one is put.
+use Rattle.std.proofs.Common.{◌≡◌, ◌⊎◌, ℕ, ◌≤◌, ◌==◌, ◌&&◌, Bool, true, false, not, List, [], ◌∷◌, refl, ap, ◌∙◌, sym, subst, inl, inr, arith}
+use Rattle.std.specs.Prelude.{if◌then◌else◌}
+use Rattle.std.specs.declared.option.Option.{Option}
+use Rattle.std.specs.declared.option.Option.TheVariants.{None, Some}
+use Rattle.std.proofs.lemmas.Bool.{cases_Bool, false≢true}
+use Rattle.dm_link.specs.declared.Pid.{Pid}
+use Rattle.dm_link.specs.Names.{pid_of, pid_eq}
+use Rattle.dm_message.specs.declared.MsgId.{MsgId}
+use Rattle.dm_message.specs.declared.kind.MessageKind.{MessageKind}
+use Rattle.dm_message.specs.Ids.{id_eq}
+use Rattle.dm_line.specs.declared.line.Line.{Line}
+use Rattle.dm_line.specs.declared.line.Line.TheVariants as line
+use Rattle.dm_line.specs.declared.line.Load.{Load}
+use Rattle.dm_rule.specs.View.{View, Told, Of, view_after, handled_first, own_id}
+use Rattle.dm_rule.specs.Point.{Point, label_of, moved}
+use Rattle.dm_rule.specs.Parts.{Says, Owns, Spelled, spelled}
+use Rattle.dm_rule.specs.Spots.{Spot, Inbox, Untaken, times, ids_at, standing, StandsNowhere, StandsAsBag}
+use Rattle.dm_rule.specs.Phases.{is_between, is_apart, Phase, Moves, knows, token_in, sender_in, receiver_in, told_between}
+use Rattle.dm_laws.proofs.Equal.{id_eq-is, id_eq-same, pid_eq-same}
+use Rattle.dm_rule.proofs.Standing.{StandsAsBag-once}
+use Rattle.dm_rule.proofs.Once.{one_of}
+use Rattle.dm_rule.proofs.Lines.{Bag, hidden, Stands-handled}
+use Rattle.dm_rule.proofs.Letters.{letters}
+use Rattle.dm_rule.proofs.Hushed.{is_put, hushed}
+use Rattle.dm_rule.proofs.Pairs.Lines.{touches, pair_same}
+use Rattle.dm_rule.proofs.States.{State, PairsFit, by_packet, puts_next, said}
+use Rattle.dm_rule.proofs.Said.{fits_as}
+use Rattle.dm_rule.proofs.Moves.Lists.{first_off}
+use Rattle.dm_rule.proofs.Moves.States.{by_own_put}
+use Rattle.dm_rule.proofs.Moves.Sent.{line_next, fits_put, fits_packet}
+use Rattle.dm_rule.proofs.Phases.Lines.{handled_spots, packet_calm}
+use Rattle.dm_rule.proofs.Phases.Stand.{PhasesBut, InPhases, none_only, calm_phases, token_is, token_at, Learns, learns_phases}
+use Rattle.dm_rule.proofs.Phases.Put.{own_put_phases, put_there, put_spot}
+
+-- what stands between the lines of a group
+pub record WholeBut (o : Option Pid) (pt : Point) : Type 0 where
+  pub state : State None pt
+  pub fits : PairsFit pt.view
+  pub phases : PhasesBut o pt.view
+
+abbrev pub Whole : Point → Type 0
+Whole pt = WholeBut None pt
+
+pub whole_packet : (q : Point) (a b k : ℕ) (l : Load) → Whole q → Whole (moved q (line.Packet a b k l) q.kernel)
+whole_packet q a b k l h = record { state = by_packet None q a b k l h.state; fits = fits_packet q.view a b k l h.fits; phases = calm_phases q.view (view_after q.view (line.Packet a b k l)) (packet_calm q.view a b k l) h.phases }
+
+pub whole_ends : (pt : Point) (w : Spelled) → Whole pt → spelled pt [] ≡ Some w → Whole w.point
+whole_ends pt w h e = subst Whole (said pt w e) h
+
+-- the next message is put at the group's end
+pub owns_whole : (pt : Point) (p : Pid) (k : MessageKind) (s d b : ℕ) (w : Spelled) (h : WholeBut (Some p) pt) → h.phases.of p ≡ Moves k s d None → pt.view.topic ≡ Of p → pt.view.acting ≡ sender_in k s d → b ≡ receiver_in k s d
+    → spelled pt (Owns k (pid_of b 0) b ∷ []) ≡ Some w → Whole w.point
+owns_whole pt p k s d b w h phase topic acting to e =
+    let v = pt.view in
+    let c = receiver_in k s d in
+    let next = moved pt (line.Put v.acting c (own_id v) k (pid_of c 0)) pt.kernel in
+    let there : State None next = by_own_put pt c k (pid_of c 0) h.fits h.state in
+    let untold : v.told (own_id v) ≡ None = h.state.numbered v.acting (v.count v.acting) (omega arith) in
+    let once = StandsAsBag-once (letters there.own next.kernel.bag (own_id v)) (standing next.view (own_id v)) (put_spot v.acting c) (put_there v v.acting c (own_id v) k (pid_of c 0) h.fits) (there.stands.kept (own_id v)) in
+    let whole : Whole next = record { state = there; fits = fits_put v v.acting c (own_id v) k (pid_of c 0) h.fits; phases = own_put_phases v p k s d h.phases h.fits phase topic acting untold once } in
+    let n = puts_next Whole whole_packet pt (Owns k (pid_of c 0) c) c (own_id v) k (pid_of c 0) [] w refl whole (ap (λ (m : ℕ). spelled pt (Owns k (pid_of m 0) m ∷ [])) (sym to) ∙ e) in
+    subst Whole n.point (whole_ends n.next n.rest n.stands n.more)
+
+-- the message at the front of the inbox is the one about its process
+pub record Due (pt : Point) (i : MsgId) (t : Told) (h : InPhases pt.view) : Type 0 where
+  pub p : Pid
+  pub k : MessageKind
+  pub s : ℕ
+  pub d : ℕ
+  pub phase : h.of p ≡ Moves k s d (Some i)
+  pub told : t ≡ told_between p k s d
+  pub acting : pt.view.acting ≡ receiver_in k s d
+  pub from : i.from ≡ pid_of (sender_in k s d) 0
+
+front_one : (v : View) (m : ℕ) (i : MsgId) (is : List MsgId) → v.inbox m ≡ i ∷ is → 1 ≤ standing v i (Inbox m)
+front_one v m i is front =
+    let a : times i (v.inbox m) ≡ times i (i ∷ is) = ap (times i) front in
+    let b : one_of i i ≡ 1 = ap (λ (c : Bool). if c then 1 else 0) (id_eq-same i) in
+    omega (arith, a, b)
+
+inbox_is : (m from to : ℕ) → (Inbox m ≡ Inbox to) ⊎ (Inbox m ≡ Untaken from to) → m ≡ to
+inbox_is m from to e = elim e [
+  | inl x ↦ cc
+  | inr x ↦ cc
+]
+
+pub due : (pt : Point) (i : MsgId) (is : List MsgId) (t : Told) (h : InPhases pt.view) → pt.view.inbox pt.view.acting ≡ i ∷ is → pt.view.told i ≡ Some t → is_between t.kind ≡ true → Due pt i t h
+due pt i is t h front told b =
+    let v = pt.view in
+    let one = front_one v v.acting i is front in
+    let (p, k, s, d, about, phase) = token_is v h i t (Inbox v.acting) told b one in
+    let token = token_at v p (h.of p) k s d i phase (h.each p) in
+    let same : t ≡ told_between p k s d = (let f : Some t ≡ Some (told_between p k s d) = sym told ∙ token.told in cc) in
+    record { p = p; k = k; s = s; d = d; phase = phase; told = same; acting = inbox_is v.acting (sender_in k s d) (receiver_in k s d) (token.ways (Inbox v.acting) one); from = token.from }
+
+-- it goes, and nothing else
+pub nowhere_of : (bag : Bag) (i : MsgId) (f : Spot → ℕ) → StandsAsBag (hidden (Some i) bag i) f → StandsNowhere f
+nowhere_of bag i f h = subst (λ (o : Option Pid). StandsAsBag o f) (ap (λ (c : Bool). if c then None else bag i) (id_eq-same i)) h
+
+pub front_gone : (pt : Point) (l : Line) (i : MsgId) (is : List MsgId) (h : State None pt) → is_put l ≡ false → pt.view.inbox pt.view.acting ≡ i ∷ is → ((z : Spot) → ids_at (view_after pt.view l) z ≡ ids_at (handled_first pt.view) z) → (z : Spot) → standing (view_after pt.view l) i z ≡ 0
+front_gone pt l i is h quiet front off =
+    let bag = letters h.own pt.kernel.bag in
+    nowhere_of bag i (standing (view_after pt.view l) i)
+    ((Stands-handled bag pt.view (view_after pt.view l) i is front (λ z. off z ∙ first_off pt.view i is front z) (λ j. ap (λ (f : MsgId → Option Told). f j) (hushed pt.view l quiet).told) h.stands).kept i)
+
+first_spots : (pt : Point) (l : Line) (i : MsgId) (is : List MsgId) → pt.view.inbox pt.view.acting ≡ i ∷ is → ((z : Spot) → ids_at (view_after pt.view l) z ≡ ids_at (handled_first pt.view) z) → (j : MsgId) → id_eq i j ≡ false → (z : Spot) → standing (view_after pt.view l) j z ≡ standing pt.view j z
+first_spots pt l i is front off j apart z = ap (times j) (off z ∙ first_off pt.view i is front z) ∙ handled_spots pt.view i j apart z
+
+about_same : (p q : Pid) → Of p ≡ Of q → p ≡ q
+about_same p q e = cc
+
+pub first_learns : (pt : Point) (l : Line) (i : MsgId) (is : List MsgId) (t : Told) (p : Pid) (h : State None pt) → is_put l ≡ false → pt.view.inbox pt.view.acting ≡ i ∷ is → pt.view.told i ≡ Some t → (is_between t.kind ≡ true → t.about ≡ Of p)
+    → ((z : Spot) → ids_at (view_after pt.view l) z ≡ ids_at (handled_first pt.view) z) → ((m : ℕ) (q : Pid) → pid_eq p q ≡ false → (view_after pt.view l).known m q ≡ pt.view.known m q) → Learns pt.view (view_after pt.view l) p
+first_learns pt l i is t p h quiet front told about off known =
+    let w = view_after pt.view l in
+    let same : (j : MsgId) → w.told j ≡ pt.view.told j = λ j. ap (λ (f : MsgId → Option Told). f j) (hushed pt.view l quiet).told in
+    record {
+      calm = known;
+      fresh = λ j u e b. sym (same j) ∙ e;
+      kept = λ j u e. same j ∙ e;
+      back = λ j u e b z st. elim (cases_Bool (id_eq i j)) [
+        | inl is_i ↦ absurd (let none : standing w j z ≡ 0 = subst (λ (x : MsgId). standing w x z ≡ 0) (id_eq-is i j is_i) (front_gone pt l i is h quiet front off z) in omega (arith, st, none))
+        | inr apart ↦ inl (subst (λ n. 1 ≤ n) (first_spots pt l i is front off j apart z) st)
+      ];
+      on = λ j u q apart e b ab z st. elim (cases_Bool (id_eq i j)) [
+        | inl is_i ↦ absurd (
+            let ij : i ≡ j = id_eq-is i j is_i in
+            let f : Some t ≡ Some u = sym told ∙ ap pt.view.told ij ∙ e in
+            let g : t ≡ u = cc in
+            let mine : t.about ≡ Of p = about (ap (λ (x : Told). is_between x.kind) g ∙ b) in
+            let pq : p ≡ q = about_same p q (sym mine ∙ ap (λ (x : Told). x.about) g ∙ ab) in
+            false≢true (sym apart ∙ ap (pid_eq p) (sym pq) ∙ pid_eq-same p))
+        | inr off_i ↦ (z, subst (λ n. 1 ≤ n) (sym (first_spots pt l i is front off j off_i z)) st)
+      ];
+    }
+
+pub token_one : (phase : Phase) (k : MessageKind) (s d : ℕ) (i j : MsgId) → phase ≡ Moves k s d (Some i) → token_in phase ≡ Some j → i ≡ j
+token_one phase k s d i j e f = let g : Some i ≡ Some j = sym (ap token_in e) ∙ f in cc
+
+and_hold : (b c : Bool) → b ≡ true → c ≡ true → (b && c) ≡ true
+and_hold true c e f = f
+and_hold false c e f = absurd (false≢true e)
+
+pub second : (b c : Bool) → (b && c) ≡ true → c ≡ true
+second true c e = e
+second false c e = absurd (false≢true e)
+
+pub still_apart : (v : View) (h : InPhases v) (p : Pid) (k j : MessageKind) (s d : ℕ) (i : MsgId) → h.of p ≡ Moves k s d (Some i) → is_between j ≡ true → (is_between j && not (s == d)) ≡ true
+still_apart v h p k j s d i e b =
+    let was : (is_between k && not (s == d)) ≡ true = sym (ap is_apart e) ∙ (h.each p).apart in
+    and_hold (is_between j) (not (s == d)) b (second (is_between k) (not (s == d)) was)
+
+-- a line handles it, and the next message about the process is put
+pub answer_row : (pt : Point) (l : Line) (i : MsgId) (is : List MsgId) (t : Told) (k : MessageKind) (b : ℕ) (w : Spelled) (h : Whole pt) (u : Due pt i t h.phases) → label_of l ≡ None → is_put l ≡ false → touches l ≡ false
+    → pt.view.inbox pt.view.acting ≡ i ∷ is → pt.view.told i ≡ Some t → State None (moved pt l pt.kernel) → ((z : Spot) → ids_at (view_after pt.view l) z ≡ ids_at (handled_first pt.view) z)
+    → ((m : ℕ) (q : Pid) → pid_eq u.p q ≡ false → (view_after pt.view l).known m q ≡ pt.view.known m q) → ((m : ℕ) → knows (Moves k u.s u.d None) m ((view_after pt.view l).known m u.p) ≡ true) → is_between k ≡ true
+    → (view_after pt.view l).topic ≡ Of u.p → (view_after pt.view l).acting ≡ pt.view.acting → receiver_in u.k u.s u.d ≡ sender_in k u.s u.d → b ≡ receiver_in k u.s u.d
+    → spelled pt (Says l ∷ Owns k (pid_of b 0) b ∷ []) ≡ Some w → Whole w.point
+answer_row pt l i is t k b w h u none quiet calm front told there off others known between topic acting turn to e =
+    let v = pt.view in
+    let n = line_next pt l (Owns k (pid_of b 0) b ∷ []) w none e in
+    let next = moved pt l pt.kernel in
+    let learns = first_learns pt l i is t u.p h.state quiet front told (λ x. ap (λ (y : Told). y.about) u.told) off others in
+    let apart : is_apart (Moves k u.s u.d None) ≡ true = still_apart v h.phases u.p u.k k u.s u.d i u.phase between in
+    let turned = learns_phases v next.view u.p (Moves k u.s u.d None) h.phases (none_only u.p) learns refl apart known
+    (λ j x z. subst (λ (y : MsgId). standing next.view y z ≡ 0) (token_one (h.phases.of u.p) u.k u.s u.d i j u.phase x) (front_gone pt l i is h.state quiet front off z)) in
+    let whole : WholeBut (Some u.p) next = record { state = there; fits = fits_as v next.view (pair_same v l calm) h.fits; phases = turned.phases } in
+    subst Whole n.point (owns_whole next u.p k u.s u.d b n.rest whole turned.now topic (acting ∙ u.acting ∙ turn) to n.more)

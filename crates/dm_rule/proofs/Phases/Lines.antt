@@ -1,0 +1,188 @@
+-- Lines that leave the migrations of all processes as they are.
+use Rattle.std.proofs.Common.{◌≡◌, ℕ, zero, suc, ◌+◌, ◌==◌, ◌&&◌, Bool, true, false, List, [], ◌∷◌, ◌++◌, drop, length, refl, ap, ◌∙◌, sym, subst, inl, inr, arith}
+use Rattle.std.specs.Prelude.{if◌then◌else◌}
+use Rattle.std.specs.declared.option.Option.{Option}
+use Rattle.std.specs.declared.option.Option.TheVariants.{None, Some}
+use Rattle.std.proofs.lemmas.Bool.{cases_Bool}
+use Rattle.std.proofs.lemmas.List.{length-append}
+use Rattle.std.proofs.Math.Seq.{drop-length}
+use Rattle.dm_link.specs.declared.Pid.{Pid}
+use Rattle.dm_link.specs.Names.{pid_eq}
+use Rattle.dm_message.specs.declared.MsgId.{MsgId}
+use Rattle.dm_message.specs.declared.kind.MessageKind.{MessageKind}
+use Rattle.dm_message.specs.Ids.{id_eq}
+use Rattle.dm_line.specs.declared.line.Load.{Load}
+use Rattle.dm_line.specs.declared.line.Line.TheVariants as line
+use Rattle.dm_line.specs.Sets.{at_machine, at_pair, at_record, without_id, without_front}
+use Rattle.dm_rule.specs.View.{View, Pair, Told, handled, queued_for, held_for, dropped_for, forwarded_for, served_told, kills, view_after, after_put, after_taken, taken_id, with_pair, routed_on}
+use Rattle.dm_rule.specs.View as view
+use Rattle.dm_rule.specs.Spots.{Spot, Queue, Held, Inbox, Untaken, times, untaken, standing}
+use Rattle.dm_rule.specs.Phases.{is_between}
+use Rattle.dm_laws.proofs.Equal.{pid_eq-is, id_eq-is, id_eq-same, id_eq-swap}
+use Rattle.dm_rule.proofs.Standing.{times-append}
+use Rattle.dm_rule.proofs.Once.{one_of}
+use Rattle.dm_rule.proofs.Lines.{parts, eq_is, pair_keeps}
+use Rattle.dm_rule.proofs.States.{PairsFit, put_told_off}
+use Rattle.dm_rule.proofs.Phases.Calm.{Calm, Plain, calm_others, calm_still}
+
+-- lists with one message more or less count the others alike
+off_zero : (i j : MsgId) → id_eq i j ≡ false → one_of j i ≡ 0
+off_zero i j e = ap (λ (c : Bool). if c then 1 else 0) (id_eq-swap j i ∙ e)
+
+pub last_times : (i j : MsgId) (xs : List MsgId) → id_eq i j ≡ false → times j (xs ++ i ∷ []) ≡ times j xs
+last_times i j xs e = let a = times-append j xs (i ∷ []) in let z = off_zero i j e in omega (arith, a, z)
+
+one_less : (i j x : MsgId) (xs ys : List MsgId) (b : Bool) → id_eq i x ≡ b → id_eq i j ≡ false → times j ys ≡ times j xs → times j (if b then xs else x ∷ ys) ≡ times j (x ∷ xs)
+one_less i j x xs ys true is e same =
+    let ix : i ≡ x = id_eq-is i x is in
+    let z : one_of j x ≡ 0 = ap (one_of j) (sym ix) ∙ off_zero i j e in
+    omega (arith, z)
+one_less i j x xs ys false is e same = omega (arith, same)
+
+pub front_times : (i j : MsgId) (xs : List MsgId) → id_eq i j ≡ false → times j (without_front i xs) ≡ times j xs
+front_times i j [] e = refl
+front_times i j (x ∷ xs) e = one_less i j x xs xs (id_eq i x) refl e refl
+
+pub without_times : (i j : MsgId) (xs : List MsgId) → id_eq i j ≡ false → times j (without_id i xs) ≡ times j xs
+without_times i j [] e = refl
+without_times i j (x ∷ xs) e = one_less i j x xs (without_id i xs) (id_eq i x) refl e (without_times i j xs e)
+
+drop_none : (i j : MsgId) (n : ℕ) → times j (drop n []) ≡ 0
+drop_none i j zero = refl
+drop_none i j (suc n) = refl
+
+drop_times : (i j : MsgId) (n : ℕ) (xs : List MsgId) → id_eq i j ≡ false → times j (drop n (xs ++ i ∷ [])) ≡ times j (drop n xs)
+drop_times i j zero xs e = last_times i j xs e
+drop_times i j (suc n) [] e = drop_none i j n
+drop_times i j (suc n) (x ∷ xs) e = drop_times i j n xs e
+
+-- one machine's list, one record's, one pair's
+pub machine_times : (f : ℕ → List MsgId) (m : ℕ) (x : List MsgId) (j : MsgId) → times j x ≡ times j (f m) → (n : ℕ) → times j (at_machine f m x n) ≡ times j (f n)
+machine_times f m x j e n = elim (cases_Bool (m == n)) [
+  | inl same ↦ ap (λ (c : Bool). times j (if c then x else f n)) same ∙ e ∙ ap (λ (k : ℕ). times j (f k)) (eq_is m n same)
+  | inr apart ↦ ap (λ (c : Bool). times j (if c then x else f n)) apart
+]
+
+pub record_times : (f : ℕ → Pid → List MsgId) (m : ℕ) (p : Pid) (x : List MsgId) (j : MsgId) → times j x ≡ times j (f m p) → (n : ℕ) (q : Pid) → times j (at_record f m p x n q) ≡ times j (f n q)
+record_times f m p x j e n q = elim (cases_Bool ((m == n) && pid_eq p q)) [
+  | inl same ↦
+      let both = parts (m == n) (pid_eq p q) same in
+      ap (λ (c : Bool). times j (if c then x else f n q)) same ∙ e ∙ ap (λ (k : ℕ). times j (f k p)) (eq_is m n both.0) ∙ ap (λ (r : Pid). times j (f n r)) (pid_eq-is p q both.1)
+  | inr apart ↦ ap (λ (c : Bool). times j (if c then x else f n q)) apart
+]
+
+pub pair_times : (f : ℕ → ℕ → Pair) (a b : ℕ) (p : Pair) (j : MsgId) → times j (untaken p) ≡ times j (untaken (f a b)) → (c d : ℕ) → times j (untaken (at_pair f a b p c d)) ≡ times j (untaken (f c d))
+pair_times f a b p j e c d = elim (cases_Bool ((a == c) && (b == d))) [
+  | inl same ↦
+      let both = parts (a == c) (b == d) same in
+      ap (λ (t : Bool). times j (untaken (if t then p else f c d))) same ∙ e ∙ ap (λ (k : ℕ). times j (untaken (f k b))) (eq_is a c both.0) ∙ ap (λ (k : ℕ). times j (untaken (f c k))) (eq_is b d both.1)
+  | inr apart ↦ ap (λ (t : Bool). times j (untaken (if t then p else f c d))) apart
+]
+
+-- the front of an inbox goes, and may come to a queue or a held list, or go from a queue
+pub handled_spots : (v : View) (i j : MsgId) → id_eq i j ≡ false → (z : Spot) → standing (handled v i) j z ≡ standing v j z
+handled_spots v i j e (Queue m p) = refl
+handled_spots v i j e (Held m p) = refl
+handled_spots v i j e (Inbox m) = machine_times v.inbox v.acting (without_front i (v.inbox v.acting)) j (front_times i j (v.inbox v.acting) e) m
+handled_spots v i j e (Untaken a b) = refl
+
+pub queued_spots : (v : View) (i j : MsgId) (o : Option Pid) → id_eq i j ≡ false → (z : Spot) → standing (queued_for v i o) j z ≡ standing v j z
+queued_spots v i j None e z = refl
+queued_spots v i j (Some p) e (Queue m q) = record_times v.queue v.acting p (v.queue v.acting p ++ i ∷ []) j (last_times i j (v.queue v.acting p) e) m q
+queued_spots v i j (Some p) e (Held m q) = refl
+queued_spots v i j (Some p) e (Inbox m) = refl
+queued_spots v i j (Some p) e (Untaken a b) = refl
+
+pub held_spots : (v : View) (i j : MsgId) (o : Option Pid) → id_eq i j ≡ false → (z : Spot) → standing (held_for v i o) j z ≡ standing v j z
+held_spots v i j None e z = refl
+held_spots v i j (Some p) e (Queue m q) = refl
+held_spots v i j (Some p) e (Held m q) = record_times v.held v.acting p (v.held v.acting p ++ i ∷ []) j (last_times i j (v.held v.acting p) e) m q
+held_spots v i j (Some p) e (Inbox m) = refl
+held_spots v i j (Some p) e (Untaken a b) = refl
+
+pub dropped_spots : (v : View) (i j : MsgId) (o : Option Pid) → id_eq i j ≡ false → (z : Spot) → standing (dropped_for v i o) j z ≡ standing v j z
+dropped_spots v i j None e z = refl
+dropped_spots v i j (Some p) e (Queue m q) = record_times v.queue v.acting p (without_front i (v.queue v.acting p)) j (front_times i j (v.queue v.acting p) e) m q
+dropped_spots v i j (Some p) e (Held m q) = refl
+dropped_spots v i j (Some p) e (Inbox m) = refl
+dropped_spots v i j (Some p) e (Untaken a b) = refl
+
+pub forwarded_spots : (v : View) (j : MsgId) (o : Option Pid) (z : Spot) → standing (forwarded_for v o) j z ≡ standing v j z
+forwarded_spots v j None z = refl
+forwarded_spots v j (Some p) (Queue m q) = refl
+forwarded_spots v j (Some p) (Held m q) = refl
+forwarded_spots v j (Some p) (Inbox m) = refl
+forwarded_spots v j (Some p) (Untaken a b) = refl
+
+pub queued_known : (v : View) (i : MsgId) (o : Option Pid) (m : ℕ) (p : Pid) → (queued_for v i o).known m p ≡ v.known m p
+queued_known v i None m p = refl
+queued_known v i (Some q) m p = refl
+
+pub held_known : (v : View) (i : MsgId) (o : Option Pid) (m : ℕ) (p : Pid) → (held_for v i o).known m p ≡ v.known m p
+held_known v i None m p = refl
+held_known v i (Some q) m p = refl
+
+pub dropped_known : (v : View) (i : MsgId) (o : Option Pid) (m : ℕ) (p : Pid) → (dropped_for v i o).known m p ≡ v.known m p
+dropped_known v i None m p = refl
+dropped_known v i (Some q) m p = refl
+
+pub forwarded_known : (v : View) (o : Option Pid) (m : ℕ) (p : Pid) → (forwarded_for v o).known m p ≡ v.known m p
+forwarded_known v None m p = refl
+forwarded_known v (Some q) m p = refl
+
+-- a put of a message that is none of the protocol, where each pair of a machine with itself has taken all
+put_inbox : (v : View) (a b : ℕ) (i j : MsgId) (c : Bool) → id_eq i j ≡ false → (n : ℕ) → times j ((if c then at_machine v.inbox b (v.inbox b ++ i ∷ []) else v.inbox) n) ≡ times j (v.inbox n)
+put_inbox v a b i j true e n = machine_times v.inbox b (v.inbox b ++ i ∷ []) j (last_times i j (v.inbox b) e) n
+put_inbox v a b i j false e n = refl
+
+all_taken : (i j : MsgId) (xs : List MsgId) (n : ℕ) → n ≡ length xs → times j (drop (n + 1) (xs ++ i ∷ [])) ≡ times j (drop n xs)
+all_taken i j xs n e =
+    let long : length (xs ++ i ∷ []) ≡ n + 1 = length-append xs (i ∷ []) ∙ ap (λ k. k + 1) (sym e) in
+    let gone : drop (n + 1) (xs ++ i ∷ []) ≡ [] = subst (λ k. drop k (xs ++ i ∷ []) ≡ []) long (drop-length (xs ++ i ∷ [])) in
+    let was : drop n xs ≡ [] = ap (λ k. drop k xs) e ∙ drop-length xs in
+    ap (times j) gone ∙ sym (ap (times j) was)
+
+put_pair : (a b : ℕ) (p : Pair) (i j : MsgId) (c : Bool) → (a == b) ≡ c → id_eq i j ≡ false → (c ≡ true → p.taken ≡ length p.ids) → times j (untaken (routed_on a b p i)) ≡ times j (untaken p)
+put_pair a b p i j true is e full =
+    ap (λ (x : Bool). times j (drop (if x then p.taken + 1 else p.taken) (p.ids ++ i ∷ []))) is ∙ all_taken i j p.ids p.taken (full refl)
+put_pair a b p i j false is e full =
+    ap (λ (x : Bool). times j (drop (if x then p.taken + 1 else p.taken) (p.ids ++ i ∷ []))) is ∙ drop_times i j p.taken p.ids e
+
+home_full : (v : View) (a b : ℕ) → PairsFit v → (a == b) ≡ true → (v.pair a b).taken ≡ length (v.pair a b).ids
+home_full v a b fits is = let e : a ≡ b = eq_is a b is in subst (λ n. (v.pair a n).taken ≡ length (v.pair a n).ids) e (fits.home a)
+
+pub put_spots : (v : View) (a b : ℕ) (i j : MsgId) (k : MessageKind) (q : Pid) → PairsFit v → id_eq i j ≡ false → (z : Spot) → standing (after_put v a b i k q) j z ≡ standing v j z
+put_spots v a b i j k q fits e (Queue m p) = refl
+put_spots v a b i j k q fits e (Held m p) = refl
+put_spots v a b i j k q fits e (Inbox m) = put_inbox v a b i j (a == b) e m
+put_spots v a b i j k q fits e (Untaken c d) = pair_times v.pair a b (routed_on a b (v.pair a b) i) j (put_pair a b (v.pair a b) i j (a == b) refl e (home_full v a b fits)) c d
+
+pub put_at : (v : View) (a b : ℕ) (i : MsgId) (k : MessageKind) (q : Pid) → (after_put v a b i k q).told i ≡ Some (view.first_told (v.told i) (record { kind = k; receiver = q; about = v.topic }))
+put_at v a b i k q = ap (λ (c : Bool). if c then Some (view.first_told (v.told i) (record { kind = k; receiver = q; about = v.topic })) else v.told i) (id_eq-same i)
+
+first_plain : (v : View) (i : MsgId) (k : MessageKind) (q : Pid) (o : Option Told) → v.told i ≡ o → is_between k ≡ false → Plain v i → is_between (view.first_told o (record { kind = k; receiver = q; about = v.topic })).kind ≡ false
+first_plain v i k q None is e plain = e
+first_plain v i k q (Some t) is e plain = plain t is
+
+first_kept : (o : Option Told) (u t : Told) → o ≡ Some t → Some (view.first_told o u) ≡ Some t
+first_kept None u t e = cc
+first_kept (Some s) u t e = e
+
+pub put_calm : (v : View) (a b : ℕ) (i : MsgId) (k : MessageKind) (q : Pid) → PairsFit v → is_between k ≡ false → Plain v i → Calm v (after_put v a b i k q)
+put_calm v a b i k q fits e plain =
+    let u : Told = record { kind = k; receiver = q; about = v.topic } in
+    calm_others v (after_put v a b i k q) i plain
+    (λ t is. (let f : Some (view.first_told (v.told i) u) ≡ Some t = sym (put_at v a b i k q) ∙ is in let g : view.first_told (v.told i) u ≡ t = cc in
+    subst (λ (s : Told). is_between s.kind ≡ false) g (first_plain v i k q (v.told i) refl e plain)))
+    (λ t is. put_at v a b i k q ∙ first_kept (v.told i) u t is)
+    (record { known = λ m p. refl; told = λ j apart. put_told_off v a b i j k q apart; spots = λ j apart z. put_spots v a b i j k q fits apart z })
+
+-- a packet
+packet_spots : (v : View) (a b k : ℕ) (l : Load) (j : MsgId) (z : Spot) → standing (view_after v (line.Packet a b k l)) j z ≡ standing v j z
+packet_spots v a b k l j (Queue m p) = refl
+packet_spots v a b k l j (Held m p) = refl
+packet_spots v a b k l j (Inbox m) = refl
+packet_spots v a b k l j (Untaken c d) = ap (times j) (pair_keeps v.pair a b _ refl c d)
+
+pub packet_calm : (v : View) (a b k : ℕ) (l : Load) → Calm v (view_after v (line.Packet a b k l))
+packet_calm v a b k l = calm_still v (view_after v (line.Packet a b k l)) (λ m p. refl) (λ i. refl) (λ i z. packet_spots v a b k l i z)

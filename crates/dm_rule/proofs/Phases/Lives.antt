@@ -1,0 +1,110 @@
+-- A process ends, and one is made.
+use Rattle.std.proofs.Common.{◌≡◌, ℕ, ◌≤◌, ◌==◌, ◌&&◌, Bool, true, false, refl, ap, ◌∙◌, sym, subst, inl, arith}
+use Rattle.std.specs.Prelude.{if◌then◌else◌}
+use Rattle.std.specs.declared.option.Option.{Option}
+use Rattle.std.specs.declared.option.Option.TheVariants.{None, Some}
+use Rattle.std.proofs.lemmas.Bool.{false≢true}
+use Rattle.std.proofs.lemmas.Bool.Decides.{nat_tests}
+use Rattle.dm_link.specs.declared.Pid.{Pid}
+use Rattle.dm_message.specs.declared.MsgId.{MsgId}
+use Rattle.dm_message.specs.declared.kind.MessageKind.{MessageKind}
+use Rattle.dm_message.specs.declared.kind.MessageKind.TheVariants as kind
+use Rattle.dm_message.specs.Ids.{id_eq}
+use Rattle.dm_onekernel.specs.declared.label.Label.TheVariants as label
+use Rattle.dm_onekernel.specs.declared.label.Why.{Why}
+use Rattle.dm_line.specs.declared.line.Line.TheVariants as line
+use Rattle.dm_line.specs.Sets.{at_record}
+use Rattle.dm_rule.specs.View.{View, Told, Known, Unknown, Here, Frozen, Incoming, Forward, Ended, view_after, handled, served_told, kills}
+use Rattle.dm_rule.specs.View as view
+use Rattle.dm_rule.specs.Spots.{Spot, times, standing}
+use Rattle.dm_rule.specs.Phases.{is_between, is_away, is_here, is_over, leaves, comes, Phase, Nowhere, Rests, Over, Moves, knows, token_in}
+use Rattle.dm_laws.proofs.Equal.{pid_eq-same, id_eq-is}
+use Rattle.dm_rule.proofs.Lines.{not_true}
+use Rattle.dm_rule.proofs.Turns.{ended_off, created_off}
+use Rattle.dm_rule.proofs.Phases.Calm.{Plain}
+use Rattle.dm_rule.proofs.Phases.Lines.{handled_spots}
+use Rattle.dm_rule.proofs.Phases.Stand.{none_only, InPhases, Learns, learns_phases}
+use Rattle.dm_rule.proofs.Phases.Pieces.{record_off}
+use Rattle.dm_rule.proofs.Phases.Rests.{rests_here}
+
+-- one machine learns something of one process, and no message of the protocol stands elsewhere
+pub still_learns : (v w : View) (p : Pid) (x : Known) → w.known ≡ at_record v.known v.acting p x → w.told ≡ v.told → ((j : MsgId) (t : Told) → v.told j ≡ Some t → is_between t.kind ≡ true → (z : Spot) → standing w j z ≡ standing v j z) → Learns v w p
+still_learns v w p x known told spots = record {
+  calm = λ m q off. ap (λ (f : ℕ → Pid → Known). f m q) known ∙ record_off v.known v.acting p x m q off;
+  fresh = λ j t e b. sym (ap (λ (f : MsgId → Option Told). f j) told) ∙ e;
+  kept = λ j t e. ap (λ (f : MsgId → Option Told). f j) told ∙ e;
+  back = λ j t e b z st. inl (subst (λ n. 1 ≤ n) (spots j t e b z) st);
+  on = λ j t q apart e b ab z st. (z, subst (λ n. 1 ≤ n) (sym (spots j t e b z)) st);
+}
+
+and_true : (b : Bool) (x y : Known) → (if b && true then x else y) ≡ (if b then x else y)
+and_true true x y = refl
+and_true false x y = refl
+
+record_at : (v : View) (p : Pid) (x : Known) (m : ℕ) → at_record v.known v.acting p x m p ≡ (if v.acting == m then x else v.known m p)
+record_at v p x m = ap (λ (c : Bool). if (v.acting == m) && c then x else v.known m p) (pid_eq-same p) ∙ and_true (v.acting == m) x (v.known m p)
+
+-- it ends where it was
+over_of : (a m : ℕ) (b : Bool) (y : Known) → (a == m) ≡ b → knows (Rests a) m y ≡ true → knows (Over a) m (if b then Ended else y) ≡ true
+over_of a m true y e h = ap (λ (c : Bool). if c then is_over Ended else is_away Ended) e
+over_of a m false y e h = ap (λ (c : Bool). if c then is_over y else is_away y) e ∙ sym (ap (λ (c : Bool). if c then is_here y else is_away y) e) ∙ h
+
+pub ends_phases : (v w : View) (p : Pid) → InPhases v → v.known v.acting p ≡ Here → w.known ≡ at_record v.known v.acting p Ended → w.told ≡ v.told → ((j : MsgId) (t : Told) → v.told j ≡ Some t → is_between t.kind ≡ true → (z : Spot) → standing w j z ≡ standing v j z) → InPhases w
+ends_phases v w p h here known told spots =
+    let a = v.acting in
+    let phase : h.of p ≡ Rests a = rests_here (h.of p) a (sym (ap (knows (h.of p) a) here) ∙ (h.each p).known a) in
+    let rested : (m : ℕ) → knows (Rests a) m (v.known m p) ≡ true = λ m. subst (λ (x : Phase). knows x m (v.known m p) ≡ true) phase ((h.each p).known m) in
+    (learns_phases v w p (Over a) h (none_only p) (still_learns v w p Ended known told spots) refl refl
+    (λ m. ap (λ (f : ℕ → Pid → Known). knows (Over a) m (f m p)) known ∙ ap (knows (Over a) m) (record_at v p Ended m) ∙ over_of a m (a == m) (v.known m p) refl (rested m))
+    (λ j x z. absurd (let f : None ≡ Some j = sym (ap token_in phase) ∙ x in cc))).phases
+
+-- an end by a call or a fault
+pub end_line_phases : (v : View) (p : Pid) (y : Why) → InPhases v → v.known v.acting p ≡ Here → InPhases (view_after v (line.Label (label.End p y)))
+end_line_phases v p y h here = ends_phases v (view_after v (line.Label (label.End p y))) p h here refl refl (λ j t e b z. ap (times j) (ended_off v p z))
+
+-- nothing is known of a process that was never made
+rests_if : (m : ℕ) → (if m == m then is_here Unknown else is_away Unknown) ≡ false
+rests_if m = ap (λ (c : Bool). if c then is_here Unknown else is_away Unknown) (let e : (m == m) ≡ true = grind (arith, nat_tests) in e)
+
+over_if : (m : ℕ) → (if m == m then is_over Unknown else is_away Unknown) ≡ false
+over_if m = ap (λ (c : Bool). if c then is_over Unknown else is_away Unknown) (let e : (m == m) ≡ true = grind (arith, nat_tests) in e)
+
+moves_if : (k : MessageKind) (s d : ℕ) → (if s == s then leaves k d Unknown else if d == s then comes k s Unknown else is_away Unknown) ≡ false
+moves_if k s d = ap (λ (c : Bool). if c then leaves k d Unknown else if d == s then comes k s Unknown else is_away Unknown) (let e : (s == s) ≡ true = grind (arith, nat_tests) in e)
+
+pub nowhere_known : (phase : Phase) → ((m : ℕ) → knows phase m Unknown ≡ true) → phase ≡ Nowhere
+nowhere_known Nowhere h = refl
+nowhere_known (Rests at) h = absurd (false≢true (sym (rests_if at) ∙ h at))
+nowhere_known (Over at) h = absurd (false≢true (sym (over_if at) ∙ h at))
+nowhere_known (Moves k s d o) h = absurd (false≢true (sym (moves_if k s d) ∙ h s))
+
+made_of : (a m : ℕ) (b : Bool) → (a == m) ≡ b → knows (Rests a) m (if b then Here else Unknown) ≡ true
+made_of a m true e = ap (λ (c : Bool). if c then is_here Here else is_away Here) e
+made_of a m false e = ap (λ (c : Bool). if c then is_here Unknown else is_away Unknown) e
+
+-- one is made on the acting machine
+pub made_phases : (v w : View) (p : Pid) → InPhases v → ((m : ℕ) → v.known m p ≡ Unknown) → w.known ≡ at_record v.known v.acting p Here → w.told ≡ v.told → ((j : MsgId) (t : Told) → v.told j ≡ Some t → is_between t.kind ≡ true → (z : Spot) → standing w j z ≡ standing v j z) → InPhases w
+made_phases v w p h unknown known told spots =
+    let a = v.acting in
+    let phase : h.of p ≡ Nowhere = nowhere_known (h.of p) (λ m. sym (ap (knows (h.of p) m) (unknown m)) ∙ (h.each p).known m) in
+    (learns_phases v w p (Rests a) h (none_only p) (still_learns v w p Here known told spots) refl refl
+    (λ m. ap (λ (f : ℕ → Pid → Known). knows (Rests a) m (f m p)) known ∙ ap (knows (Rests a) m) (record_at v p Here m ∙ ap (λ (y : Known). if a == m then Here else y) (unknown m)) ∙ made_of a m (a == m) refl)
+    (λ j x z. absurd (let f : None ≡ Some j = sym (ap token_in phase) ∙ x in cc))).phases
+
+-- by a message at the front of the inbox that is none of the protocol
+front_spots : (v : View) (i j : MsgId) (t : Told) → Plain v i → v.told j ≡ Some t → is_between t.kind ≡ true → (z : Spot) → standing (handled v i) j z ≡ standing v j z
+front_spots v i j t plain told b z = handled_spots v i j (not_true (id_eq i j) (λ e. let is : i ≡ j = id_eq-is i j e in false≢true (sym (plain t (ap v.told is ∙ told)) ∙ b))) z
+
+pub created_phases : (v : View) (i : MsgId) (p : Pid) → InPhases v → Plain v i → ((m : ℕ) → v.known m p ≡ Unknown) → InPhases (view_after v (line.Label (label.Created i p)))
+created_phases v i p h plain unknown = made_phases v (view_after v (line.Label (label.Created i p))) p h unknown refl refl (λ j t e b z. ap (times j) (created_off v i p z) ∙ front_spots v i j t plain e b z)
+
+-- a kill ends its receiver
+killed_is : (v : View) (t : Told) (o : Option Told) → o ≡ Some t → t.kind ≡ kind.Kill → served_told v o ≡ view.ended v t.receiver
+killed_is v t None e k = cc
+killed_is v t (Some s) e k = let f : s ≡ t = cc in ap (λ (u : Told). kills u.kind v (Some u.receiver)) f ∙ ap (λ (n : MessageKind). kills n v (Some t.receiver)) k
+
+pub killed_phases : (v : View) (i : MsgId) (t : Told) → InPhases v → Plain v i → v.told i ≡ Some t → t.kind ≡ kind.Kill → v.known v.acting t.receiver ≡ Here → InPhases (view_after v (line.Label (label.Served i)))
+killed_phases v i t h plain told k here =
+    let w = view.ended (handled v i) t.receiver in
+    subst InPhases (sym (killed_is (handled v i) t (v.told i) told k))
+    (ends_phases v w t.receiver h here refl refl (λ j u e b z. ap (times j) (ended_off (handled v i) t.receiver z) ∙ front_spots v i j u plain e b z))

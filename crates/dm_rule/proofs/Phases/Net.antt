@@ -1,0 +1,190 @@
+-- Heads, deliveries, ticks and the directive to migrate leave all processes in their phases.
+use Rattle.std.proofs.Common.{◌≡◌, ◌⊎◌, ℕ, zero, suc, ◌+◌, ◌≤◌, ◌==◌, ◌&&◌, Bool, true, false, not, filter, List, [], ◌∷◌, ◌++◌, drop, length, refl, ap, ◌∙◌, sym, subst, inl, inr, arith}
+use Rattle.std.specs.Prelude.{if◌then◌else◌, slice_get}
+use Rattle.std.specs.declared.option.Option.{Option}
+use Rattle.std.specs.declared.option.Option.TheVariants.{None, Some}
+use Rattle.std.proofs.lemmas.Bool.{cases_Bool}
+use Rattle.std.proofs.lemmas.Bool.Decides.{nat_tests}
+use Rattle.dm_link.specs.declared.Pid.{Pid}
+use Rattle.dm_link.specs.Names.{pid_eq}
+use Rattle.dm_message.specs.declared.MsgId.{MsgId}
+use Rattle.dm_onekernel.specs.Boot.{switchboard, manager}
+use Rattle.dm_schedule.specs.declared.Step.{Step}
+use Rattle.dm_schedule.specs.declared.Step.TheVariants as step
+use Rattle.dm_line.specs.declared.line.Line.{Line}
+use Rattle.dm_line.specs.declared.line.Line.TheVariants as line
+use Rattle.dm_line.specs.Sets.{at_machine, at_pair}
+use Rattle.dm_rule.specs.View.{View, Pair, view_after, after_head, taken_id, with_pair}
+use Rattle.dm_rule.specs.Addresses.{Addresses, child_number}
+use Rattle.dm_rule.specs.Point.{Point, moved}
+use Rattle.dm_rule.specs.Parts.{Part, Says, Routes, Again, Owns, Transmits, Spelled, packet_line, spelled}
+use Rattle.dm_rule.specs.Migrating.{migrates, migrates_child}
+use Rattle.dm_rule.specs.Spots.{Spot, Queue, Held, Inbox, Untaken, times, untaken, ids_at, standing}
+use Rattle.dm_rule.proofs.Standing.{times-append}
+use Rattle.dm_rule.proofs.Once.{one_of}
+use Rattle.dm_rule.proofs.Lines.{parts, eq_is, at_place, past_place, pair_keeps}
+use Rattle.dm_rule.proofs.States.{says_next, transmits_next, said}
+use Rattle.dm_rule.proofs.Groups.{IsNetLine, IsNet, early_off, acked_off, turn_off, tick_off, deliver_off, migrate_off}
+use Rattle.dm_rule.proofs.Phases.Calm.{Came, Calm, calm_same, calm_trans, calm_still}
+use Rattle.dm_rule.proofs.Phases.Lines.{packet_calm}
+use Rattle.dm_rule.proofs.Phases.Quiet.{AllQuiet, moves_none}
+
+pub head_calm : (v : View) (s : Step) → Calm v (after_head v s)
+head_calm v (step.Turn m) = calm_still v (after_head v (step.Turn m)) (λ n q. refl) (λ i. refl) (λ i z. ap (times i) (turn_off v m z))
+head_calm v (step.Tick m) = calm_still v (after_head v (step.Tick m)) (λ n q. refl) (λ i. refl) (λ i z. ap (times i) (tick_off v m z))
+head_calm v (step.Deliver a b k) = calm_still v (after_head v (step.Deliver a b k)) (λ n q. refl) (λ i. refl) (λ i z. ap (times i) (deliver_off v a b k z))
+head_calm v (step.Migrate p m) = calm_still v (after_head v (step.Migrate p m)) (λ n q. refl) (λ i. refl) (λ i z. ap (times i) (migrate_off v p m z))
+
+-- a message is taken: it comes from the stream to the inbox
+abbrev one_taken : Pair → ℕ → Pair
+one_taken p n = record p { taken = p.taken + 1; kept = filter (λ k. not (k == n)) p.kept }
+
+abbrev taken_view : View → ℕ → ℕ → ℕ → View
+taken_view v a b n = with_pair v a b (one_taken (v.pair a b) n)
+
+none_taken : (p : Pair) (n : ℕ) → slice_get p.ids p.taken ≡ None → untaken (one_taken p n) ≡ untaken p
+none_taken p n is =
+    let k = past_place p.ids p.taken is in
+    let next : p.taken + 1 ≡ suc p.taken = omega arith in
+    ap (λ m. drop m p.ids) next ∙ k.1 ∙ sym k.0
+
+taken_front : (p : Pair) (n : ℕ) (i : MsgId) → slice_get p.ids p.taken ≡ Some i → untaken p ≡ i ∷ untaken (one_taken p n)
+taken_front p n i is =
+    let next : suc p.taken ≡ p.taken + 1 = omega arith in
+    at_place p.ids p.taken i is ∙ ap (λ m. i ∷ drop m p.ids) next
+
+none_off : (v : View) (a b n : ℕ) (z : Spot) → untaken (one_taken (v.pair a b) n) ≡ untaken (v.pair a b) → ids_at (taken_view v a b n) z ≡ ids_at v z
+none_off v a b n (Queue m p) same = refl
+none_off v a b n (Held m p) same = refl
+none_off v a b n (Inbox m) same = refl
+none_off v a b n (Untaken c d) same = pair_keeps v.pair a b (one_taken (v.pair a b) n) same c d
+
+zero_cases : (n : ℕ) → (n ≡ 0) ⊎ (1 ≤ n)
+zero_cases zero = inl refl
+zero_cases (suc n) = inr (omega arith)
+
+-- the stream has one less, and the inbox one more
+stream_back : (v : View) (a b n : ℕ) (i j : MsgId) (c d : ℕ) → untaken (v.pair a b) ≡ i ∷ untaken (one_taken (v.pair a b) n) → 1 ≤ times j (untaken (at_pair v.pair a b (one_taken (v.pair a b) n) c d)) → 1 ≤ times j (untaken (v.pair c d))
+stream_back v a b n i j c d front st = elim (cases_Bool ((a == c) && (b == d))) [
+  | inl same ↦
+      let both = parts (a == c) (b == d) same in
+      let now : times j (untaken (at_pair v.pair a b (one_taken (v.pair a b) n) c d)) ≡ times j (untaken (one_taken (v.pair a b) n)) = ap (λ (t : Bool). times j (untaken (if t then one_taken (v.pair a b) n else v.pair c d))) same in
+      let was : times j (untaken (v.pair a b)) ≡ times j (i ∷ untaken (one_taken (v.pair a b) n)) = ap (times j) front in
+      subst (λ (k : ℕ). 1 ≤ times j (untaken (v.pair c k))) (eq_is b d both.1) (subst (λ (k : ℕ). 1 ≤ times j (untaken (v.pair k b))) (eq_is a c both.0) (omega (arith, st, now, was)))
+  | inr off ↦ subst (λ k. 1 ≤ k) (ap (λ (t : Bool). times j (untaken (if t then one_taken (v.pair a b) n else v.pair c d))) off) st
+]
+
+inbox_back : (v : View) (a b n : ℕ) (i j : MsgId) (m : ℕ) → untaken (v.pair a b) ≡ i ∷ untaken (one_taken (v.pair a b) n) → 1 ≤ times j (at_machine v.inbox b (v.inbox b ++ i ∷ []) m) → Came v j (Inbox m)
+inbox_back v a b n i j m front st = elim (cases_Bool (b == m)) [
+  | inl same ↦
+      let bm : b ≡ m = eq_is b m same in
+      let now : times j (at_machine v.inbox b (v.inbox b ++ i ∷ []) m) ≡ times j (v.inbox b ++ i ∷ []) = ap (λ (c : Bool). times j (if c then v.inbox b ++ i ∷ [] else v.inbox m)) same in
+      let sum = times-append j (v.inbox b) (i ∷ []) in
+      elim (zero_cases (times j (v.inbox b))) [
+        | inl none ↦
+            let was : times j (untaken (v.pair a b)) ≡ times j (i ∷ untaken (one_taken (v.pair a b) n)) = ap (times j) front in
+            inr (Untaken a b, omega (arith, st, now, sum, none, was), ap (λ (k : ℕ). Inbox k) (sym bm))
+        | inr some ↦ inl (subst (λ (k : ℕ). 1 ≤ times j (v.inbox k)) bm some)
+      ]
+  | inr off ↦ inl (subst (λ k. 1 ≤ k) (ap (λ (c : Bool). times j (if c then v.inbox b ++ i ∷ [] else v.inbox m)) off) st)
+]
+
+abbrev came_view : View → ℕ → ℕ → ℕ → MsgId → View
+came_view v a b n i = record (taken_view v a b n) { inbox = at_machine v.inbox b (v.inbox b ++ i ∷ []) }
+
+taken_back : (v : View) (a b n : ℕ) (i j : MsgId) (z : Spot) → untaken (v.pair a b) ≡ i ∷ untaken (one_taken (v.pair a b) n) → 1 ≤ standing (came_view v a b n i) j z → Came v j z
+taken_back v a b n i j (Queue m p) front st = inl st
+taken_back v a b n i j (Held m p) front st = inl st
+taken_back v a b n i j (Inbox m) front st = inbox_back v a b n i j m front st
+taken_back v a b n i j (Untaken c d) front st = inl (stream_back v a b n i j c d front st)
+
+in_inbox : (v : View) (a b n : ℕ) (i j : MsgId) (m : ℕ) → (b == m) ≡ true → 1 ≤ times j (v.inbox b) + one_of j i → 1 ≤ standing (came_view v a b n i) j (Inbox m)
+in_inbox v a b n i j m same st =
+    let now : times j (at_machine v.inbox b (v.inbox b ++ i ∷ []) m) ≡ times j (v.inbox b ++ i ∷ []) = ap (λ (c : Bool). times j (if c then v.inbox b ++ i ∷ [] else v.inbox m)) same in
+    let sum = times-append j (v.inbox b) (i ∷ []) in
+    omega (arith, st, now, sum)
+
+eq_self : (m : ℕ) → (m == m) ≡ true
+eq_self m = grind (arith, nat_tests)
+
+taken_on : (v : View) (a b n : ℕ) (i j : MsgId) (z : Spot) → untaken (v.pair a b) ≡ i ∷ untaken (one_taken (v.pair a b) n) → 1 ≤ standing v j z → (y : Spot) × (1 ≤ standing (came_view v a b n i) j y)
+taken_on v a b n i j (Queue m p) front st = (Queue m p, st)
+taken_on v a b n i j (Held m p) front st = (Held m p, st)
+taken_on v a b n i j (Inbox m) front st = elim (cases_Bool (b == m)) [
+  | inl same ↦
+      let here : 1 ≤ times j (v.inbox b) = subst (λ (k : ℕ). 1 ≤ times j (v.inbox k)) (sym (eq_is b m same)) st in
+      (Inbox m, in_inbox v a b n i j m same (omega (arith, here)))
+  | inr off ↦ (Inbox m, subst (λ k. 1 ≤ k) (sym (ap (λ (c : Bool). times j (if c then v.inbox b ++ i ∷ [] else v.inbox m)) off)) st)
+]
+taken_on v a b n i j (Untaken c d) front st = elim (cases_Bool ((a == c) && (b == d))) [
+  | inl same ↦
+      let both = parts (a == c) (b == d) same in
+      let here : 1 ≤ times j (untaken (v.pair a b)) = subst (λ (k : ℕ). 1 ≤ times j (untaken (v.pair k b))) (sym (eq_is a c both.0)) (subst (λ (k : ℕ). 1 ≤ times j (untaken (v.pair c k))) (sym (eq_is b d both.1)) st) in
+      let was : times j (untaken (v.pair a b)) ≡ times j (i ∷ untaken (one_taken (v.pair a b) n)) = ap (times j) front in
+      let now : times j (untaken (at_pair v.pair a b (one_taken (v.pair a b) n) c d)) ≡ times j (untaken (one_taken (v.pair a b) n)) = ap (λ (t : Bool). times j (untaken (if t then one_taken (v.pair a b) n else v.pair c d))) same in
+      elim (zero_cases (one_of j i)) [
+        | inl none ↦ (Untaken c d, omega (arith, here, was, now, none))
+        | inr some ↦ (Inbox b, in_inbox v a b n i j b (eq_self b) (omega (arith, some)))
+      ]
+  | inr off ↦ (Untaken c d, subst (λ k. 1 ≤ k) (sym (ap (λ (t : Bool). times j (untaken (if t then one_taken (v.pair a b) n else v.pair c d))) off)) st)
+]
+
+taken_by : (v : View) (a b n : ℕ) (o : Option MsgId) → slice_get (v.pair a b).ids (v.pair a b).taken ≡ o → Calm v (taken_id (taken_view v a b n) b o)
+taken_by v a b n None is = calm_still v (taken_view v a b n) (λ m p. refl) (λ i. refl) (λ i z. ap (times i) (none_off v a b n z (none_taken (v.pair a b) n is)))
+taken_by v a b n (Some i) is =
+    let front = taken_front (v.pair a b) n i is in
+    record { known = λ m p. refl; fresh = λ j t e c. e; kept = λ j t e. e; back = λ j t e c z st. taken_back v a b n i j z front st; on = λ j t e c z st. taken_on v a b n i j z front st }
+
+pub taken_calm : (v : View) (a b n : ℕ) → Calm v (view_after v (line.Taken a b n))
+taken_calm v a b n = taken_by v a b n (slice_get (v.pair a b).ids (v.pair a b).taken) refl
+
+net_calm : (v : View) (l : Line) → IsNetLine l → Calm v (view_after v l)
+net_calm v (line.Taken a b n) h = taken_calm v a b n
+net_calm v (line.Old a b n) h = calm_same v
+net_calm v (line.Early a b n) h = moves_none v (line.Early a b n) refl (λ m q. refl) (λ z. early_off v a b n z)
+net_calm v (line.Acked a b n) h = moves_none v (line.Acked a b n) refl (λ m q. refl) (λ z. acked_off v a b n z)
+net_calm v line.Nothing h = calm_same v
+net_calm v (line.Resent m n) h = calm_same v
+net_calm v (line.Head d) h = absurd h
+net_calm v (line.Idle m) h = absurd h
+net_calm v (line.Label l) h = absurd h
+net_calm v (line.Put a b i c q) h = absurd h
+net_calm v (line.Packet a b c l) h = absurd h
+net_calm v (line.Queued i) h = absurd h
+net_calm v (line.Held i) h = absurd h
+net_calm v (line.Forwarded i m) h = absurd h
+net_calm v (line.Updated i n) h = absurd h
+net_calm v (line.Migration st p) h = absurd h
+net_calm v (line.SentOn p n) h = absurd h
+net_calm v (line.Lacks p a b) h = absurd h
+net_calm v (line.Stays p) h = absurd h
+net_calm v (line.Here i) h = absurd h
+net_calm v (line.NoMove i) h = absurd h
+net_calm v (line.Proto i) h = absurd h
+net_calm v (line.NoChild p) h = absurd h
+net_calm v (line.Pinned p) h = absurd h
+
+pub net_parts : (ps : List Part) (pt : Point) (w : Spelled) → IsNet ps → spelled pt ps ≡ Some w → Calm pt.view w.point.view
+net_parts [] pt w h e = subst (λ (q : Point). Calm pt.view q.view) (said pt w e) (calm_same pt.view)
+net_parts (Says l ∷ ps) pt w h e =
+    let k = says_next pt l ps w e in
+    subst (λ (q : Point). Calm pt.view q.view) k.point (calm_trans pt.view (view_after pt.view l) k.rest.point.view (net_calm pt.view l h.0) (net_parts ps (moved pt l k.s) k.rest h.1 k.more))
+net_parts (Routes i ∷ ps) pt w h e = absurd h.0
+net_parts (Again i b ∷ ps) pt w h e = absurd h.0
+net_parts (Owns k q b ∷ ps) pt w h e = absurd h.0
+net_parts (Transmits a b l ∷ ps) pt w h e =
+    let k = transmits_next pt a b l ps w e in
+    subst (λ (q : Point). Calm pt.view q.view) k.point (calm_trans pt.view (view_after pt.view (packet_line pt.view a b l)) k.rest.point.view (packet_calm pt.view a b (length (pt.view.pair a b).wire) l) (net_parts ps (moved pt (packet_line pt.view a b l) pt.kernel) k.rest h.1 k.more))
+
+-- the directive to migrate puts a request, which is none of the protocol
+child_quiet : (v : View) (a : Addresses) (p : Pid) (o : Option ℕ) → AllQuiet v (migrates_child a p o)
+child_quiet v a p None = (tt, tt)
+child_quiet v a p (Some n) = (refl, tt)
+
+migrates_by : (v : View) (o : Point) (p : Pid) (c d : Bool) → AllQuiet v (if c then Says (line.Pinned p) ∷ [] else if d then Says (line.Pinned p) ∷ [] else migrates_child o.addresses p (child_number o.kernel p))
+migrates_by v o p true d = (tt, tt)
+migrates_by v o p false true = (tt, tt)
+migrates_by v o p false false = child_quiet v o.addresses p (child_number o.kernel p)
+
+pub migrates_quiet : (v : View) (o : Point) (p : Pid) → AllQuiet v (migrates o p)
+migrates_quiet v o p = migrates_by v o p (pid_eq p switchboard) (pid_eq p manager)

@@ -1,0 +1,275 @@
+-- The rows of migration that end it, and the one that begins it.
+use Rattle.std.proofs.Common.{◌≡◌, ◌⊎◌, ℕ, zero, suc, ◌+◌, ◌≤◌, ◌==◌, ◌&&◌, Bool, true, false, not, List, [], ◌∷◌, ◌++◌, refl, ap, ◌∙◌, sym, subst, inl, inr, arith}
+use Rattle.std.specs.Prelude.{if◌then◌else◌}
+use Rattle.std.specs.declared.option.Option.{Option}
+use Rattle.std.specs.declared.option.Option.TheVariants.{None, Some}
+use Rattle.std.proofs.lemmas.Bool.{cases_Bool, false≢true}
+use Rattle.std.proofs.lemmas.Bool.Decides.{nat_tests}
+use Rattle.dm_link.specs.declared.Pid.{Pid}
+use Rattle.dm_link.specs.Names.{pid_eq}
+use Rattle.dm_message.specs.declared.MsgId.{MsgId}
+use Rattle.dm_message.specs.declared.kind.MessageKind.{MessageKind}
+use Rattle.dm_message.specs.declared.kind.MessageKind.TheVariants as kind
+use Rattle.dm_message.specs.Ids.{id_eq}
+use Rattle.dm_line.specs.declared.line.Line.{Line}
+use Rattle.dm_line.specs.declared.line.Line.TheVariants as line
+use Rattle.dm_line.specs.declared.line.Stage.TheVariants as stage
+use Rattle.dm_line.specs.Sets.{at_machine, at_record}
+use Rattle.dm_rule.specs.View.{View, Told, Of, Known, Unknown, Here, Frozen, Incoming, Forward, Ended, view_after, handled_first, released, is_kernels, target_of, front_told}
+use Rattle.dm_rule.specs.Point.{Point, label_of, moved}
+use Rattle.dm_rule.specs.Parts.{Says, Spelled, spelled}
+use Rattle.dm_rule.specs.Migrating.{to_kernel}
+use Rattle.dm_rule.specs.Spots.{Spot, Queue, Held, Inbox, Untaken, times, ids_at, standing}
+use Rattle.dm_rule.specs.Phases.{is_between, is_restart, is_early, leaves, comes, is_away, is_here, is_over, Phase, Nowhere, Rests, Over, Moves, knows, token_in, receiver_in}
+use Rattle.dm_laws.proofs.Equal.{id_eq-is, pid_eq-is, pid_eq-same}
+use Rattle.dm_rule.proofs.Standing.{times-append}
+use Rattle.dm_rule.proofs.Lines.{Bag, hidden, Stands, Stands-stays, Stands-handled, parts, eq_is}
+use Rattle.dm_rule.proofs.Letters.{letters}
+use Rattle.dm_rule.proofs.Hushed.{is_put, hushed}
+use Rattle.dm_rule.proofs.Pairs.Lines.{touches, pair_same}
+use Rattle.dm_rule.proofs.States.{State, by_line}
+use Rattle.dm_rule.proofs.Said.{fits_as}
+use Rattle.dm_rule.proofs.Moves.Lists.{Stands-released, first_off}
+use Rattle.dm_rule.proofs.Moves.Sent.{line_next}
+use Rattle.dm_rule.proofs.Moves.Rows.{goes_first, comes_back, home_again, home_off, frozen_off, restarted_off}
+use Rattle.dm_rule.proofs.Phases.Calm.{Came}
+use Rattle.dm_rule.proofs.Phases.Lines.{handled_spots}
+use Rattle.dm_rule.proofs.Phases.Stand.{none_only, Learns, learns_phases}
+use Rattle.dm_rule.proofs.Phases.Answers.{WholeBut, Whole, whole_ends, Due, owns_whole, nowhere_of, first_learns, token_one}
+use Rattle.dm_rule.proofs.Phases.Pieces.{record_off, due_known}
+
+-- held messages come to the inbox
+zero_cases : (n : ℕ) → (n ≡ 0) ⊎ (1 ≤ n)
+zero_cases zero = inl refl
+zero_cases (suc n) = inr (omega arith)
+
+held_back : (v : View) (p : Pid) (j : MsgId) (m : ℕ) (q : Pid) → 1 ≤ times j (at_record v.held v.acting p [] m q) → 1 ≤ times j (v.held m q)
+held_back v p j m q st = elim (cases_Bool ((v.acting == m) && pid_eq p q)) [
+  | inl same ↦ absurd (let none : times j (at_record v.held v.acting p [] m q) ≡ 0 = ap (λ (c : Bool). times j (if c then [] else v.held m q)) same in omega (arith, st, none))
+  | inr off ↦ subst (λ n. 1 ≤ n) (ap (λ (c : Bool). times j (if c then [] else v.held m q)) off) st
+]
+
+inbox_back : (v : View) (p : Pid) (j : MsgId) (m : ℕ) → 1 ≤ times j (at_machine v.inbox v.acting (v.held v.acting p ++ v.inbox v.acting) m) → Came v j (Inbox m)
+inbox_back v p j m st = elim (cases_Bool (v.acting == m)) [
+  | inl same ↦
+      let am : v.acting ≡ m = eq_is v.acting m same in
+      let now : times j (at_machine v.inbox v.acting (v.held v.acting p ++ v.inbox v.acting) m) ≡ times j (v.held v.acting p ++ v.inbox v.acting) = ap (λ (c : Bool). times j (if c then (v.held v.acting p ++ v.inbox v.acting) else v.inbox m)) same in
+      let sum = times-append j (v.held v.acting p) (v.inbox v.acting) in
+      elim (zero_cases (times j (v.held v.acting p))) [
+        | inl none ↦ inl (subst (λ (n : ℕ). 1 ≤ times j (v.inbox n)) am (omega (arith, st, now, sum, none)))
+        | inr some ↦ inr (Held v.acting p, some, ap (λ (n : ℕ). Inbox n) (sym am))
+      ]
+  | inr off ↦ inl (subst (λ n. 1 ≤ n) (ap (λ (c : Bool). times j (if c then (v.held v.acting p ++ v.inbox v.acting) else v.inbox m)) off) st)
+]
+
+released_back : (v : View) (p : Pid) (j : MsgId) (z : Spot) → 1 ≤ standing (released v p) j z → Came v j z
+released_back v p j (Queue m q) st = inl st
+released_back v p j (Held m q) st = inl (held_back v p j m q st)
+released_back v p j (Inbox m) st = inbox_back v p j m st
+released_back v p j (Untaken a b) st = inl st
+
+in_inbox : (v : View) (p : Pid) (j : MsgId) (m : ℕ) → (v.acting == m) ≡ true → 1 ≤ times j (v.held v.acting p) + times j (v.inbox v.acting) → 1 ≤ standing (released v p) j (Inbox m)
+in_inbox v p j m same st =
+    let now : times j (at_machine v.inbox v.acting (v.held v.acting p ++ v.inbox v.acting) m) ≡ times j (v.held v.acting p ++ v.inbox v.acting) = ap (λ (c : Bool). times j (if c then (v.held v.acting p ++ v.inbox v.acting) else v.inbox m)) same in
+    let sum = times-append j (v.held v.acting p) (v.inbox v.acting) in
+    omega (arith, st, now, sum)
+
+eq_self : (m : ℕ) → (m == m) ≡ true
+eq_self m = grind (arith, nat_tests)
+
+released_on : (v : View) (p : Pid) (j : MsgId) (z : Spot) → 1 ≤ standing v j z → (y : Spot) × (1 ≤ standing (released v p) j y)
+released_on v p j (Queue m q) st = (Queue m q, st)
+released_on v p j (Held m q) st = elim (cases_Bool ((v.acting == m) && pid_eq p q)) [
+  | inl same ↦
+      let both = parts (v.acting == m) (pid_eq p q) same in
+      let here : 1 ≤ times j (v.held v.acting p) = subst (λ (r : Pid). 1 ≤ times j (v.held v.acting r)) (sym (pid_eq-is p q both.1)) (subst (λ (n : ℕ). 1 ≤ times j (v.held n q)) (sym (eq_is v.acting m both.0)) st) in
+      (Inbox v.acting, in_inbox v p j v.acting (eq_self v.acting) (omega (arith, here)))
+  | inr off ↦ (Held m q, subst (λ n. 1 ≤ n) (sym (ap (λ (c : Bool). times j (if c then [] else v.held m q)) off)) st)
+]
+released_on v p j (Inbox m) st = elim (cases_Bool (v.acting == m)) [
+  | inl same ↦
+      let here : 1 ≤ times j (v.inbox v.acting) = subst (λ (n : ℕ). 1 ≤ times j (v.inbox n)) (sym (eq_is v.acting m same)) st in
+      (Inbox m, in_inbox v p j m same (omega (arith, here)))
+  | inr off ↦ (Inbox m, subst (λ n. 1 ≤ n) (sym (ap (λ (c : Bool). times j (if c then (v.held v.acting p ++ v.inbox v.acting) else v.inbox m)) off)) st)
+]
+released_on v p j (Untaken a b) st = (Untaken a b, st)
+
+-- the lines that bring a process home
+abbrev pub before_home : View → Pid → View
+before_home v p = home_again (handled_first v) p
+
+back_gone : (pt : Point) (l : Line) (i : MsgId) (is : List MsgId) (p : Pid) (h : State None pt) → is_put l ≡ false → pt.view.inbox pt.view.acting ≡ i ∷ is → ((z : Spot) → ids_at (view_after pt.view l) z ≡ ids_at (released (before_home pt.view p) p) z) → (z : Spot) → standing (view_after pt.view l) i z ≡ 0
+back_gone pt l i is p h quiet front off =
+    let bag = letters h.own pt.kernel.bag in
+    let left : Bag = hidden (Some i) bag in
+    let first : Stands left (handled_first pt.view) = Stands-handled bag pt.view (handled_first pt.view) i is front (first_off pt.view i is front) (λ j. refl) h.stands in
+    let u = before_home pt.view p in
+    let home : Stands left u = Stands-stays left (handled_first pt.view) u (home_off (handled_first pt.view) p) (λ j. refl) first in
+    nowhere_of bag i (standing (view_after pt.view l) i) ((Stands-released left u (view_after pt.view l) p off (λ j. ap (λ (f : MsgId → Option Told). f j) (hushed pt.view l quiet).told) home).kept i)
+
+home_spots : (v : View) (i : MsgId) (is : List MsgId) (p : Pid) (j : MsgId) → v.inbox v.acting ≡ i ∷ is → id_eq i j ≡ false → (z : Spot) → standing (before_home v p) j z ≡ standing v j z
+home_spots v i is p j front apart z = ap (times j) (home_off (handled_first v) p z ∙ first_off v i is front z) ∙ handled_spots v i j apart z
+
+came_home : (v : View) (i : MsgId) (is : List MsgId) (p : Pid) (j : MsgId) → v.inbox v.acting ≡ i ∷ is → id_eq i j ≡ false → (z : Spot) → Came (before_home v p) j z → Came v j z
+came_home v i is p j front apart z c = elim c [
+  | inl s ↦ inl (subst (λ n. 1 ≤ n) (home_spots v i is p j front apart z) s)
+  | inr x ↦ let (y, s, e) = x in inr (y, subst (λ n. 1 ≤ n) (home_spots v i is p j front apart y) s, e)
+]
+
+back_learns : (pt : Point) (l : Line) (i : MsgId) (is : List MsgId) (t : Told) (p : Pid) (h : State None pt) → is_put l ≡ false → pt.view.inbox pt.view.acting ≡ i ∷ is → pt.view.told i ≡ Some t → t.about ≡ Of p
+    → ((z : Spot) → ids_at (view_after pt.view l) z ≡ ids_at (released (before_home pt.view p) p) z) → ((m : ℕ) (q : Pid) → pid_eq p q ≡ false → (view_after pt.view l).known m q ≡ pt.view.known m q) → Learns pt.view (view_after pt.view l) p
+back_learns pt l i is t p h quiet front told about off known =
+    let v = pt.view in
+    let w = view_after v l in
+    let u = before_home v p in
+    let same : (j : MsgId) → w.told j ≡ v.told j = λ j. ap (λ (f : MsgId → Option Told). f j) (hushed v l quiet).told in
+    record {
+      calm = known;
+      fresh = λ j x e b. sym (same j) ∙ e;
+      kept = λ j x e. same j ∙ e;
+      back = λ j x e b z st. elim (cases_Bool (id_eq i j)) [
+        | inl is_i ↦ absurd (let none : standing w j z ≡ 0 = subst (λ (y : MsgId). standing w y z ≡ 0) (id_eq-is i j is_i) (back_gone pt l i is p h quiet front off z) in omega (arith, st, none))
+        | inr apart ↦ came_home v i is p j front apart z (released_back u p j z (subst (λ n. 1 ≤ n) (ap (times j) (off z)) st))
+      ];
+      on = λ j x q apart e b ab z st. elim (cases_Bool (id_eq i j)) [
+        | inl is_i ↦ absurd (
+            let ij : i ≡ j = id_eq-is i j is_i in
+            let f : Some t ≡ Some x = sym told ∙ ap v.told ij ∙ e in
+            let g : t ≡ x = cc in
+            let fq : Of p ≡ Of q = sym about ∙ ap (λ (y : Told). y.about) g ∙ ab in
+            let pq : p ≡ q = cc in
+            false≢true (sym apart ∙ ap (pid_eq p) (sym pq) ∙ pid_eq-same p))
+        | inr off_i ↦
+            let (y, s) = released_on u p j z (subst (λ n. 1 ≤ n) (sym (home_spots v i is p j front off_i z)) st) in
+            (y, subst (λ n. 1 ≤ n) (sym (ap (times j) (off y))) s)
+      ];
+    }
+
+-- it rests on the acting machine
+early_away : (k : MessageKind) (s : ℕ) (y : Known) → is_early k ≡ true → comes k s y ≡ true → is_away y ≡ true
+early_away k s Unknown e h = refl
+early_away k s Here e h = absurd (false≢true h)
+early_away k s (Frozen to) e h = absurd (false≢true h)
+early_away k s (Incoming from) e h = absurd (false≢true (sym (ap (λ (b : Bool). not b && (s == from)) e) ∙ h))
+early_away k s (Forward at moves) e h = refl
+early_away k s Ended e h = absurd (false≢true h)
+
+restart_away : (k : MessageKind) (d : ℕ) (y : Known) → is_restart k ≡ true → leaves k d y ≡ true → is_away y ≡ true
+restart_away k d Unknown e h = absurd (false≢true h)
+restart_away k d Here e h = absurd (false≢true h)
+restart_away k d (Frozen to) e h = absurd (false≢true (sym (ap (λ (b : Bool). not b && (d == to)) e) ∙ h))
+restart_away k d (Incoming from) e h = absurd (false≢true h)
+restart_away k d (Forward at moves) e h = refl
+restart_away k d Ended e h = absurd (false≢true h)
+
+-- the source, when it was refused, and the destination, when it may restart the process
+coming_away : (k : MessageKind) (s d m : ℕ) (y : Known) (c : Bool) → is_early k ≡ true → (if c then comes k s y else is_away y) ≡ true → is_away y ≡ true
+coming_away k s d m y true e h = early_away k s y e h
+coming_away k s d m y false e h = h
+
+left_away : (k : MessageKind) (d : ℕ) (y : Known) (c : Bool) → is_restart k ≡ true → (if c then leaves k d y else is_away y) ≡ true → is_away y ≡ true
+left_away k d y true e h = restart_away k d y e h
+left_away k d y false e h = h
+
+refused_if : (k : MessageKind) (s d m : ℕ) (o : Option MsgId) (b : Bool) (y : Known) → is_early k ≡ true → (s == m) ≡ b → knows (Moves k s d o) m y ≡ true → knows (Rests s) m (if b then Here else y) ≡ true
+refused_if k s d m o true y e f h = ap (λ (c : Bool). if c then is_here Here else is_away Here) f
+refused_if k s d m o false y e f h =
+    ap (λ (c : Bool). if c then is_here y else is_away y) f
+    ∙ coming_away k s d m y (d == m) e (sym (ap (λ (c : Bool). if c then leaves k d y else if d == m then comes k s y else is_away y) f) ∙ h)
+
+restarted_if : (k : MessageKind) (s d m : ℕ) (o : Option MsgId) (b : Bool) (y : Known) → is_restart k ≡ true → (d == m) ≡ b → knows (Moves k s d o) m y ≡ true → knows (Rests d) m (if b then Here else y) ≡ true
+restarted_if k s d m o true y e f h = ap (λ (c : Bool). if c then is_here Here else is_away Here) f
+restarted_if k s d m o false y e f h =
+    ap (λ (c : Bool). if c then is_here y else is_away y) f
+    ∙ left_away k d y (s == m) e (sym (ap (λ (c : Bool). if s == m then leaves k d y else if c then comes k s y else is_away y) f) ∙ h)
+
+and_true : (b : Bool) (x y : Known) → (if b && true then x else y) ≡ (if b then x else y)
+and_true true x y = refl
+and_true false x y = refl
+
+at_acting : (v : View) (a m : ℕ) (p : Pid) (x : Known) → v.acting ≡ a → at_record v.known v.acting p x m p ≡ (if a == m then x else v.known m p)
+at_acting v a m p x e = ap (λ (n : ℕ). at_record v.known n p x m p) e ∙ ap (λ (c : Bool). if (a == m) && c then x else v.known m p) (pid_eq-same p) ∙ and_true (a == m) x (v.known m p)
+
+-- a line brings it home, and nothing is put
+home_row : (pt : Point) (l : Line) (i : MsgId) (is : List MsgId) (t : Told) (at : ℕ) (w : Spelled) (h : Whole pt) (u : Due pt i t h.phases) → label_of l ≡ None → is_put l ≡ false → touches l ≡ false → pt.view.inbox pt.view.acting ≡ i ∷ is → pt.view.told i ≡ Some t → is_kernels i ≡ true
+    → ((z : Spot) → ids_at (view_after pt.view l) z ≡ ids_at (released (before_home pt.view u.p) u.p) z) → (view_after pt.view l).known ≡ at_record pt.view.known pt.view.acting u.p Here → ((m : ℕ) → knows (Rests at) m (at_record pt.view.known pt.view.acting u.p Here m u.p) ≡ true)
+    → spelled pt (Says l ∷ []) ≡ Some w → Whole w.point
+home_row pt l i is t at w h u none quiet calm front told mine off learned known e =
+    let v = pt.view in
+    let next = moved pt l pt.kernel in
+    let n = line_next pt l [] w none e in
+    let others : (m : ℕ) (q : Pid) → pid_eq u.p q ≡ false → (view_after v l).known m q ≡ v.known m q = λ m q apart. ap (λ (f : ℕ → Pid → Known). f m q) learned ∙ record_off v.known v.acting u.p Here m q apart in
+    let learns = back_learns pt l i is t u.p h.state quiet front told (ap (λ (x : Told). x.about) u.told) off others in
+    let turned = learns_phases v next.view u.p (Rests at) h.phases (none_only u.p) learns refl refl (λ m. ap (λ (f : ℕ → Pid → Known). knows (Rests at) m (f m u.p)) learned ∙ known m)
+    (λ j x z. subst (λ (y : MsgId). standing next.view y z ≡ 0) (token_one (h.phases.of u.p) u.k u.s u.d i j u.phase x) (back_gone pt l i is u.p h.state quiet front off z)) in
+    let whole : Whole next = record { state = comes_back pt l i is u.p quiet h.state front mine off; fits = fits_as v next.view (pair_same v l calm) h.fits; phases = turned.phases } in
+    subst Whole n.point (whole_ends next n.rest whole n.more)
+
+pub stays_row : (pt : Point) (i : MsgId) (is : List MsgId) (t : Told) (w : Spelled) (h : Whole pt) (u : Due pt i t h.phases) → u.k ≡ kind.Refuse → pt.view.inbox pt.view.acting ≡ i ∷ is → pt.view.told i ≡ Some t → is_kernels i ≡ true → spelled pt (Says (line.Stays u.p) ∷ []) ≡ Some w → Whole w.point
+stays_row pt i is t w h u e front told mine is_ =
+    let at : pt.view.acting ≡ u.s = u.acting ∙ ap (λ (k : MessageKind). receiver_in k u.s u.d) e in
+    home_row pt (line.Stays u.p) i is t u.s w h u refl refl refl front told mine (λ z. refl) refl
+    (λ m. ap (knows (Rests u.s) m) (at_acting pt.view u.s m u.p Here at) ∙ refused_if u.k u.s u.d m (Some i) (u.s == m) (pt.view.known m u.p) (ap is_early e) refl (due_known pt i t h.phases u m)) is_
+
+pub restart_row : (pt : Point) (i : MsgId) (is : List MsgId) (t : Told) (w : Spelled) (h : Whole pt) (u : Due pt i t h.phases) → u.k ≡ kind.Restart → pt.view.inbox pt.view.acting ≡ i ∷ is → pt.view.told i ≡ Some t → is_kernels i ≡ true → spelled pt (Says (line.Migration stage.Restarted u.p) ∷ []) ≡ Some w → Whole w.point
+restart_row pt i is t w h u e front told mine is_ =
+    let at : pt.view.acting ≡ u.d = u.acting ∙ ap (λ (k : MessageKind). receiver_in k u.s u.d) e in
+    home_row pt (line.Migration stage.Restarted u.p) i is t u.d w h u refl refl refl front told mine (λ z. restarted_off pt.view u.p z) refl
+    (λ m. ap (knows (Rests u.d) m) (at_acting pt.view u.d m u.p Here at) ∙ restarted_if u.k u.s u.d m (Some i) (u.d == m) (pt.view.known m u.p) (ap is_restart e) refl (due_known pt i t h.phases u m)) is_
+
+rests_if : (at m : ℕ) (b : Bool) → (at == m) ≡ b → (if b then is_here Here else is_away Here) ≡ true → Rests at ≡ Rests m
+rests_if at m true e h = ap (λ (n : ℕ). Rests n) (eq_is at m e)
+rests_if at m false e h = absurd (false≢true h)
+
+over_if : (b : Bool) → (if b then is_over Here else is_away Here) ≡ false
+over_if true = refl
+over_if false = refl
+
+moves_if : (k : MessageKind) (s d : ℕ) (b c : Bool) → (if b then leaves k d Here else if c then comes k s Here else is_away Here) ≡ false
+moves_if k s d true c = refl
+moves_if k s d false true = refl
+moves_if k s d false false = refl
+
+away_comes : (a : ℕ) (y : Known) (c : Bool) → is_away y ≡ true → (if c then comes kind.Ask a y else is_away y) ≡ true
+away_comes a Unknown true h = refl
+away_comes a (Forward at moves) true h = refl
+away_comes a Here true h = absurd (false≢true h)
+away_comes a (Frozen to) true h = absurd (false≢true h)
+away_comes a (Incoming from) true h = absurd (false≢true h)
+away_comes a Ended true h = absurd (false≢true h)
+away_comes a y false h = h
+
+-- what is here rests here
+pub rests_here : (phase : Phase) (m : ℕ) → knows phase m Here ≡ true → phase ≡ Rests m
+rests_here Nowhere m e = absurd (false≢true e)
+rests_here (Rests at) m e = rests_if at m (at == m) refl e
+rests_here (Over at) m e = absurd (false≢true (sym (over_if (at == m)) ∙ e))
+rests_here (Moves k s d o) m e = absurd (false≢true (sym (moves_if k s d (s == m) (d == m)) ∙ e))
+
+-- it is frozen, and the other machine is asked
+frozen_if : (a to m : ℕ) (b : Bool) (y : Known) → (a == m) ≡ b → (a == to) ≡ false → knows (Rests a) m y ≡ true → knows (Moves kind.Ask a to None) m (if b then Frozen to else y) ≡ true
+frozen_if a to m true y e f h = ap (λ (c : Bool). if c then leaves kind.Ask to (Frozen to) else if to == m then comes kind.Ask a (Frozen to) else is_away (Frozen to)) e ∙ eq_self to
+frozen_if a to m false y e f h =
+    ap (λ (c : Bool). if c then leaves kind.Ask to y else if to == m then comes kind.Ask a y else is_away y) e
+    ∙ away_comes a y (to == m) (sym (ap (λ (c : Bool). if c then is_here y else is_away y) e) ∙ h)
+
+pub frozen_row : (pt : Point) (i : MsgId) (is : List MsgId) (t : Told) (p : Pid) (to : ℕ) (w : Spelled) (h : Whole pt) → is_between t.kind ≡ false → pt.view.inbox pt.view.acting ≡ i ∷ is → pt.view.told i ≡ Some t → is_kernels i ≡ true → pt.view.known pt.view.acting p ≡ Here → target_of (Some t) ≡ to → (pt.view.acting == to) ≡ false
+    → spelled pt (Says (line.Migration stage.Frozen p) ∷ Says (line.Migration stage.Asked p) ∷ to_kernel kind.Ask to ∷ []) ≡ Some w → Whole w.point
+frozen_row pt i is t p to w h plain front told mine here target apart e =
+    let v = pt.view in
+    let a = v.acting in
+    let l = line.Migration stage.Frozen p in
+    let next = moved pt l pt.kernel in
+    let n = line_next pt l (Says (line.Migration stage.Asked p) ∷ to_kernel kind.Ask to ∷ []) w refl e in
+    let phase : h.phases.of p ≡ Rests a = rests_here (h.phases.of p) a (sym (ap (knows (h.phases.of p) a) here) ∙ (h.phases.each p).known a) in
+    let aim : target_of (front_told v (v.inbox a)) ≡ to = ap (λ (is : List MsgId). target_of (front_told v is)) front ∙ ap target_of told ∙ target in
+    let learns = first_learns pt l i is t p h.state refl front told (λ b. absurd (false≢true (sym plain ∙ b))) (λ z. frozen_off v p z) (λ m q off. record_off v.known a p (Frozen (target_of (front_told v (v.inbox a)))) m q off) in
+    let rested : (m : ℕ) → knows (Rests a) m (v.known m p) ≡ true = λ m. subst (λ (x : Phase). knows x m (v.known m p) ≡ true) phase ((h.phases.each p).known m) in
+    let turned = learns_phases v next.view p (Moves kind.Ask a to None) h.phases (none_only p) learns refl (ap not apart)
+    (λ m. ap (knows (Moves kind.Ask a to None) m) (at_acting v a m p (Frozen (target_of (front_told v (v.inbox a)))) refl) ∙ ap (λ (x : ℕ). knows (Moves kind.Ask a to None) m (if a == m then Frozen x else v.known m p)) aim ∙ frozen_if a to m (a == m) (v.known m p) refl apart (rested m))
+    (λ j x z. absurd (let f : None ≡ Some j = sym (ap token_in phase) ∙ x in cc)) in
+    let whole : WholeBut (Some p) next = record { state = goes_first pt l i is refl h.state front mine (λ z. frozen_off v p z); fits = fits_as v next.view (pair_same v l refl) h.fits; phases = turned.phases } in
+    let asked = line.Migration stage.Asked p in
+    let k = line_next next asked (to_kernel kind.Ask to ∷ []) n.rest refl n.more in
+    let then_ : WholeBut (Some p) (moved next asked next.kernel) = record { state = by_line None next asked refl whole.state whole.state.stands (λ j. refl); fits = whole.fits; phases = turned.phases } in
+    subst Whole n.point (subst Whole k.point (owns_whole (moved next asked next.kernel) p kind.Ask a to to k.rest then_ turned.now refl refl refl k.more))

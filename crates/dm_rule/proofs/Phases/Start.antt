@@ -1,0 +1,75 @@
+-- Before the first line each process of the boot file, and each server, rests where it starts.
+use Rattle.std.proofs.Common.{◌≡◌, ℕ, ◌==◌, ◌&&◌, ◌||◌, Bool, true, false, List, [], ◌∷◌, refl, ap, ◌∙◌, arith}
+use Rattle.std.specs.Prelude.{if◌then◌else◌}
+use Rattle.std.specs.declared.option.Option.TheVariants.{None, Some}
+use Rattle.std.proofs.lemmas.Bool.{false≢true}
+use Rattle.std.proofs.lemmas.Bool.Decides.{nat_tests}
+use Rattle.dm_link.specs.declared.Pid.{Pid}
+use Rattle.dm_link.specs.Names.{pid_eq}
+use Rattle.dm_onekernel.specs.declared.boot.BootProcess.{BootProcess}
+use Rattle.dm_onekernel.specs.declared.boot.Boot.{Boot}
+use Rattle.dm_onekernel.specs.Boot.{switchboard, manager}
+use Rattle.dm_rule.specs.View.{View, Known, Unknown, Here, known_at, first_view}
+use Rattle.dm_rule.specs.Phases.{Phase, Nowhere, Rests, knows, is_here, is_away, HasToken, is_apart, is_due}
+use Rattle.dm_laws.proofs.Equal.{pid_eq-is}
+use Rattle.dm_rule.proofs.Phases.Stand.{InPhases}
+
+abbrev pub starts : List BootProcess → Pid → Bool
+starts [] q = pid_eq q switchboard || pid_eq q manager
+starts (p ∷ ps) q = pid_eq p.pid q || starts ps q
+
+abbrev at_home : Bool → Pid → ℕ → Known
+at_home b q m = if b && (q.home == m) then Here else Unknown
+
+server_home : (q : Pid) (m : ℕ) → (if (m == 0) && (pid_eq q switchboard || pid_eq q manager) then Here else Unknown) ≡ at_home (pid_eq q switchboard || pid_eq q manager) q m
+server_home q m = ap (λ (b : Bool). if b then Here else Unknown) (let e : ((m == 0) && (pid_eq q switchboard || pid_eq q manager)) ≡ ((pid_eq q switchboard || pid_eq q manager) && (q.home == m)) = grind (arith, nat_tests) in e)
+
+again_if : (c s : Bool) → (if c then Here else (if s && c then Here else Unknown)) ≡ (if c then Here else Unknown)
+again_if true s = refl
+again_if false true = refl
+again_if false false = refl
+
+start_if : (p q : Pid) (m : ℕ) (b : Bool) (s : Bool) → pid_eq p q ≡ b → (if b && (p.home == m) then Here else at_home s q m) ≡ at_home (b || s) q m
+start_if p q m true s e = let is : p ≡ q = pid_eq-is p q e in ap (λ (r : Pid). if r.home == m then Here else at_home s q m) is ∙ again_if (q.home == m) s
+start_if p q m false s e = refl
+
+pub start_known : (ps : List BootProcess) (m : ℕ) (q : Pid) → known_at ps m q ≡ at_home (starts ps q) q m
+start_known [] m q = server_home q m
+start_known (p ∷ ps) m q = ap (λ (k : Known). if pid_eq p.pid q && (p.pid.home == m) then Here else k) (start_known ps m q) ∙ start_if p.pid q m (pid_eq p.pid q) (starts ps q) refl
+
+abbrev pub start_phase : Bool → Pid → Phase
+start_phase true q = Rests q.home
+start_phase false q = Nowhere
+
+knows_if : (c : Bool) → (if c then is_here (if c then Here else Unknown) else is_away (if c then Here else Unknown)) ≡ true
+knows_if true = refl
+knows_if false = refl
+
+start_knows : (b : Bool) (q : Pid) (m : ℕ) → knows (start_phase b q) m (at_home b q m) ≡ true
+start_knows true q m = knows_if (q.home == m)
+start_knows false q m = refl
+
+start_token : (v : View) (b : Bool) (q : Pid) → HasToken v q (start_phase b q)
+start_token v true q = tt
+start_token v false q = tt
+
+start_apart : (b : Bool) (q : Pid) → is_apart (start_phase b q) ≡ true
+start_apart true q = refl
+start_apart false q = refl
+
+start_put : (b : Bool) (q : Pid) → is_due (start_phase b q) ≡ true → ⊥
+start_put true q e = false≢true e
+start_put false q e = false≢true e
+
+pub phases_start : (b : Boot) → InPhases (first_view b)
+phases_start b = record {
+  of = λ q. start_phase (starts b.processes q) q;
+  each = λ q. record {
+    known = λ m. ap (knows (start_phase (starts b.processes q) q) m) (start_known b.processes m q) ∙ start_knows (starts b.processes q) q m;
+    token = start_token (first_view b) (starts b.processes q) q;
+    alone = λ i t z told bt about st. cc;
+    apart = start_apart (starts b.processes q) q;
+  };
+  put = λ q e. absurd (start_put (starts b.processes q) q e);
+  about = λ i t told bt. absurd (let f : None ≡ Some t = told in cc);
+}

@@ -1,0 +1,177 @@
+-- Each group keeps that rings list what is here, and that nothing is known of what was never made.
+use Rattle.std.proofs.Common.{◌≡◌, ℕ, ◌+◌, ◌==◌, Bool, true, false, is_some, nat_lt, List, [], ◌∷◌, length, refl, ap, ◌∙◌, sym, subst, arith}
+use Rattle.std.specs.Prelude.{if◌then◌else◌, slice_get}
+use Rattle.std.specs.declared.option.Option.{Option}
+use Rattle.std.specs.declared.option.Option.TheVariants.{None, Some}
+use Rattle.std.proofs.lemmas.Bool.{false≢true}
+use Rattle.std.proofs.lemmas.Bool.Decides.{nat_tests}
+use Rattle.dm_link.specs.declared.Pid.{Pid}
+use Rattle.dm_link.specs.Names.{pid_of}
+use Rattle.dm_message.specs.declared.MsgId.{MsgId}
+use Rattle.dm_message.specs.declared.kind.MessageKind.{MessageKind}
+use Rattle.dm_message.specs.Kinds.{plain_kind}
+use Rattle.dm_onekernel.specs.declared.boot.Boot.{Boot}
+use Rattle.dm_onekernel.specs.Boot.{first_number}
+use Rattle.dm_onekernel.specs.Options.{bind}
+use Rattle.dm_onekernel.specs.Kernel.{Life, OneKernel}
+use Rattle.dm_onekernel.specs.Step as kernel
+use Rattle.dm_schedule.specs.declared.Step.{Step}
+use Rattle.dm_schedule.specs.declared.Step.TheVariants as step
+use Rattle.dm_line.specs.declared.line.Line.{Line}
+use Rattle.dm_line.specs.declared.line.Line.TheVariants as line
+use Rattle.dm_line.specs.declared.line.Load.{Load}
+use Rattle.dm_line.specs.declared.line.Load.TheVariants as load
+use Rattle.dm_rule.specs.View.{Told, Of, Known, Here, own_id}
+use Rattle.dm_rule.specs.Addresses.{Receiver}
+use Rattle.dm_rule.specs.Point.{Point, label_of, kernel_after, moved, after_line, after}
+use Rattle.dm_rule.specs.Parts.{Part, Says, Routes, Again, Owns, Transmits, Spelled, lines_of, puts, goes_out, packet_line, behind, spelled}
+use Rattle.dm_rule.specs.Migrating.{migrates}
+use Rattle.dm_rule.specs.Phases.{is_between, Phase, Moves, knows}
+use Rattle.dm_rule.specs.Rule as rule
+use Rattle.dm_rule.specs.Rule.{group_of}
+use Rattle.dm_laws.proofs.Entered.{Made}
+use Rattle.dm_laws.proofs.Steps.{bind-is}
+use Rattle.dm_rule.proofs.Groups.{group_is, arrives_net, resends_net}
+use Rattle.dm_rule.proofs.Telling.{Sane, AllSayable, sane_line, part_sane, outcome_sayable}
+use Rattle.dm_rule.proofs.Phases.Stand.{InPhases, calm_phases}
+use Rattle.dm_rule.proofs.Phases.Answers.{due}
+use Rattle.dm_rule.proofs.Phases.Net.{head_calm}
+use Rattle.dm_rule.proofs.Phases.Groups.{Rooted}
+use Rattle.dm_rule.proofs.Rings.{AllHere}
+use Rattle.dm_rule.proofs.Rooted.Lines.{Roots, Needs, line_roots}
+use Rattle.dm_rule.proofs.Rooted.Rows.{NeedsPart, First, FirstOf, loose_first}
+use Rattle.dm_rule.proofs.Rooted.Turns.{Asks, turns_first, net_loose, migrates_loose}
+
+abbrev pub Grounded : Point → Type 0
+Grounded pt = Roots pt.kernel pt.view
+
+-- puts and packets change neither
+quiet_put : (pt : Point) (a b : ℕ) (i : MsgId) (k : MessageKind) (q : Pid) → Grounded pt → Grounded (moved pt (line.Put a b i k q) pt.kernel)
+quiet_put pt a b i k q h = record { rings = record { each = h.rings.each }; lives = record { none = h.lives.none } }
+
+quiet_packet : (pt : Point) (a b k : ℕ) (l : Load) → Grounded pt → Grounded (moved pt (line.Packet a b k l) pt.kernel)
+quiet_packet pt a b k l h = record { rings = record { each = h.rings.each }; lives = record { none = h.lives.none } }
+
+puts_by : (pt next : Point) (b : ℕ) (i : MsgId) (k : MessageKind) (q : Pid) (c d : Bool) → Grounded pt
+    → after pt (line.Put pt.view.acting b i k q ∷ (if c then [] else if d then packet_line pt.view pt.view.acting b (load.Data (length (pt.view.pair pt.view.acting b).ids)) ∷ [] else [])) ≡ Some next → Grounded next
+puts_by pt next b i k q true d h is =
+    let f : moved pt (line.Put pt.view.acting b i k q) pt.kernel ≡ next = cc in subst Grounded f (quiet_put pt pt.view.acting b i k q h)
+puts_by pt next b i k q false false h is =
+    let f : moved pt (line.Put pt.view.acting b i k q) pt.kernel ≡ next = cc in subst Grounded f (quiet_put pt pt.view.acting b i k q h)
+puts_by pt next b i k q false true h is =
+    let n = length (pt.view.pair pt.view.acting b).wire in
+    let l = load.Data (length (pt.view.pair pt.view.acting b).ids) in
+    let mid = moved pt (line.Put pt.view.acting b i k q) pt.kernel in
+    let f : moved mid (line.Packet pt.view.acting b n l) mid.kernel ≡ next = cc in
+    subst Grounded f (quiet_packet mid pt.view.acting b n l (quiet_put pt pt.view.acting b i k q h))
+
+puts_ground : (pt next : Point) (b : ℕ) (i : MsgId) (k : MessageKind) (q : Pid) (ls : List Line) → Grounded pt → Some (puts pt.view b i k q) ≡ Some ls → after pt ls ≡ Some next → Grounded next
+puts_ground pt next b i k q ls h is leads =
+    let f : puts pt.view b i k q ≡ ls = cc in
+    puts_by pt next b i k q (pt.view.acting == b) (goes_out (pt.view.pair pt.view.acting b)) h (ap (after pt) f ∙ leads)
+
+one_line : (pt next : Point) (l : Line) (ls : List Line) → Needs pt l → Sane pt → Some (l ∷ []) ≡ Some ls → after pt ls ≡ Some next → Grounded pt → Grounded next
+one_line pt next l ls need sane is leads h =
+    let f : l ∷ [] ≡ ls = cc in
+    let (mid, first, last) = bind-is (after_line pt l) (λ q. after q []) next (ap (after pt) f ∙ leads) in
+    let (s, step_, then_) = bind-is (kernel_after pt.kernel (label_of l)) (λ s. Some (moved pt l s)) mid first in
+    let g : moved pt l s ≡ mid = cc in
+    let e : mid ≡ next = cc in
+    subst Grounded (g ∙ e) (line_roots pt s l need sane step_ h)
+
+part_ground : (pt next : Point) (p : Part) (ls : List Line) → NeedsPart pt p → Sane pt → lines_of pt p ≡ Some ls → after pt ls ≡ Some next → Grounded pt → Grounded next
+part_ground pt next (Says l) ls need sane is leads h = one_line pt next l ls need sane is leads h
+part_ground pt next (Routes i) ls need sane is leads h =
+    let (m, there, last) = bind-is (pt.kernel.bag i) (λ m. Some (puts pt.view (pt.addresses (Receiver i)).at i (plain_kind m.what) m.to)) ls is in
+    puts_ground pt next (pt.addresses (Receiver i)).at i (plain_kind m.what) m.to ls h last leads
+part_ground pt next (Again i b) ls need sane is leads h =
+    let (t, there, last) = bind-is (pt.view.told i) (λ t. Some (puts pt.view b i t.kind t.receiver)) ls is in
+    puts_ground pt next b i t.kind t.receiver ls h last leads
+part_ground pt next (Owns k q b) ls need sane is leads h = puts_ground pt next b (own_id pt.view) k q ls h is leads
+part_ground pt next (Transmits a b l) ls need sane is leads h = one_line pt next (packet_line pt.view a b l) ls tt sane is leads h
+
+parts_ground : (ps : List Part) (pt : Point) (w : Spelled) → AllSayable ps → First pt ps → Sane pt → spelled pt ps ≡ Some w → Grounded pt → Grounded w.point
+parts_ground [] pt w ok need sane is h = let f : record { lines = []; point = pt } ≡ w = cc in subst (λ (x : Spelled). Grounded x.point) f h
+parts_ground (p ∷ ps) pt w ok need sane is h =
+    let (ls, lines, rest) = bind-is (lines_of pt p) (λ (xs : List Line). bind (after pt xs) (λ (q : Point). bind (spelled q ps) (λ (z : Spelled). Some (behind xs z)))) w is in
+    let (next, leads, last) = bind-is (after pt ls) (λ (q : Point). bind (spelled q ps) (λ (z : Spelled). Some (behind ls z))) w rest in
+    let (z, more, end) = bind-is (spelled next ps) (λ (y : Spelled). Some (behind ls y)) w last in
+    let f : behind ls z ≡ w = cc in
+    subst (λ (x : Spelled). Grounded x.point) f (parts_ground ps next z ok.1 (loose_first next ps need.1) (part_sane pt next p ls ok.0 lines leads sane) more (part_ground pt next p ls need.0 sane lines leads h))
+
+-- what the phases say: a process that is asked for is here nowhere
+pub moves_away : (k : MessageKind) (s d m : ℕ) (o : Option MsgId) (b c : Bool) → (s == m) ≡ b → (d == m) ≡ c → knows (Moves k s d o) m Here ≡ false
+moves_away k s d m o true c e f = ap (λ (x : Bool). if x then false else if d == m then false else false) e
+moves_away k s d m o false true e f = ap (λ (x : Bool). if x then false else if d == m then false else false) e ∙ ap (λ (x : Bool). if x then false else false) f
+moves_away k s d m o false false e f = ap (λ (x : Bool). if x then false else if d == m then false else false) e ∙ ap (λ (x : Bool). if x then false else false) f
+
+asks_by : (pt : Point) (i : MsgId) (is : List MsgId) (t : Told) → InPhases pt.view → pt.view.inbox pt.view.acting ≡ i ∷ is → pt.view.told i ≡ Some t → Asks pt t
+asks_by pt i is t h front told e p about here =
+    let v = pt.view in
+    let u = due pt i is t h front told (ap is_between e) in
+    let same : u.p ≡ p = (let f : Of u.p ≡ Of p = sym (ap (λ (y : Told). y.about) u.told) ∙ about in cc) in
+    let known : knows (h.of u.p) v.acting (v.known v.acting u.p) ≡ true = (h.each u.p).known v.acting in
+    let now : knows (Moves u.k u.s u.d (Some i)) v.acting Here ≡ true = sym (ap (λ (x : Phase). knows x v.acting Here) u.phase) ∙ sym (ap (knows (h.of u.p) v.acting) (ap (v.known v.acting) same ∙ here)) ∙ known in
+    false≢true (sym (moves_away u.k u.s u.d v.acting (Some i) (u.s == v.acting) (u.d == v.acting) refl refl) ∙ now)
+
+-- what is served is in the ring
+served_if : (s : OneKernel) (queue : Pid → List MsgId) (f : Pid → Known) (p q : Pid) (ps : List Pid) (c : Bool) → (if c then Some p else rule.first_runnable s queue ps) ≡ Some q → f p ≡ Here → (rule.first_runnable s queue ps ≡ Some q → f q ≡ Here) → f q ≡ Here
+served_if s queue f p q ps true e here rest = ap f (let g : q ≡ p = cc in g) ∙ here
+served_if s queue f p q ps false e here rest = rest e
+
+served_here : (s : OneKernel) (queue : Pid → List MsgId) (f : Pid → Known) (q : Pid) (ps : List Pid) → AllHere f ps → rule.first_runnable s queue ps ≡ Some q → f q ≡ Here
+served_here s queue f q [] h e = cc
+served_here s queue f q (p ∷ ps) h e = served_if s queue f p q ps (rule.can_go s (queue p) (kernel.alive (s.processes p))) e h.0 (λ k. served_here s queue f q ps h.1 k)
+
+-- the next number of a home is no process's
+none_below : (s : OneKernel) (p : Pid) (o : Option Life) → s.processes p ≡ o → (is_some (s.processes p) ≡ true → nat_lt p.num (3 + s.made p.home) ≡ true) → p.num ≡ first_number + s.made p.home → o ≡ None
+none_below s p None e h n = refl
+none_below s p (Some l) e h n = absurd (let k = h (ap is_some e) in let z : nat_lt p.num (3 + s.made p.home) ≡ false = grind (arith, nat_tests) in false≢true (sym z ∙ k))
+
+next_none : (s : OneKernel) (home : ℕ) → Made s → s.processes (pid_of home (first_number + s.made home)) ≡ None
+next_none s home h = none_below s (pid_of home (first_number + s.made home)) (s.processes (pid_of home (first_number + s.made home))) refl (h.most (pid_of home (first_number + s.made home))) refl
+
+pub rooted : (pt : Point) → Sane pt → Grounded pt → Rooted pt
+rooted pt sane h = record {
+  served = λ m p is. served_here pt.kernel (pt.view.queue m) (pt.view.known m) p (pt.view.ring m) (h.rings.each m) is;
+  unborn = λ m n. h.lives.none (pid_of m (first_number + pt.kernel.made m)) (next_none pt.kernel m sane.sound.made) (omega arith) n;
+}
+
+-- a group
+abbrev begun : Point → Step → Point
+begun pt d = moved pt (line.Head d) pt.kernel
+
+begun_sane : (pt : Point) (d : Step) → Sane pt → Sane (begun pt d)
+begun_sane pt d h = sane_line pt (begun pt d) (line.Head d) refl refl h
+
+begun_ground : (pt : Point) (d : Step) → Sane pt → Grounded pt → Grounded (begun pt d)
+begun_ground pt d sane h = line_roots pt pt.kernel (line.Head d) tt sane refl h
+
+first_some : (pt : Point) (o : Option (List Part)) (ps : List Part) → o ≡ Some ps → FirstOf pt o → First pt ps
+first_some pt o ps e h = subst (FirstOf pt) e h
+
+group_ground : (b : Boot) (pt : Point) (d : Step) (w : Spelled) → group_of b pt d ≡ Some w → ((ps : List Part) → rule.outcome b pt d ≡ Some ps → First (begun pt d) ps) → Sane pt → Grounded pt → Grounded w.point
+group_ground b pt d w e first sane h =
+    let g = group_is b pt d w e in
+    subst Grounded g.point (parts_ground g.parts (begun pt d) g.rest (outcome_sayable b pt d g.parts g.is) (first g.parts g.is) (begun_sane pt d sane) g.said (begun_ground pt d sane h))
+
+pub roots_group : (b : Boot) (pt : Point) (d : Step) (w : Spelled) → group_of b pt d ≡ Some w → InPhases pt.view → Sane pt → Grounded pt → Grounded w.point
+roots_group b pt (step.Turn m) w e phases sane h =
+    let start = begun pt (step.Turn m) in
+    let ground = begun_ground pt (step.Turn m) sane h in
+    let there : InPhases start.view = calm_phases pt.view start.view (head_calm pt.view (step.Turn m)) phases in
+    group_ground b pt (step.Turn m) w e
+    (λ ps is. first_some start (rule.turns b pt m (pt.view.inbox m)) ps is
+    (turns_first start b pt m (pt.view.inbox m) refl ground.lives (λ p. refl) (λ p runs. (rooted pt sane h).served m p runs) (λ i is t front told. asks_by start i is t there front told))) sane h
+roots_group b pt (step.Tick m) w e phases sane h =
+    group_ground b pt (step.Tick m) w e
+    (λ ps is. first_some (begun pt (step.Tick m)) (rule.outcome b pt (step.Tick m)) ps is (tt, net_loose (rule.resends pt.view m pt.kernel.machines) (resends_net pt.view m pt.kernel.machines))) sane h
+roots_group b pt (step.Deliver a c k) w e phases sane h =
+    let qs = rule.arrives a c (pt.view.pair a c) (pt.view.pair c a) (slice_get (pt.view.pair a c).wire k) in
+    let start = begun pt (step.Deliver a c k) in
+    group_ground b pt (step.Deliver a c k) w e
+    (λ ps is. first_some start (rule.outcome b pt (step.Deliver a c k)) ps is (loose_first start qs (net_loose qs (arrives_net a c (pt.view.pair a c) (pt.view.pair c a) (slice_get (pt.view.pair a c).wire k))))) sane h
+roots_group b pt (step.Migrate p m) w e phases sane h =
+    let start = begun pt (step.Migrate p m) in
+    group_ground b pt (step.Migrate p m) w e
+    (λ ps is. first_some start (rule.outcome b pt (step.Migrate p m)) ps is (loose_first start (migrates pt p) (migrates_loose pt p))) sane h

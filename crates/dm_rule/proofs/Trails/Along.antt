@@ -1,0 +1,45 @@
+-- Along lines that fit, and along runs whose groups' lines do.
+use Rattle.std.proofs.Common.{◌≡◌, ℕ, List, [], ◌∷◌, subst}
+use Rattle.std.specs.Prelude.{⊤}
+use Rattle.std.specs.declared.option.Option.TheVariants.{Some}
+use Rattle.dm_onekernel.specs.declared.boot.Boot.{Boot}
+use Rattle.dm_onekernel.specs.Boot.{IsValid}
+use Rattle.dm_schedule.specs.declared.Step.{Step}
+use Rattle.dm_laws.proofs.Steps.{bind-is}
+use Rattle.dm_line.specs.declared.line.Line.{Line}
+use Rattle.dm_rule.specs.Laws.{IsStep}
+use Rattle.dm_rule.specs.Parts.{Spelled}
+use Rattle.dm_rule.specs.Point.{Point, after_line}
+use Rattle.dm_rule.specs.Rule.{group_of}
+use Rattle.dm_rule.specs.Trails.{Trails, Trodden, first_trodden, along, trails_after, LeadsAlong, TrailsAlways}
+use Rattle.dm_rule.proofs.Trails.Treads.{Treads, LineFits, line_treads}
+use Rattle.dm_rule.proofs.Trails.Within.{Within}
+use Rattle.dm_rule.proofs.Trails.Found.{treads_start, address_leads}
+
+-- each of these lines fits where the ones before lead
+abbrev pub AllFit : Point → Trails → List Line → Type 0
+AllFit pt t [] = ⊤
+AllFit pt t (l ∷ ls) = LineFits pt t l × ((next : Point) → after_line pt l ≡ Some next → AllFit next (trails_after pt.view t l) ls)
+
+pub along_treads : (ls : List Line) (x y : Trodden) → along x ls ≡ Some y → AllFit x.point x.trails ls → Treads x.point x.trails → Treads y.point y.trails
+along_treads [] x y is fits h = let f : x ≡ y = cc in subst (λ (z : Trodden). Treads z.point z.trails) f h
+along_treads (l ∷ ls) x y is fits h =
+    let (next, comes, rest) = bind-is (after_line x.point l) (λ (n : Point). along (record { point = n; trails = trails_after x.point.view x.trails l }) ls) y is in
+    along_treads ls (record { point = next; trails = trails_after x.point.view x.trails l }) y rest (fits.1 next comes) (line_treads x.point next x.trails l comes fits.0 h)
+
+-- whatever else holds of all points that the rule leads to, so that the lines of the next group fit
+pub record Carries (Holds : Boot → Trodden → Type 0) : Type 0 where
+  pub start : (b : Boot) → IsValid b → Holds b (first_trodden b)
+  pub fits : (b : Boot) (x : Trodden) (e : Step) (w : Spelled) → IsStep x.point.kernel.machines e → group_of b x.point e ≡ Some w → Holds b x → Treads x.point x.trails → AllFit x.point x.trails w.lines
+  pub keeps : (b : Boot) (x y : Trodden) (e : Step) (w : Spelled) → IsStep x.point.kernel.machines e → group_of b x.point e ≡ Some w → along x w.lines ≡ Some y → Holds b x → Treads x.point x.trails → Holds b y
+  pub within : (b : Boot) (x : Trodden) → Holds b x → Within x.point.kernel.machines x.point.view
+
+run_treads : (Holds : Boot → Trodden → Type 0) → Carries Holds → (b : Boot) (es : List Step) (x end : Trodden) → LeadsAlong b x es end → Holds b x → Treads x.point x.trails → Holds b end × Treads end.point end.trails
+run_treads Holds c b [] x end is g h = (subst (Holds b) is g, subst (λ (z : Trodden). Treads z.point z.trails) is h)
+run_treads Holds c b (e ∷ es) x end (w, y, step, group, comes, rest) g h =
+    run_treads Holds c b es y end rest (c.keeps b x y e w step group comes g h) (along_treads w.lines x y comes (c.fits b x e w step group g h) h)
+
+pub trails_always_by : (Holds : Boot → Trodden → Type 0) → Carries Holds → TrailsAlways
+trails_always_by Holds c b es x h q n m valid way named there machines =
+    let (g, t) = run_treads Holds c b es (first_trodden b) x way (c.start b valid) (treads_start b valid) in
+    address_leads x.point x.trails h q n m t (subst (λ (k : ℕ). Within k x.point.view) machines (c.within b x g)) named there

@@ -1,0 +1,118 @@
+-- Each label keeps each address on its trail.
+use Rattle.std.proofs.Common.{◌≡◌, true, refl, ap, ◌∙◌, sym, subst}
+use Rattle.std.specs.declared.option.Option.{Option}
+use Rattle.std.specs.declared.option.Option.TheVariants.{None, Some}
+use Rattle.dm_link.specs.declared.Pid.{Pid}
+use Rattle.dm_link.specs.Names.{Place}
+use Rattle.dm_message.specs.declared.MsgId.{MsgId}
+use Rattle.dm_message.specs.declared.kind.MessageKind.{MessageKind}
+use Rattle.dm_message.specs.declared.kind.MessageKind.TheVariants as kind
+use Rattle.dm_onekernel.specs.Boot.{manager}
+use Rattle.dm_onekernel.specs.declared.label.Label.{Label}
+use Rattle.dm_onekernel.specs.declared.label.Label.TheVariants as label
+use Rattle.dm_onekernel.specs.Kernel.{OneKernel}
+use Rattle.dm_onekernel.specs.Step as kernel
+use Rattle.dm_line.specs.declared.line.Line.TheVariants as line
+use Rattle.dm_rule.specs.View.{View, Told, Here, is_kernels, after_label, served_told, kills, handled, dropped_for, receiver_of}
+use Rattle.dm_rule.specs.Addresses.{Addresses, Receiver, Sender, given, gives, here}
+use Rattle.dm_rule.specs.Homes.{ascends, to_of}
+use Rattle.dm_rule.specs.Phases.{Phase, Rests, IsIn, knows}
+use Rattle.dm_rule.specs.Trails.{Trails, Trail, Stood, IsOn, AddressesOn, OwnOn}
+use Rattle.dm_rule.proofs.Hushed.{hushed}
+use Rattle.dm_rule.proofs.Homes.{homes_are, at_home}
+use Rattle.dm_rule.proofs.Homes.Serves.{Named, EndedAt}
+use Rattle.dm_rule.proofs.Homes.Labels.{SaidOn, label_on}
+use Rattle.dm_rule.proofs.Phases.Rests.{rests_here}
+use Rattle.dm_rule.proofs.Trails.Spares.{Outside, gives_spares, spared_receiver, spared_sender}
+
+-- where a process is here, it is at the end of its trail
+pub here_on : (v : View) (t : Trails) (p : Pid) (phase : Phase) → IsIn v p phase → v.known v.acting p ≡ Here → Stood v t p phase → IsOn t p (here v p)
+here_on v t p phase h at stood =
+    let is : phase ≡ Rests v.acting = rests_here phase v.acting (sym (ap (knows phase v.acting) at) ∙ h.known v.acting) in
+    (subst (Stood v t p) is stood).now
+
+-- where a message's receiver has ended, the message's own address says where
+pub ended_on : (s : OneKernel) (v : View) (a : Addresses) (t : Trails) (id : MsgId) → (a (Receiver id)).at ≡ v.acting → AddressesOn s a t → EndedAt (IsOn t) s v a id
+ended_on s v a t id at links m there = links (Receiver id) m.to (ap to_of there) ∙ ap Some at
+
+-- the addresses of the kernel without machines
+pub label_links : (s t : OneKernel) (v : View) (a : Addresses) (tr : Trails) (l : Label) → kernel.step s l ≡ Some t → Named s → SaidOn (IsOn tr) s v a l → ((q : Pid) → Trail v tr q) → ascends 0 s.manager.pending s.manager.sent ≡ true → AddressesOn s a tr
+    → AddressesOn t (given a (gives s v a l)) tr
+label_links s t v a tr l is named said trail pending links =
+    homes_are (IsOn tr) t (given a (gives s v a l)) (label_on (IsOn tr) s t v a l is named said (at_home (IsOn tr) s a (λ q. (trail q).begins) links pending))
+
+pub label_pending : (s t : OneKernel) (v : View) (a : Addresses) (tr : Trails) (l : Label) → kernel.step s l ≡ Some t → Named s → SaidOn (IsOn tr) s v a l → ((q : Pid) → Trail v tr q) → ascends 0 s.manager.pending s.manager.sent ≡ true → AddressesOn s a tr
+    → ascends 0 t.manager.pending t.manager.sent ≡ true
+label_pending s t v a tr l is named said trail pending links = (label_on (IsOn tr) s t v a l is named said (at_home (IsOn tr) s a (λ q. (trail q).begins) links pending)).pending
+
+-- a label tells nothing of messages, and isn't about a place
+kills_topic : (v : View) (k : MessageKind) (o : Option Pid) → (kills k v o).topic ≡ v.topic
+kills_topic v kind.Kill (Some p) = refl
+kills_topic v kind.Kill None = refl
+kills_topic v kind.User o = refl
+kills_topic v kind.Stop o = refl
+kills_topic v kind.Resume o = refl
+kills_topic v kind.Read o = refl
+kills_topic v kind.Write o = refl
+kills_topic v kind.Block o = refl
+kills_topic v kind.Written o = refl
+kills_topic v kind.Gone o = refl
+kills_topic v kind.Create o = refl
+kills_topic v kind.Created o = refl
+kills_topic v kind.NoRoom o = refl
+kills_topic v kind.Migrate o = refl
+kills_topic v kind.Update o = refl
+kills_topic v kind.Ask o = refl
+kills_topic v kind.Refuse o = refl
+kills_topic v kind.PullState o = refl
+kills_topic v kind.State o = refl
+kills_topic v kind.PullBlock o = refl
+kills_topic v kind.Memory o = refl
+kills_topic v kind.AllTaken o = refl
+kills_topic v kind.Restart o = refl
+kills_topic v kind.Move o = refl
+kills_topic v kind.Moved o = refl
+kills_topic v kind.CallOff o = refl
+kills_topic v kind.Bury o = refl
+
+served_topic : (v : View) (o : Option Told) → (served_told v o).topic ≡ v.topic
+served_topic v None = refl
+served_topic v (Some u) = kills_topic v u.kind (Some u.receiver)
+
+dropped_topic : (v : View) (i : MsgId) (o : Option Pid) → (dropped_for v i o).topic ≡ v.topic
+dropped_topic v i None = refl
+dropped_topic v i (Some p) = refl
+
+pub label_told : (v : View) (l : Label) → (after_label v l).told ≡ v.told
+label_told v l = (hushed v (line.Label l) refl).told
+
+pub label_topic : (v : View) (l : Label) → (after_label v l).topic ≡ v.topic
+label_topic v (label.Served id) = served_topic (handled v id) (v.told id)
+label_topic v (label.Dropped id) = dropped_topic (handled v id) id (receiver_of (v.told id))
+label_topic v (label.Ran p k) = refl
+label_topic v (label.Call p n c) = refl
+label_topic v (label.Send p id) = refl
+label_topic v (label.Wait p) = refl
+label_topic v (label.Out p w) = refl
+label_topic v (label.End p y) = refl
+label_topic v (label.Receive p id) = refl
+label_topic v (label.Refuse p id c) = refl
+label_topic v (label.Gone id) = refl
+label_topic v (label.Took id) = refl
+label_topic v (label.Created id p) = refl
+label_topic v (label.NoSpace id f b) = refl
+
+-- kernels' own messages keep theirs
+pub own_same : (v w : View) (a b : Addresses) (t u : Trails) → w.told ≡ v.told → w.topic ≡ v.topic → ((i : MsgId) → is_kernels i ≡ true → b (Receiver i) ≡ a (Receiver i)) → ((i : MsgId) → is_kernels i ≡ true → b (Sender i) ≡ a (Sender i))
+    → ((q : Pid) (place : Place) → IsOn t q place → IsOn u q place) → OwnOn v a t → OwnOn w b u
+own_same v w a b t u told topic receiver sender grows h = record {
+  receiver = λ i x mine e. subst (IsOn u x.receiver) (sym (receiver i mine)) (grows x.receiver (a (Receiver i)) (h.receiver i x mine (sym (ap (λ (f : MsgId → Option Told). f i) told) ∙ e)));
+  sender = λ i x mine e k. subst (IsOn u manager) (sym (sender i mine)) (grows manager (a (Sender i)) (h.sender i x mine (sym (ap (λ (f : MsgId → Option Told). f i) told) ∙ e) k));
+  about = λ i x p m c e f. grows p (record { at = m; moves = c }) (h.about i x p m c (sym (ap (λ (g : MsgId → Option Told). g i) told) ∙ e) f);
+  topic = λ p m c e. grows p (record { at = m; moves = c }) (h.topic p m c (sym topic ∙ e));
+}
+
+pub label_own : (s t : OneKernel) (v : View) (a : Addresses) (tr : Trails) (l : Label) → kernel.step s l ≡ Some t → Outside t → OwnOn v a tr → OwnOn (after_label v l) (given a (gives s v a l)) tr
+label_own s t v a tr l is out h =
+    own_same v (after_label v l) a (given a (gives s v a l)) tr tr (label_told v l) (label_topic v l) (λ i mine. spared_receiver a i (gives s v a l) (gives_spares s t v a l i is out mine)) (λ i mine. spared_sender a i (gives s v a l) (gives_spares s t v a l i is out mine))
+    (λ q place on. on) h

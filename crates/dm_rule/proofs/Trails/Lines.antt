@@ -1,0 +1,151 @@
+-- Lines that give addresses beside the kernel keep each on its trail: a message that is forwarded, messages that are sent on, an
+-- update, and the first put of a kernel's own message.
+use Rattle.std.proofs.Common.{◌≡◌, ℕ, ◌+◌, ◌≤◌, ◌&&◌, Bool, true, false, List, [], ◌∷◌, ◌++◌, refl, ap, ◌∙◌, sym, subst, inl, inr, arith, nat_lt}
+use Rattle.std.specs.Prelude.{if◌then◌else◌, slice_get}
+use Rattle.std.specs.declared.option.Option.{Option}
+use Rattle.std.specs.declared.option.Option.TheVariants.{None, Some}
+use Rattle.std.proofs.lemmas.Bool.{cases_Bool, false≢true}
+use Rattle.dm_link.specs.declared.Pid.{Pid}
+use Rattle.dm_link.specs.Names.{Place}
+use Rattle.dm_message.specs.declared.MsgId.{MsgId}
+use Rattle.dm_message.specs.Ids.{id_eq}
+use Rattle.dm_message.specs.declared.kind.MessageKind.TheVariants as kind
+use Rattle.dm_onekernel.specs.Boot.{manager}
+use Rattle.dm_onekernel.specs.Kernel.{OneKernel}
+use Rattle.dm_laws.proofs.Equal.{pid_eq-is, id_eq-same}
+use Rattle.dm_rule.specs.View as view
+use Rattle.dm_rule.specs.View.{View, Told, About, NothingElse, Target, Of, Known, Unknown, Here, Frozen, Incoming, Forward, Ended, is_kernels, own_id, after_put}
+use Rattle.dm_rule.specs.Addresses.{Addresses, Holder, Slot, Owner, Receiver, Sender, Enclosed, Child, Name, Answer, given, place_known, all_follow, is_told_back, tells_back, forwards, place_told, belongs_to, leads_to, is_pid, is_behind, updated_to, updated}
+use Rattle.dm_rule.specs.Homes.{names, to_of, sender_of}
+use Rattle.dm_rule.specs.Spots.{times}
+use Rattle.dm_rule.specs.Trails.{Trails, Trail, IsOn, AddressesOn, OwnOn}
+use Rattle.dm_rule.proofs.Once.{one_of}
+use Rattle.dm_rule.proofs.Lines.{parts}
+use Rattle.dm_rule.proofs.Trails.Places.{Goes, Comes, Named, Links, Owns, AllAre, AllGet, given_on, all_grown}
+
+-- all of them are on their trails, and each kind of holder's are
+pub all_are : (s : OneKernel) (v : View) (a : Addresses) (t : Trails) → AddressesOn s a t → OwnOn v a t → AllAre s v a t
+all_are s v a t links own h q (Links e) = links h q e
+all_are s v a t links own h q (Owns (Goes i u is k told r)) = subst (λ (g : Holder). IsOn t q (a g)) (sym is) (subst (λ (p : Pid). IsOn t p (a (Receiver i))) r (own.receiver i u k told))
+all_are s v a t links own h q (Owns (Comes i u is mine told k r)) = subst (λ (g : Holder). IsOn t q (a g)) (sym is) (subst (λ (p : Pid). IsOn t p (a (Sender i))) r (own.sender i u mine told k))
+
+pub links_are : (s : OneKernel) (v : View) (a : Addresses) (t : Trails) → AllAre s v a t → AddressesOn s a t
+links_are s v a t h g q e = h g q (Links e)
+
+pub receivers_are : (s : OneKernel) (v : View) (a : Addresses) (t : Trails) → AllAre s v a t → (i : MsgId) (u : Told) → is_kernels i ≡ true → v.told i ≡ Some u → IsOn t u.receiver (a (Receiver i))
+receivers_are s v a t h i u k told = h (Receiver i) u.receiver (Owns (Goes i u refl k told refl))
+
+pub senders_are : (s : OneKernel) (v : View) (a : Addresses) (t : Trails) → AllAre s v a t → (i : MsgId) (u : Told) → is_kernels i ≡ true → v.told i ≡ Some u → u.kind ≡ kind.Migrate → IsOn t manager (a (Sender i))
+senders_are s v a t h i u mine told k = h (Sender i) manager (Owns (Comes i u refl mine told k refl))
+
+-- what was told stays
+told_back : (s : OneKernel) (v w : View) (h : Holder) (q : Pid) → ((i : MsgId) → w.told i ≡ v.told i) → Named s w h q → Named s v h q
+told_back s v w h q same (Links e) = Links e
+told_back s v w h q same (Owns (Goes i u is k told r)) = Owns (Goes i u is k (sym (same i) ∙ told) r)
+told_back s v w h q same (Owns (Comes i u is mine told k r)) = Owns (Comes i u is mine (sym (same i) ∙ told) k r)
+
+pub all_as : (s : OneKernel) (v w : View) (a : Addresses) (t : Trails) → ((i : MsgId) → w.told i ≡ v.told i) → AllAre s v a t → AllAre s w a t
+all_as s v w a t same h g q e = h g q (told_back s v w g q same e)
+
+-- a message that isn't in the bag, and of which nothing was told, has no address that counts
+receiver_of_holder : Holder → Option MsgId
+receiver_of_holder (Receiver i) = Some i
+receiver_of_holder _ = None
+
+pub unnamed_receiver : (s : OneKernel) (v : View) (i : MsgId) (q : Pid) → s.bag i ≡ None → v.told i ≡ None → Named s v (Receiver i) q → ⊥
+unnamed_receiver s v i q bag told (Links e) = let f : None ≡ Some q = sym (ap to_of bag) ∙ e in cc
+unnamed_receiver s v i q bag told (Owns (Goes j u is k was r)) = let ij : i ≡ j = cc in let f : None ≡ Some u = sym told ∙ ap v.told ij ∙ was in cc
+unnamed_receiver s v i q bag told (Owns (Comes j u is mine was k r)) = cc
+
+pub unnamed_sender : (s : OneKernel) (v : View) (i : MsgId) (q : Pid) → s.bag i ≡ None → v.told i ≡ None → Named s v (Sender i) q → ⊥
+unnamed_sender s v i q bag told (Links e) = let f : None ≡ Some q = sym (ap sender_of bag) ∙ e in cc
+unnamed_sender s v i q bag told (Owns (Goes j u is k was r)) = cc
+unnamed_sender s v i q bag told (Owns (Comes j u is mine was k r)) = let ij : i ≡ j = cc in let f : None ≡ Some u = sym told ∙ ap v.told ij ∙ was in cc
+
+-- a message that is forwarded, and the update for its sender
+back_gets : (s : OneKernel) (v : View) (a : Addresses) (t : Trails) (id : MsgId) (b : Bool) → s.bag (own_id v) ≡ None → v.told (own_id v) ≡ None → AllGet s v t (tells_back v a id b)
+back_gets s v a t id true bag told = ((λ q e. absurd (unnamed_receiver s v (own_id v) q bag told e)), ((λ q e. absurd (unnamed_sender s v (own_id v) q bag told e)), tt))
+back_gets s v a t id false bag told = tt
+
+pub forwarded_all : (s : OneKernel) (v : View) (a : Addresses) (t : Trails) (id : MsgId) (u : Told) (d n : ℕ) → v.told id ≡ Some u → v.known v.acting u.receiver ≡ Forward d n → ((q : Pid) → Named s v (Receiver id) q → q ≡ u.receiver)
+    → s.bag (own_id v) ≡ None → v.told (own_id v) ≡ None → Trail v t u.receiver → AllAre s v a t → AllAre s v (given a (forwards v a id (v.told id))) t
+forwarded_all s v a t id u d n told at for bag fresh trail h =
+    subst (λ (o : Option Told). AllAre s v (given a (forwards v a id o)) t) (sym told)
+    (given_on s v a t (forwards v a id (Some u)) h (
+      (λ q e. let is : q ≡ u.receiver = for q e in
+          subst (λ (x : Known). IsOn t q (place_known x (v.moves u.receiver) (a (Receiver id)))) (sym at)
+          (subst (λ (p : Pid). slice_get (t p) n ≡ Some d) (sym is) (trail.named v.acting d n at))),
+      back_gets s v a t id (is_told_back u.kind) bag fresh,
+    ))
+
+-- the update goes to where the message came from
+pub forwarded_back : (v : View) (a : Addresses) (id : MsgId) (u : Told) → v.told id ≡ Some u → id_eq id (own_id v) ≡ false → is_told_back u.kind ≡ true → given a (forwards v a id (v.told id)) (Receiver (own_id v)) ≡ a (Sender id)
+forwarded_back v a id u told other back =
+    ap (λ (o : Option Told). given a (forwards v a id o) (Receiver (own_id v))) told
+    ∙ ap (λ (c : Bool). if c then place_known (v.known v.acting u.receiver) (v.moves u.receiver) (a (Receiver id)) else given a (tells_back v a id (is_told_back u.kind)) (Receiver (own_id v))) other
+    ∙ ap (λ (c : Bool). given a (tells_back v a id c) (Receiver (own_id v))) back
+    ∙ ap (λ (c : Bool). if c then a (Sender id) else a (Receiver (own_id v))) (id_eq-same (own_id v))
+
+-- its messages are sent on to where a process goes
+follow_gets : (s : OneKernel) (v : View) (a : Addresses) (t : Trails) (p : Pid) (d : ℕ) (ids : List MsgId) → v.known v.acting p ≡ Frozen d → slice_get (t p) (v.moves p + 1) ≡ Some d
+    → ((i : MsgId) (q : Pid) → 1 ≤ times i ids → Named s v (Receiver i) q → q ≡ p) → AllGet s v t (all_follow v a p ids)
+follow_gets s v a t p d [] at last for = tt
+follow_gets s v a t p d (i ∷ is) at last for = (
+  (λ q e. let same : q ≡ p = for i q first e in
+      subst (λ (x : Known). IsOn t q (place_known x (v.moves p) (a (Receiver i)))) (sym at) (subst (λ (r : Pid). slice_get (t r) (v.moves p + 1) ≡ Some d) (sym same) last)),
+  follow_gets s v a t p d is at last (λ j q least. for j q (more j least)),
+)
+  where
+    first : 1 ≤ times i (i ∷ is)
+    first = let e : one_of i i ≡ 1 = ap (λ (c : Bool). if c then 1 else 0) (id_eq-same i) in omega (arith, e)
+
+    more : (j : MsgId) → 1 ≤ times j is → 1 ≤ times j (i ∷ is)
+    more j least = omega (arith, least)
+
+pub sent_on_all : (s : OneKernel) (v : View) (a : Addresses) (t u : Trails) (p : Pid) (d : ℕ) (ids : List MsgId) → v.known v.acting p ≡ Frozen d → ((q : Pid) → (ds : List ℕ) × (u q ≡ t q ++ ds)) → slice_get (u p) (v.moves p + 1) ≡ Some d
+    → ((i : MsgId) (q : Pid) → 1 ≤ times i ids → Named s v (Receiver i) q → q ≡ p) → AllAre s v a t → AllAre s v (given a (all_follow v a p ids)) u
+sent_on_all s v a t u p d ids at grows last for h = given_on s v a u (all_follow v a p ids) (all_grown s v a t u grows h) (follow_gets s v a u p d ids at last for)
+
+-- an update
+pid_there : (p : Pid) (o : Option Pid) → is_pid p o ≡ true → o ≡ Some p
+pid_there p None e = absurd (false≢true e)
+pid_there p (Some q) e = ap Some (sym (pid_eq-is p q e))
+
+leads_names : (s : OneKernel) (h : Holder) (p : Pid) → leads_to s h ≡ Some p → names s h ≡ Some p
+leads_names s (Slot q k) p e = e
+leads_names s (Owner q) p e = e
+leads_names s (Receiver i) p e = cc
+leads_names s (Sender i) p e = cc
+leads_names s (Enclosed i k) p e = cc
+leads_names s (Child n) p e = e
+leads_names s (Name n) p e = e
+leads_names s (Answer n) p e = e
+
+leads_where : (s : OneKernel) (v : View) (h : Holder) (p q : Pid) → leads_to s h ≡ Some p → Named s v h q → p ≡ q
+leads_where s v h p q e (Links f) = let g : Some p ≡ Some q = sym (leads_names s h p e) ∙ f in cc
+leads_where s v h p q e (Owns (Goes i u is k told r)) = absurd (let f : None ≡ Some p = sym (ap (leads_to s) is) ∙ e in cc)
+leads_where s v h p q e (Owns (Comes i u is mine told k r)) = absurd (let f : None ≡ Some p = sym (ap (leads_to s) is) ∙ e in cc)
+
+behind_where : (s : OneKernel) (a : Addresses) (q p : Pid) (n : ℕ) (h : Holder) → is_behind s a q p n h ≡ true → leads_to s h ≡ Some p
+behind_where s a q p n h e =
+    let x = parts (belongs_to q h) (is_pid p (leads_to s h) && nat_lt (a h).moves n) e in
+    let y = parts (is_pid p (leads_to s h)) (nat_lt (a h).moves n) x.1 in
+    pid_there p (leads_to s h) y.0
+
+update_by : (s : OneKernel) (v : View) (a : Addresses) (t : Trails) (r p : Pid) (place : Place) → IsOn t p place → AllAre s v a t → AllAre s v (updated_to s a (Some r) (Some (p, place))) t
+update_by s v a t r p place on h g q e = elim (cases_Bool (is_behind s a r p place.moves g)) [
+  | inl yes_ ↦
+      subst (IsOn t q) (sym (ap (λ (c : Bool). if c then place else a g) yes_))
+      (subst (λ (x : Pid). IsOn t x place) (leads_where s v g p q (behind_where s a r p place.moves g yes_) e) on)
+  | inr not_ ↦ subst (IsOn t q) (sym (ap (λ (c : Bool). if c then place else a g) not_)) (h g q e)
+]
+
+update_about : (s : OneKernel) (v : View) (a : Addresses) (t : Trails) (r : Pid) (x : About) → ((p : Pid) (m c : ℕ) → x ≡ view.Place p m c → slice_get (t p) c ≡ Some m) → AllAre s v a t → AllAre s v (updated_to s a (Some r) (place_told x)) t
+update_about s v a t r NothingElse on h = h
+update_about s v a t r (Target m) on h = h
+update_about s v a t r (Of p) on h = h
+update_about s v a t r (view.Place p m c) on h = update_by s v a t r p (record { at = m; moves = c }) (on p m c refl) h
+
+pub updated_all : (s : OneKernel) (v : View) (a : Addresses) (t : Trails) (o : Option Told) → ((u : Told) (p : Pid) (m c : ℕ) → o ≡ Some u → u.about ≡ view.Place p m c → slice_get (t p) c ≡ Some m) → AllAre s v a t → AllAre s v (updated s v a o) t
+updated_all s v a t None on h = h
+updated_all s v a t (Some u) on h = update_about s v a t u.receiver u.about (λ p m c e. on u p m c refl e) h

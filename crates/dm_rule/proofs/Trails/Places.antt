@@ -1,0 +1,134 @@
+-- Addresses that holders get are on trails, where each of them is.
+use Rattle.std.proofs.Common.{◌≡◌, ℕ, ◌+◌, ◌==◌, Bool, true, List, [], ◌∷◌, ◌++◌, refl, ap, ◌∙◌, sym, subst, inl, inr}
+use Rattle.std.specs.Prelude.{⊤, if◌then◌else◌, slice_get}
+use Rattle.std.specs.declared.option.Option.TheVariants.{Some}
+use Rattle.std.proofs.lemmas.Bool.{cases_Bool}
+use Rattle.dm_link.specs.declared.Pid.{Pid}
+use Rattle.dm_link.specs.Names.{Place, pid_eq}
+use Rattle.dm_message.specs.declared.MsgId.{MsgId}
+use Rattle.dm_message.specs.Ids.{id_eq}
+use Rattle.dm_message.specs.declared.kind.MessageKind.TheVariants as kind
+use Rattle.dm_onekernel.specs.Boot.{manager}
+use Rattle.dm_onekernel.specs.Kernel.{OneKernel}
+use Rattle.dm_laws.proofs.Equal.{pid_eq-is, id_eq-is}
+use Rattle.dm_rule.specs.View.{View, Told, Known, Unknown, Here, Frozen, Incoming, Forward, Ended, is_kernels}
+use Rattle.dm_rule.specs.Addresses.{Addresses, Holder, Slot, Owner, Receiver, Sender, Enclosed, Child, Name, Answer, Gets, given, holder_eq, place_known}
+use Rattle.dm_rule.specs.Homes.{names}
+use Rattle.dm_rule.specs.Trails.{Trails, IsOn}
+use Rattle.dm_rule.proofs.Lines.{eq_is, parts}
+use Rattle.dm_rule.proofs.Trails.Known.{get_more}
+
+-- holders that test as one are one
+pub holder_is : (g h : Holder) → holder_eq g h ≡ true → g ≡ h
+holder_is (Slot p k) (Slot q l) e = let both = parts (pid_eq p q) (k == l) e in ap (λ (r : Pid). Slot r k) (pid_eq-is p q both.0) ∙ ap (Slot q) (eq_is k l both.1)
+holder_is (Slot p k) (Owner q) e = cc
+holder_is (Slot p k) (Receiver j) e = cc
+holder_is (Slot p k) (Sender j) e = cc
+holder_is (Slot p k) (Enclosed j l) e = cc
+holder_is (Slot p k) (Child m) e = cc
+holder_is (Slot p k) (Name m) e = cc
+holder_is (Slot p k) (Answer m) e = cc
+holder_is (Owner p) (Slot q l) e = cc
+holder_is (Owner p) (Owner q) e = ap Owner (pid_eq-is p q e)
+holder_is (Owner p) (Receiver j) e = cc
+holder_is (Owner p) (Sender j) e = cc
+holder_is (Owner p) (Enclosed j l) e = cc
+holder_is (Owner p) (Child m) e = cc
+holder_is (Owner p) (Name m) e = cc
+holder_is (Owner p) (Answer m) e = cc
+holder_is (Receiver i) (Slot q l) e = cc
+holder_is (Receiver i) (Owner q) e = cc
+holder_is (Receiver i) (Receiver j) e = ap Receiver (id_eq-is i j e)
+holder_is (Receiver i) (Sender j) e = cc
+holder_is (Receiver i) (Enclosed j l) e = cc
+holder_is (Receiver i) (Child m) e = cc
+holder_is (Receiver i) (Name m) e = cc
+holder_is (Receiver i) (Answer m) e = cc
+holder_is (Sender i) (Slot q l) e = cc
+holder_is (Sender i) (Owner q) e = cc
+holder_is (Sender i) (Receiver j) e = cc
+holder_is (Sender i) (Sender j) e = ap Sender (id_eq-is i j e)
+holder_is (Sender i) (Enclosed j l) e = cc
+holder_is (Sender i) (Child m) e = cc
+holder_is (Sender i) (Name m) e = cc
+holder_is (Sender i) (Answer m) e = cc
+holder_is (Enclosed i k) (Slot q l) e = cc
+holder_is (Enclosed i k) (Owner q) e = cc
+holder_is (Enclosed i k) (Receiver j) e = cc
+holder_is (Enclosed i k) (Sender j) e = cc
+holder_is (Enclosed i k) (Enclosed j l) e = let both = parts (id_eq i j) (k == l) e in ap (λ (r : MsgId). Enclosed r k) (id_eq-is i j both.0) ∙ ap (Enclosed j) (eq_is k l both.1)
+holder_is (Enclosed i k) (Child m) e = cc
+holder_is (Enclosed i k) (Name m) e = cc
+holder_is (Enclosed i k) (Answer m) e = cc
+holder_is (Child n) (Slot q l) e = cc
+holder_is (Child n) (Owner q) e = cc
+holder_is (Child n) (Receiver j) e = cc
+holder_is (Child n) (Sender j) e = cc
+holder_is (Child n) (Enclosed j l) e = cc
+holder_is (Child n) (Child m) e = ap Child (eq_is n m e)
+holder_is (Child n) (Name m) e = cc
+holder_is (Child n) (Answer m) e = cc
+holder_is (Name n) (Slot q l) e = cc
+holder_is (Name n) (Owner q) e = cc
+holder_is (Name n) (Receiver j) e = cc
+holder_is (Name n) (Sender j) e = cc
+holder_is (Name n) (Enclosed j l) e = cc
+holder_is (Name n) (Child m) e = cc
+holder_is (Name n) (Name m) e = ap Name (eq_is n m e)
+holder_is (Name n) (Answer m) e = cc
+holder_is (Answer n) (Slot q l) e = cc
+holder_is (Answer n) (Owner q) e = cc
+holder_is (Answer n) (Receiver j) e = cc
+holder_is (Answer n) (Sender j) e = cc
+holder_is (Answer n) (Enclosed j l) e = cc
+holder_is (Answer n) (Child m) e = cc
+holder_is (Answer n) (Name m) e = cc
+holder_is (Answer n) (Answer m) e = ap Answer (eq_is n m e)
+
+-- whose address a holder has, of the kernel without machines and of kernels' own messages
+pub data Owned (v : View) (h : Holder) (q : Pid) : Type 0 where
+  Goes : (i : MsgId) (u : Told) → h ≡ Receiver i → is_kernels i ≡ true → v.told i ≡ Some u → u.receiver ≡ q → Owned v h q
+  Comes : (i : MsgId) (u : Told) → h ≡ Sender i → is_kernels i ≡ true → v.told i ≡ Some u → u.kind ≡ kind.Migrate → manager ≡ q → Owned v h q
+
+pub data Named (s : OneKernel) (v : View) (h : Holder) (q : Pid) : Type 0 where
+  Links : names s h ≡ Some q → Named s v h q
+  Owns : Owned v h q → Named s v h q
+
+-- each address of these is on the trail
+abbrev pub AllAre : OneKernel → View → Addresses → Trails → Type 0
+AllAre s v a t = (h : Holder) (q : Pid) → Named s v h q → IsOn t q (a h)
+
+-- what holders get is on the trail
+abbrev pub AllGet : OneKernel → View → Trails → List Gets → Type 0
+AllGet s v t [] = ⊤
+AllGet s v t (g ∷ gs) = ((q : Pid) → Named s v g.holder q → IsOn t q g.place) × AllGet s v t gs
+
+pub given_on : (s : OneKernel) (v : View) (a : Addresses) (t : Trails) (gs : List Gets) → AllAre s v a t → AllGet s v t gs → AllAre s v (given a gs) t
+given_on s v a t [] h all g q e = h g q e
+given_on s v a t (x ∷ xs) h all g q e = elim (cases_Bool (holder_eq x.holder g)) [
+  | inl same ↦
+      subst (IsOn t q) (sym (ap (λ (c : Bool). if c then x.place else given a xs g) same))
+      (all.0 q (subst (λ (k : Holder). Named s v k q) (sym (holder_is x.holder g same)) e))
+  | inr apart ↦ subst (IsOn t q) (sym (ap (λ (c : Bool). if c then x.place else given a xs g) apart)) (given_on s v a t xs h all.1 g q e)
+]
+
+pub all_both : (s : OneKernel) (v : View) (t : Trails) (xs ys : List Gets) → AllGet s v t xs → AllGet s v t ys → AllGet s v t (xs ++ ys)
+all_both s v t [] ys h k = k
+all_both s v t (x ∷ xs) ys h k = (h.0, all_both s v t xs ys h.1 k)
+
+-- trails only grow
+pub on_grown : (t u : Trails) (q : Pid) (place : Place) (ds : List ℕ) → u q ≡ t q ++ ds → IsOn t q place → IsOn u q place
+on_grown t u q place ds more on = ap (λ (xs : List ℕ). slice_get xs place.moves) more ∙ get_more (t q) ds place.moves place.at on
+
+pub all_grown : (s : OneKernel) (v : View) (a : Addresses) (t u : Trails) → ((q : Pid) → (ds : List ℕ) × (u q ≡ t q ++ ds)) → AllAre s v a t → AllAre s v a u
+all_grown s v a t u grows h g q e = let (ds, more) = grows q in on_grown t u q (a g) ds more (h g q e)
+
+-- where a message that follows its receiver goes
+pub known_on : (t : Trails) (p : Pid) (x : Known) (moves : ℕ) (place : Place) → ((to : ℕ) → x ≡ Frozen to → slice_get (t p) (moves + 1) ≡ Some to) → ((at count : ℕ) → x ≡ Forward at count → slice_get (t p) count ≡ Some at) → IsOn t p place
+    → IsOn t p (place_known x moves place)
+known_on t p Unknown moves place goes forwards on = on
+known_on t p Here moves place goes forwards on = on
+known_on t p (Frozen to) moves place goes forwards on = goes to refl
+known_on t p (Incoming from) moves place goes forwards on = on
+known_on t p (Forward at count) moves place goes forwards on = forwards at count refl
+known_on t p Ended moves place goes forwards on = on

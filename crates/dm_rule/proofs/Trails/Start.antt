@@ -1,0 +1,69 @@
+-- Before the first line each process's trail is its home, and each address names it.
+use Rattle.std.proofs.Common.{◌≡◌, ◌≢◌, ℕ, zero, suc, ◌==◌, ◌&&◌, Bool, true, false, [], ◌∷◌, refl, ap, ◌∙◌, sym, subst, arith}
+use Rattle.std.specs.Prelude.{if◌then◌else◌, slice_get}
+use Rattle.std.specs.declared.option.Option.TheVariants.{None, Some}
+use Rattle.std.proofs.lemmas.Bool.Decides.{nat_tests}
+use Rattle.dm_link.specs.declared.Pid.{Pid}
+use Rattle.dm_link.specs.Names.{Place}
+use Rattle.dm_onekernel.specs.declared.boot.Boot.{Boot}
+use Rattle.dm_onekernel.specs.Boot.{IsValid}
+use Rattle.dm_rule.specs.View.{Known, Unknown, Here, Forward, first_view}
+use Rattle.dm_rule.specs.Addresses.{unmoved}
+use Rattle.dm_rule.specs.Point.{first_point}
+use Rattle.dm_rule.specs.Trails.{Trail, Stood, IsOn, Trailed, first_trails}
+use Rattle.dm_rule.proofs.Homes.Start.{Homes-start}
+use Rattle.dm_rule.proofs.Phases.Start.{starts, start_known, start_phase}
+
+-- what is known at the start
+at_start : Bool → Pid → ℕ → Known
+at_start b q m = if b && (q.home == m) then Here else Unknown
+
+start_no_forward : (b : Bool) (k j : ℕ) → (if b then Here else Unknown) ≢ Forward k j
+start_no_forward true k j = λ e. cc
+start_no_forward false k j = λ e. cc
+
+start_some : (b c : Bool) → (if b && c then Here else Unknown) ≢ Unknown → b ≡ true
+start_some true c e = refl
+start_some false c e = absurd (e refl)
+
+start_place : (p : Pid) (c m : ℕ) → slice_get (p.home ∷ []) c ≡ Some m → (p.home == m) ≡ true
+start_place p zero m e = let f : p.home ≡ m = cc in let g : (p.home == p.home) ≡ true = grind (arith, nat_tests) in ap (λ (n : ℕ). p.home == n) (sym f) ∙ g
+start_place p (suc c) m e = cc
+
+here_not : (b : Bool) → b ≡ true → (if b then Here else Unknown) ≢ Unknown
+here_not true e f = cc
+here_not false e f = cc
+
+both_are : (b c : Bool) → b ≡ true → c ≡ true → (b && c) ≡ true
+both_are true c e f = f
+both_are false c e f = cc
+
+pub trail_start : (b : Boot) (p : Pid) → Trail (first_view b) first_trails p
+trail_start b p = record {
+  begins = refl;
+  named = λ m k j e. absurd (start_no_forward (starts b.processes p && (p.home == m)) k j (sym (start_known b.processes m p) ∙ e));
+  behind = λ m k j c e f. absurd (start_no_forward (starts b.processes p && (p.home == m)) k j (sym (start_known b.processes m p) ∙ e));
+  kept = λ m n c e f g.
+      let some : starts b.processes p ≡ true = start_some (starts b.processes p) (p.home == n) (λ x. e (start_known b.processes n p ∙ x)) in
+      here_not (starts b.processes p && (p.home == m)) (both_are (starts b.processes p) (p.home == m) some (start_place p c m f)) (sym (start_known b.processes m p) ∙ g);
+}
+
+stood_start : (b : Boot) (p : Pid) (s : Bool) → Stood (first_view b) first_trails p (start_phase s p)
+stood_start b p true = record { now = refl; next = λ d e. absurd (let f : None ≡ Some d = e in cc); long = refl; unmade = λ e. refl }
+stood_start b p false = record { now = refl; next = λ d e. absurd (let f : None ≡ Some d = e in cc); long = refl; unmade = λ e. refl }
+
+home_on : (p : Pid) (place : Place) → place ≡ unmoved p.home → IsOn first_trails p place
+home_on p place e = subst (IsOn first_trails p) (sym e) refl
+
+pub trailed_start : (b : Boot) → IsValid b → Trailed (first_point b) first_trails (λ p. start_phase (starts b.processes p) p)
+trailed_start b valid = record {
+  trail = trail_start b;
+  stood = λ p. stood_start b p (starts b.processes p);
+  links = λ h q e. home_on q ((first_point b).addresses h) ((Homes-start b valid).home h q e);
+  own = record {
+    receiver = λ i u k e. absurd (let f : None ≡ Some u = e in cc);
+    sender = λ i u m e k. absurd (let f : None ≡ Some u = e in cc);
+    about = λ i u p m c e f. absurd (let g : None ≡ Some u = e in cc);
+    topic = λ p m c e. cc;
+  };
+}

@@ -1,0 +1,375 @@
+-- Each line keeps the trails, what machines know, and all addresses in agreement, where it fits.
+use Rattle.std.proofs.Common.{◌≡◌, ◌≢◌, ℕ, ◌+◌, ◌≤◌, Bool, true, false, List, ◌++◌, length, refl, ap, ◌∙◌, sym, subst}
+use Rattle.std.specs.Prelude.{⊤, ◌==◌, not, filter, slice_get}
+use Rattle.std.specs.declared.option.Option.{Option}
+use Rattle.std.specs.declared.option.Option.TheVariants.{None, Some}
+use Rattle.dm_link.specs.declared.Pid.{Pid}
+use Rattle.dm_message.specs.declared.MsgId.{MsgId}
+use Rattle.dm_message.specs.declared.kind.MessageKind.{MessageKind}
+use Rattle.dm_message.specs.declared.kind.MessageKind.TheVariants as kind
+use Rattle.dm_onekernel.specs.Boot.{manager}
+use Rattle.dm_onekernel.specs.declared.label.Label.{Label}
+use Rattle.dm_onekernel.specs.declared.label.Label.TheVariants as label
+use Rattle.dm_onekernel.specs.Kernel.{OneKernel}
+use Rattle.dm_onekernel.specs.Step as kernel
+use Rattle.dm_schedule.specs.declared.Step.{Step}
+use Rattle.dm_schedule.specs.declared.Step.TheVariants as step
+use Rattle.dm_laws.proofs.Steps.{bind-is}
+use Rattle.dm_line.specs.declared.line.Line.{Line}
+use Rattle.dm_line.specs.declared.line.Line.TheVariants as line
+use Rattle.dm_line.specs.declared.line.Stage.{Stage}
+use Rattle.dm_line.specs.declared.line.Stage.TheVariants as stage
+use Rattle.dm_rule.specs.View as view
+use Rattle.dm_rule.specs.View.{View, Told, About, Known, Unknown, Here, Frozen, Forward, is_kernels, own_id, view_after, after_label, after_head, after_put, after_proto, handled, taken_id, queued_for, held_for, forwarded_for, forward_about, served_told, kills, receiver_of}
+use Rattle.dm_rule.specs.Addresses.{Addresses, Receiver, Sender, given, forwards, all_follow, own_gives, first_gives, addresses_after}
+use Rattle.dm_rule.specs.Homes.{ascends}
+use Rattle.dm_rule.specs.Phases.{Nowhere, Moves, IsIn, is_restart, is_early}
+use Rattle.dm_rule.specs.Point.{Point, moved, after_line}
+use Rattle.dm_rule.specs.Spots.{times}
+use Rattle.dm_rule.specs.Trails.{Trails, Trail, Stood, IsOn, AddressesOn, OwnOn, trails_after}
+use Rattle.dm_rule.proofs.Hushed.{hushed}
+use Rattle.dm_rule.proofs.Homes.Serves as serves
+use Rattle.dm_rule.proofs.Homes.Labels.{SaidOn}
+use Rattle.dm_rule.proofs.Phases.Lines.{queued_known, held_known, dropped_known, forwarded_known}
+use Rattle.dm_rule.proofs.Phases.Pieces.{proto_known}
+use Rattle.dm_rule.proofs.Trails.Known.{get_at_end, trail_same}
+use Rattle.dm_rule.proofs.Trails.Places.{Named, AllAre, on_grown}
+use Rattle.dm_rule.proofs.Trails.Lines.{all_are, links_are, receivers_are, senders_are, all_as, forwarded_all, sent_on_all, updated_all}
+use Rattle.dm_rule.proofs.Trails.Puts.{is_own, put_all, put_routed, told_again, about_put}
+use Rattle.dm_rule.proofs.Trails.Steps.{frozen_trail, accepted_trail, restarted_trail, stays_trail, ended_trail, born_trail, sent_on_at, sent_on_grows, sent_on_trail, left_line_trail, source_holds}
+use Rattle.dm_rule.proofs.Trails.Spares.{Outside}
+use Rattle.dm_rule.proofs.Trails.Labels.{label_links, label_pending, label_own}
+
+-- what each line keeps
+pub record Treads (pt : Point) (t : Trails) : Type 0 where
+  pub trail : (q : Pid) → Trail pt.view t q
+  pub links : AddressesOn pt.kernel pt.addresses t
+  pub own : OwnOn pt.view pt.addresses t
+  pub pending : ascends 0 pt.kernel.manager.pending pt.kernel.manager.sent ≡ true
+
+-- where a line fits: a label
+abbrev pub KnownFits : Point → Trails → Label → Type 0
+KnownFits pt t (label.End p y) = pt.view.known pt.view.acting p ≡ Here
+KnownFits pt t (label.Created id p) = ((m : ℕ) → pt.view.known m p ≡ Unknown) × (p.home ≡ pt.view.acting) × Stood pt.view t p Nowhere
+KnownFits pt t (label.Served id) = (u : Told) → pt.view.told id ≡ Some u → u.kind ≡ kind.Kill → pt.view.known pt.view.acting u.receiver ≡ Here
+KnownFits pt t (label.Dropped id) = ⊤
+KnownFits pt t (label.Ran p k) = ⊤
+KnownFits pt t (label.Call p n c) = ⊤
+KnownFits pt t (label.Send p id) = ⊤
+KnownFits pt t (label.Wait p) = ⊤
+KnownFits pt t (label.Out p w) = ⊤
+KnownFits pt t (label.Receive p id) = ⊤
+KnownFits pt t (label.Refuse p id c) = ⊤
+KnownFits pt t (label.Gone id) = ⊤
+KnownFits pt t (label.Took id) = ⊤
+KnownFits pt t (label.NoSpace id f b) = ⊤
+
+pub record LabelFits (pt : Point) (t : Trails) (l : Label) : Type 0 where
+  pub named : serves.Named pt.kernel
+  pub said : SaidOn (IsOn t) pt.kernel pt.view pt.addresses l
+  pub outside : (s : OneKernel) → kernel.step pt.kernel l ≡ Some s → Outside s
+  pub known : KnownFits pt t l
+
+-- a message is forwarded from where its receiver went away
+pub record ForwardFits (pt : Point) (id : MsgId) : Type 0 where
+  pub u : Told
+  pub d : ℕ
+  pub n : ℕ
+  pub told : pt.view.told id ≡ Some u
+  pub away : pt.view.known pt.view.acting u.receiver ≡ Forward d n
+  pub for_it : (q : Pid) → Named pt.kernel pt.view (Receiver id) q → q ≡ u.receiver
+  pub outside : pt.kernel.bag (own_id pt.view) ≡ None
+  pub fresh : pt.view.told (own_id pt.view) ≡ None
+
+-- all was taken of a process
+pub record SentOnFits (pt : Point) (t : Trails) (p : Pid) : Type 0 where
+  pub s : ℕ
+  pub d : ℕ
+  pub o : Option MsgId
+  pub phase : IsIn pt.view p (Moves kind.AllTaken s d o)
+  pub acts : pt.view.acting ≡ s
+  pub long : length (t p) ≡ pt.view.moves p + 1
+  pub for_it : (i : MsgId) (q : Pid) → 1 ≤ times i (pt.view.queue pt.view.acting p ++ pt.view.held pt.view.acting p) → Named pt.kernel pt.view (Receiver i) q → q ≡ p
+
+pub record LeftFits (pt : Point) (t : Trails) (p : Pid) : Type 0 where
+  pub d : ℕ
+  pub holds : pt.view.known pt.view.acting p ≡ Frozen d
+  pub at : slice_get (t p) (pt.view.moves p + 1) ≡ Some d
+  pub long : length (t p) ≡ pt.view.moves p + 2
+  pub apart : d ≢ pt.view.acting
+
+-- a process moves, and a test of the kind of its message holds
+pub record MovesFits (pt : Point) (p : Pid) (test : MessageKind → Bool) : Type 0 where
+  pub k : MessageKind
+  pub s : ℕ
+  pub d : ℕ
+  pub o : Option MsgId
+  pub phase : IsIn pt.view p (Moves k s d o)
+  pub off : test k ≡ false
+
+-- a message that was put before, a kernel's own, or one of the bag
+pub data PutFits (pt : Point) (t : Trails) (id : MsgId) (k : MessageKind) (q : Pid) : Type 0 where
+  Again : (u : Told) → pt.view.told id ≡ Some u → PutFits pt t id k q
+  Own : pt.kernel.bag id ≡ None → pt.view.told id ≡ None → IsOn t q (given pt.addresses (own_gives pt.kernel pt.view pt.addresses id q k) (Receiver id))
+      → (k ≡ kind.Migrate → IsOn t manager (given pt.addresses (own_gives pt.kernel pt.view pt.addresses id q k) (Sender id))) → PutFits pt t id k q
+  Routed : is_kernels id ≡ false → is_own k ≡ false → pt.view.told id ≡ None → PutFits pt t id k q
+
+abbrev pub StageFits : Point → Trails → Pid → Stage → Type 0
+StageFits pt t p stage.Frozen = pt.view.known pt.view.acting p ≡ Here
+StageFits pt t p stage.Asked = ⊤
+StageFits pt t p stage.Accepted = MovesFits pt p is_restart
+StageFits pt t p stage.StateTaken = ⊤
+StageFits pt t p stage.MemoryTaken = ⊤
+StageFits pt t p stage.Left = LeftFits pt t p
+StageFits pt t p stage.Restarted = MovesFits pt p is_early
+
+abbrev pub LineFits : Point → Trails → Line → Type 0
+LineFits pt t (line.Label l) = LabelFits pt t l
+LineFits pt t (line.Put a b id k q) = PutFits pt t id k q
+LineFits pt t (line.Forwarded id m) = ForwardFits pt id
+LineFits pt t (line.SentOn p n) = SentOnFits pt t p
+LineFits pt t (line.Migration s p) = StageFits pt t p s
+LineFits pt t (line.Stays p) = MovesFits pt p is_restart
+LineFits pt t _ = ⊤
+
+-- addresses that stay
+own_as : (v w : View) (a : Addresses) (t : Trails) → w.told ≡ v.told → ((p : Pid) (m c : ℕ) → w.topic ≡ view.Place p m c → slice_get (t p) c ≡ Some m) → OwnOn v a t → OwnOn w a t
+own_as v w a t told topic h = record {
+  receiver = λ i u mine e. h.receiver i u mine (sym (ap (λ (f : MsgId → Option Told). f i) told) ∙ e);
+  sender = λ i u mine e k. h.sender i u mine (sym (ap (λ (f : MsgId → Option Told). f i) told) ∙ e) k;
+  about = λ i u p m c e f. h.about i u p m c (sym (ap (λ (g : MsgId → Option Told). g i) told) ∙ e) f;
+  topic = topic;
+}
+
+own_of : (s : OneKernel) (v : View) (a : Addresses) (t : Trails) → AllAre s v a t → ((i : MsgId) (u : Told) (p : Pid) (m c : ℕ) → v.told i ≡ Some u → u.about ≡ view.Place p m c → slice_get (t p) c ≡ Some m)
+    → ((p : Pid) (m c : ℕ) → v.topic ≡ view.Place p m c → slice_get (t p) c ≡ Some m) → OwnOn v a t
+own_of s v a t h about topic = record { receiver = receivers_are s v a t h; sender = senders_are s v a t h; about = about; topic = topic }
+
+same_topic : (v w : View) (a : Addresses) (t : Trails) → w.topic ≡ v.topic → OwnOn v a t → (p : Pid) (m c : ℕ) → w.topic ≡ view.Place p m c → slice_get (t p) c ≡ Some m
+same_topic v w a t same h p m c e = h.topic p m c (sym same ∙ e)
+
+abbrev at_view : Point → View → Point
+at_view pt w = record { kernel = pt.kernel; view = w; addresses = pt.addresses }
+
+learns_treads : (pt : Point) (w : View) (t : Trails) → ((q : Pid) → Trail w t q) → w.told ≡ pt.view.told → ((p : Pid) (m c : ℕ) → w.topic ≡ view.Place p m c → slice_get (t p) c ≡ Some m) → Treads pt t → Treads (at_view pt w) t
+learns_treads pt w t trail told topic h = record { trail = trail; links = h.links; own = own_as pt.view w pt.addresses t told topic h.own; pending = h.pending }
+
+quiet_treads : (pt : Point) (w : View) (t : Trails) → ((m : ℕ) (q : Pid) → w.known m q ≡ pt.view.known m q) → w.told ≡ pt.view.told → ((p : Pid) (m c : ℕ) → w.topic ≡ view.Place p m c → slice_get (t p) c ≡ Some m) → Treads pt t → Treads (at_view pt w) t
+quiet_treads pt w t known told topic h = learns_treads pt w t (λ q. trail_same pt.view w t t q (λ m. known m q) refl (h.trail q)) told topic h
+
+-- what the lines of messages leave
+queued_topic : (v : View) (i : MsgId) (o : Option Pid) → (queued_for v i o).topic ≡ v.topic
+queued_topic v i None = refl
+queued_topic v i (Some p) = refl
+
+held_topic : (v : View) (i : MsgId) (o : Option Pid) → (held_for v i o).topic ≡ v.topic
+held_topic v i None = refl
+held_topic v i (Some p) = refl
+
+taken_topic : (v : View) (b : ℕ) (o : Option MsgId) → (taken_id v b o).topic ≡ v.topic
+taken_topic v b None = refl
+taken_topic v b (Some i) = refl
+
+taken_known : (v : View) (b : ℕ) (o : Option MsgId) (m : ℕ) (q : Pid) → (taken_id v b o).known m q ≡ v.known m q
+taken_known v b None m q = refl
+taken_known v b (Some i) m q = refl
+
+-- the pair once its oldest message was taken
+abbrev taken_pair : View → ℕ → ℕ → ℕ → View
+taken_pair v a b n = view.with_pair v a b (record (v.pair a b) { taken = (v.pair a b).taken + 1; kept = filter (λ k. not (k == n)) (v.pair a b).kept })
+
+head_treads : (pt : Point) (t : Trails) (d : Step) → Treads pt t → Treads (at_view pt (after_head pt.view d)) t
+head_treads pt t (step.Turn m) h = quiet_treads pt (after_head pt.view (step.Turn m)) t (λ n q. refl) refl (λ p n c e. cc) h
+head_treads pt t (step.Tick m) h = quiet_treads pt (after_head pt.view (step.Tick m)) t (λ n q. refl) refl (λ p n c e. cc) h
+head_treads pt t (step.Deliver a b k) h = quiet_treads pt (after_head pt.view (step.Deliver a b k)) t (λ n q. refl) refl (λ p n c e. cc) h
+head_treads pt t (step.Migrate r m) h = quiet_treads pt (after_head pt.view (step.Migrate r m)) t (λ n q. refl) refl (λ p n c e. cc) h
+
+proto_place : (v w : View) (a : Addresses) (t : Trails) (id : MsgId) (o : Option Told) → v.told id ≡ o → OwnOn v a t → (p : Pid) (m c : ℕ) → (after_proto w o).topic ≡ view.Place p m c → slice_get (t p) c ≡ Some m
+proto_place v w a t id None told h p m c e = cc
+proto_place v w a t id (Some u) told h p m c e = h.about id u p m c told e
+
+-- a label
+kills_trail : (v : View) (t : Trails) (p q : Pid) (k : MessageKind) → (k ≡ kind.Kill → v.known v.acting p ≡ Here) → Trail v t q → Trail (kills k v (Some p)) t q
+kills_trail v t p q kind.Kill here h = ended_trail v (kills kind.Kill v (Some p)) t p q refl (here refl) h
+kills_trail v t p q kind.User here h = h
+kills_trail v t p q kind.Stop here h = h
+kills_trail v t p q kind.Resume here h = h
+kills_trail v t p q kind.Read here h = h
+kills_trail v t p q kind.Write here h = h
+kills_trail v t p q kind.Block here h = h
+kills_trail v t p q kind.Written here h = h
+kills_trail v t p q kind.Gone here h = h
+kills_trail v t p q kind.Create here h = h
+kills_trail v t p q kind.Created here h = h
+kills_trail v t p q kind.NoRoom here h = h
+kills_trail v t p q kind.Migrate here h = h
+kills_trail v t p q kind.Update here h = h
+kills_trail v t p q kind.Ask here h = h
+kills_trail v t p q kind.Refuse here h = h
+kills_trail v t p q kind.PullState here h = h
+kills_trail v t p q kind.State here h = h
+kills_trail v t p q kind.PullBlock here h = h
+kills_trail v t p q kind.Memory here h = h
+kills_trail v t p q kind.AllTaken here h = h
+kills_trail v t p q kind.Restart here h = h
+kills_trail v t p q kind.Move here h = h
+kills_trail v t p q kind.Moved here h = h
+kills_trail v t p q kind.CallOff here h = h
+kills_trail v t p q kind.Bury here h = h
+
+served_trail : (v : View) (t : Trails) (q : Pid) (o : Option Told) → ((u : Told) → o ≡ Some u → u.kind ≡ kind.Kill → v.known v.acting u.receiver ≡ Here) → Trail v t q → Trail (served_told v o) t q
+served_trail v t q None here h = h
+served_trail v t q (Some u) here h = kills_trail v t u.receiver q u.kind (here u refl) h
+
+handled_trail : (v : View) (t : Trails) (id : MsgId) (q : Pid) → Trail v t q → Trail (handled v id) t q
+handled_trail v t id q h = trail_same v (handled v id) t t q (λ m. refl) refl h
+
+label_trail : (pt : Point) (t : Trails) (l : Label) (q : Pid) → KnownFits pt t l → Trail pt.view t q → Trail (after_label pt.view l) t q
+label_trail pt t (label.End p y) q here h = ended_trail pt.view (after_label pt.view (label.End p y)) t p q refl here h
+label_trail pt t (label.Created id p) q fits h = born_trail pt.view (after_label pt.view (label.Created id p)) t p q refl fits.0 fits.1 fits.2 h
+label_trail pt t (label.Served id) q fits h = served_trail (handled pt.view id) t q (pt.view.told id) fits (handled_trail pt.view t id q h)
+label_trail pt t (label.Dropped id) q fits h = trail_same pt.view (after_label pt.view (label.Dropped id)) t t q (λ m. dropped_known (handled pt.view id) id (receiver_of (pt.view.told id)) m q) refl h
+label_trail pt t (label.Ran p k) q fits h = trail_same pt.view (after_label pt.view (label.Ran p k)) t t q (λ m. refl) refl h
+label_trail pt t (label.Call p n c) q fits h = trail_same pt.view (after_label pt.view (label.Call p n c)) t t q (λ m. refl) refl h
+label_trail pt t (label.Send p id) q fits h = trail_same pt.view (after_label pt.view (label.Send p id)) t t q (λ m. refl) refl h
+label_trail pt t (label.Wait p) q fits h = trail_same pt.view (after_label pt.view (label.Wait p)) t t q (λ m. refl) refl h
+label_trail pt t (label.Out p w) q fits h = trail_same pt.view (after_label pt.view (label.Out p w)) t t q (λ m. refl) refl h
+label_trail pt t (label.Receive p id) q fits h = trail_same pt.view (after_label pt.view (label.Receive p id)) t t q (λ m. refl) refl h
+label_trail pt t (label.Refuse p id c) q fits h = trail_same pt.view (after_label pt.view (label.Refuse p id c)) t t q (λ m. refl) refl h
+label_trail pt t (label.Gone id) q fits h = trail_same pt.view (after_label pt.view (label.Gone id)) t t q (λ m. refl) refl h
+label_trail pt t (label.Took id) q fits h = trail_same pt.view (after_label pt.view (label.Took id)) t t q (λ m. refl) refl h
+label_trail pt t (label.NoSpace id f b) q fits h = trail_same pt.view (after_label pt.view (label.NoSpace id f b)) t t q (λ m. refl) refl h
+
+label_treads : (pt : Point) (s : OneKernel) (t : Trails) (l : Label) → kernel.step pt.kernel l ≡ Some s → LabelFits pt t l → Treads pt t → Treads (moved pt (line.Label l) s) t
+label_treads pt s t l is fits h = record {
+  trail = λ q. label_trail pt t l q fits.known (h.trail q);
+  links = label_links pt.kernel s pt.view pt.addresses t l is fits.named fits.said h.trail h.pending h.links;
+  own = label_own pt.kernel s pt.view pt.addresses t l is (fits.outside s is) h.own;
+  pending = label_pending pt.kernel s pt.view pt.addresses t l is fits.named fits.said h.trail h.pending h.links;
+}
+
+-- a message that is forwarded
+forward_topic : (v : View) (t : Trails) (p : Pid) (x : Known) (d n : ℕ) → x ≡ Forward d n → slice_get (t p) n ≡ Some d → (q : Pid) (m c : ℕ) → forward_about p x ≡ view.Place q m c → slice_get (t q) c ≡ Some m
+forward_topic v t p x d n is at q m c e =
+    let f : view.Place p d n ≡ view.Place q m c = sym (ap (forward_about p) is) ∙ e in
+    let pq : p ≡ q = cc in
+    let dm : d ≡ m = cc in
+    let nc : n ≡ c = cc in
+    sym (ap (λ (r : Pid). slice_get (t r) c) pq) ∙ sym (ap (slice_get (t p)) nc) ∙ at ∙ ap Some dm
+
+forwarded_topic : (v w : View) (t : Trails) (u : Told) (o : Option Told) (d n : ℕ) → o ≡ Some u → w.known w.acting u.receiver ≡ Forward d n → slice_get (t u.receiver) n ≡ Some d → (q : Pid) (m c : ℕ) → (forwarded_for w (receiver_of o)).topic ≡ view.Place q m c → slice_get (t q) c ≡ Some m
+forwarded_topic v w t u None d n is away at q m c e = absurd (let f : None ≡ Some u = is in cc)
+forwarded_topic v w t u (Some x) d n is away at q m c e =
+    let f : x ≡ u = cc in
+    forward_topic w t u.receiver (w.known w.acting u.receiver) d n away at q m c (sym (ap (λ (y : Told). forward_about y.receiver (w.known w.acting y.receiver)) f) ∙ e)
+
+forwarded_treads : (pt : Point) (t : Trails) (id : MsgId) (m : ℕ) → ForwardFits pt id → Treads pt t → Treads (moved pt (line.Forwarded id m) pt.kernel) t
+forwarded_treads pt t id m fits h =
+    let v = pt.view in
+    let w = view_after v (line.Forwarded id m) in
+    let b = given pt.addresses (forwards v pt.addresses id (v.told id)) in
+    let told : w.told ≡ v.told = (hushed v (line.Forwarded id m) refl).told in
+    let all = forwarded_all pt.kernel v pt.addresses t id fits.u fits.d fits.n fits.told fits.away fits.for_it fits.outside fits.fresh (h.trail fits.u.receiver) (all_are pt.kernel v pt.addresses t h.links h.own) in
+    record {
+      trail = λ q. trail_same v w t t q (λ n. forwarded_known (handled v id) (receiver_of (v.told id)) n q) refl (h.trail q);
+      links = links_are pt.kernel v b t all;
+      own = own_as v w b t told (forwarded_topic v (handled v id) t fits.u (v.told id) fits.d fits.n fits.told fits.away ((h.trail fits.u.receiver).named v.acting fits.d fits.n fits.away)) (own_of pt.kernel v b t all h.own.about h.own.topic);
+      pending = h.pending;
+    }
+
+-- messages that are sent on
+sent_on_treads : (pt : Point) (t : Trails) (p : Pid) (n : ℕ) → SentOnFits pt t p → Treads pt t → Treads (moved pt (line.SentOn p n) pt.kernel) (trails_after pt.view t (line.SentOn p n))
+sent_on_treads pt t p n fits h =
+    let v = pt.view in
+    let w = view_after v (line.SentOn p n) in
+    let u = trails_after v t (line.SentOn p n) in
+    let ids = v.queue v.acting p ++ v.held v.acting p in
+    let b = given pt.addresses (all_follow v pt.addresses p ids) in
+    let holds : v.known v.acting p ≡ Frozen fits.d = ap (λ (m : ℕ). v.known m p) fits.acts ∙ source_holds v p kind.AllTaken fits.s fits.d fits.o fits.phase refl in
+    let last : slice_get (u p) (v.moves p + 1) ≡ Some fits.d = ap (λ (xs : List ℕ). slice_get xs (v.moves p + 1)) (sent_on_at v t p n fits.d holds) ∙ get_at_end (t p) fits.d (v.moves p + 1) fits.long in
+    let grows = sent_on_grows v t p n fits.d holds in
+    let all = sent_on_all pt.kernel v pt.addresses t u p fits.d ids holds grows last fits.for_it (all_are pt.kernel v pt.addresses t h.links h.own) in
+    record {
+      trail = λ q. sent_on_trail v t p q n fits.s fits.d fits.o fits.phase fits.acts (h.trail q);
+      links = links_are pt.kernel v b u all;
+      own = own_as v w b u refl (λ r m c e. cc) (own_of pt.kernel v b u all
+          (λ i x r m c e f. let (ds, more) = grows r in on_grown t u r (record { at = m; moves = c }) ds more (h.own.about i x r m c e f))
+          (λ r m c e. let (ds, more) = grows r in on_grown t u r (record { at = m; moves = c }) ds more (h.own.topic r m c e)));
+      pending = h.pending;
+    }
+
+-- an update
+updated_treads : (pt : Point) (t : Trails) (id : MsgId) (n : ℕ) → Treads pt t → Treads (moved pt (line.Updated id n) pt.kernel) t
+updated_treads pt t id n h =
+    let v = pt.view in
+    let w = view_after v (line.Updated id n) in
+    let b = addresses_after pt.kernel v pt.addresses (line.Updated id n) in
+    let all = updated_all pt.kernel v pt.addresses t (v.told id) (λ u p m c e f. h.own.about id u p m c e f) (all_are pt.kernel v pt.addresses t h.links h.own) in
+    record {
+      trail = λ q. handled_trail v t id q (h.trail q);
+      links = links_are pt.kernel v b t all;
+      own = own_as v w b t refl h.own.topic (own_of pt.kernel v b t all h.own.about h.own.topic);
+      pending = h.pending;
+    }
+
+-- a put
+put_are : (pt : Point) (t : Trails) (x y : ℕ) (id : MsgId) (k : MessageKind) (q : Pid) → PutFits pt t id k q → AllAre pt.kernel pt.view pt.addresses t
+    → AllAre pt.kernel (after_put pt.view x y id k q) (given pt.addresses (first_gives (pt.view.told id) (own_gives pt.kernel pt.view pt.addresses id q k))) t
+put_are pt t x y id k q (Again u told) h =
+    subst (λ (o : Option Told). AllAre pt.kernel (after_put pt.view x y id k q) (given pt.addresses (first_gives o (own_gives pt.kernel pt.view pt.addresses id q k))) t) (sym told)
+    (all_as pt.kernel pt.view (after_put pt.view x y id k q) pt.addresses t (told_again pt.view x y id k q u told) h)
+put_are pt t x y id k q (Own bag none to from) h = put_all pt.kernel pt.view pt.addresses t x y id k q bag none to from h
+put_are pt t x y id k q (Routed other plain none) h = put_routed pt.kernel pt.view pt.addresses t x y id k q other plain none h
+
+put_treads : (pt : Point) (t : Trails) (x y : ℕ) (id : MsgId) (k : MessageKind) (q : Pid) → PutFits pt t id k q → Treads pt t → Treads (moved pt (line.Put x y id k q) pt.kernel) t
+put_treads pt t x y id k q fits h =
+    let v = pt.view in
+    let w = after_put v x y id k q in
+    let b = given pt.addresses (first_gives (v.told id) (own_gives pt.kernel v pt.addresses id q k)) in
+    let all = put_are pt t x y id k q fits (all_are pt.kernel v pt.addresses t h.links h.own) in
+    record {
+      trail = λ r. trail_same v w t t r (λ m. refl) refl (h.trail r);
+      links = links_are pt.kernel w b t all;
+      own = own_of pt.kernel w b t all (about_put v t x y id k q h.own.about h.own.topic) h.own.topic;
+      pending = h.pending;
+    }
+
+-- a step of a migration
+stage_treads : (pt : Point) (t : Trails) (p : Pid) (s : Stage) → StageFits pt t p s → Treads pt t → Treads (moved pt (line.Migration s p) pt.kernel) t
+stage_treads pt t p stage.Frozen here h = learns_treads pt (view_after pt.view (line.Migration stage.Frozen p)) t (λ q. frozen_trail pt.view t p q here (h.trail q)) refl (λ r m c e. cc) h
+stage_treads pt t p stage.Asked fits h = quiet_treads pt (view_after pt.view (line.Migration stage.Asked p)) t (λ m q. refl) refl h.own.topic h
+stage_treads pt t p stage.Accepted fits h = learns_treads pt (view_after pt.view (line.Migration stage.Accepted p)) t (λ q. accepted_trail pt.view t p q fits.k fits.s fits.d fits.o fits.phase fits.off (h.trail q)) refl (λ r m c e. cc) h
+stage_treads pt t p stage.StateTaken fits h = quiet_treads pt (view_after pt.view (line.Migration stage.StateTaken p)) t (λ m q. refl) refl (λ r m c e. cc) h
+stage_treads pt t p stage.MemoryTaken fits h = quiet_treads pt (view_after pt.view (line.Migration stage.MemoryTaken p)) t (λ m q. refl) refl (λ r m c e. cc) h
+stage_treads pt t p stage.Left fits h = learns_treads pt (view_after pt.view (line.Migration stage.Left p)) t (λ q. left_line_trail pt.view t p q fits.d fits.holds fits.at fits.long fits.apart (h.trail q)) refl (λ r m c e. cc) h
+stage_treads pt t p stage.Restarted fits h = learns_treads pt (view_after pt.view (line.Migration stage.Restarted p)) t (λ q. restarted_trail pt.view t p q fits.k fits.s fits.d fits.o fits.phase fits.off (h.trail q)) refl h.own.topic h
+
+-- each line
+pub line_treads : (pt next : Point) (t : Trails) (l : Line) → after_line pt l ≡ Some next → LineFits pt t l → Treads pt t → Treads next (trails_after pt.view t l)
+line_treads pt next t (line.Label l) is fits h =
+    let (s, comes, last) = bind-is (kernel.step pt.kernel l) (λ (s : OneKernel). Some (moved pt (line.Label l) s)) next is in
+    let f : moved pt (line.Label l) s ≡ next = cc in
+    subst (λ (n : Point). Treads n t) f (label_treads pt s t l comes fits h)
+line_treads pt next t (line.Head d) is fits h = let f : moved pt (line.Head d) pt.kernel ≡ next = cc in subst (λ (z : Point). Treads z (trails_after pt.view t (line.Head d))) f (head_treads pt t d h)
+line_treads pt next t (line.Idle i) is fits h = let f : moved pt (line.Idle i) pt.kernel ≡ next = cc in subst (λ (z : Point). Treads z (trails_after pt.view t (line.Idle i))) f (quiet_treads pt (view_after pt.view (line.Idle i)) t (λ m q. refl) (hushed pt.view (line.Idle i) refl).told (h.own.topic) h)
+line_treads pt next t (line.Packet a b k x) is fits h = let f : moved pt (line.Packet a b k x) pt.kernel ≡ next = cc in subst (λ (z : Point). Treads z (trails_after pt.view t (line.Packet a b k x))) f (quiet_treads pt (view_after pt.view (line.Packet a b k x)) t (λ m q. refl) (hushed pt.view (line.Packet a b k x) refl).told (h.own.topic) h)
+line_treads pt next t (line.Old a b n) is fits h = let f : moved pt (line.Old a b n) pt.kernel ≡ next = cc in subst (λ (z : Point). Treads z (trails_after pt.view t (line.Old a b n))) f (quiet_treads pt (view_after pt.view (line.Old a b n)) t (λ m q. refl) (hushed pt.view (line.Old a b n) refl).told (h.own.topic) h)
+line_treads pt next t (line.Early a b n) is fits h = let f : moved pt (line.Early a b n) pt.kernel ≡ next = cc in subst (λ (z : Point). Treads z (trails_after pt.view t (line.Early a b n))) f (quiet_treads pt (view_after pt.view (line.Early a b n)) t (λ m q. refl) (hushed pt.view (line.Early a b n) refl).told (h.own.topic) h)
+line_treads pt next t (line.Acked a b n) is fits h = let f : moved pt (line.Acked a b n) pt.kernel ≡ next = cc in subst (λ (z : Point). Treads z (trails_after pt.view t (line.Acked a b n))) f (quiet_treads pt (view_after pt.view (line.Acked a b n)) t (λ m q. refl) (hushed pt.view (line.Acked a b n) refl).told (h.own.topic) h)
+line_treads pt next t (line.Resent i n) is fits h = let f : moved pt (line.Resent i n) pt.kernel ≡ next = cc in subst (λ (z : Point). Treads z (trails_after pt.view t (line.Resent i n))) f (quiet_treads pt (view_after pt.view (line.Resent i n)) t (λ m q. refl) (hushed pt.view (line.Resent i n) refl).told (h.own.topic) h)
+line_treads pt next t (line.Here i) is fits h = let f : moved pt (line.Here i) pt.kernel ≡ next = cc in subst (λ (z : Point). Treads z (trails_after pt.view t (line.Here i))) f (quiet_treads pt (view_after pt.view (line.Here i)) t (λ m q. refl) (hushed pt.view (line.Here i) refl).told (h.own.topic) h)
+line_treads pt next t (line.NoMove i) is fits h = let f : moved pt (line.NoMove i) pt.kernel ≡ next = cc in subst (λ (z : Point). Treads z (trails_after pt.view t (line.NoMove i))) f (quiet_treads pt (view_after pt.view (line.NoMove i)) t (λ m q. refl) (hushed pt.view (line.NoMove i) refl).told (h.own.topic) h)
+line_treads pt next t (line.NoChild p) is fits h = let f : moved pt (line.NoChild p) pt.kernel ≡ next = cc in subst (λ (z : Point). Treads z (trails_after pt.view t (line.NoChild p))) f (quiet_treads pt (view_after pt.view (line.NoChild p)) t (λ m q. refl) (hushed pt.view (line.NoChild p) refl).told (h.own.topic) h)
+line_treads pt next t (line.Pinned p) is fits h = let f : moved pt (line.Pinned p) pt.kernel ≡ next = cc in subst (λ (z : Point). Treads z (trails_after pt.view t (line.Pinned p))) f (quiet_treads pt (view_after pt.view (line.Pinned p)) t (λ m q. refl) (hushed pt.view (line.Pinned p) refl).told (h.own.topic) h)
+line_treads pt next t line.Nothing is fits h = let f : moved pt line.Nothing pt.kernel ≡ next = cc in subst (λ (z : Point). Treads z (trails_after pt.view t line.Nothing)) f (quiet_treads pt (view_after pt.view line.Nothing) t (λ m q. refl) (hushed pt.view line.Nothing refl).told (h.own.topic) h)
+line_treads pt next t (line.Taken a b n) is fits h = let f : moved pt (line.Taken a b n) pt.kernel ≡ next = cc in subst (λ (z : Point). Treads z (trails_after pt.view t (line.Taken a b n))) f (quiet_treads pt (view_after pt.view (line.Taken a b n)) t (λ m q. taken_known (taken_pair pt.view a b n) b (view.oldest (pt.view.pair a b)) m q) (hushed pt.view (line.Taken a b n) refl).told (same_topic pt.view (view_after pt.view (line.Taken a b n)) pt.addresses t (taken_topic (taken_pair pt.view a b n) b (view.oldest (pt.view.pair a b))) h.own) h)
+line_treads pt next t (line.Queued i) is fits h = let f : moved pt (line.Queued i) pt.kernel ≡ next = cc in subst (λ (z : Point). Treads z (trails_after pt.view t (line.Queued i))) f (quiet_treads pt (view_after pt.view (line.Queued i)) t (λ m q. queued_known (handled pt.view i) i (receiver_of (pt.view.told i)) m q) (hushed pt.view (line.Queued i) refl).told (same_topic pt.view (view_after pt.view (line.Queued i)) pt.addresses t (queued_topic (handled pt.view i) i (receiver_of (pt.view.told i))) h.own) h)
+line_treads pt next t (line.Held i) is fits h = let f : moved pt (line.Held i) pt.kernel ≡ next = cc in subst (λ (z : Point). Treads z (trails_after pt.view t (line.Held i))) f (quiet_treads pt (view_after pt.view (line.Held i)) t (λ m q. held_known (handled pt.view i) i (receiver_of (pt.view.told i)) m q) (hushed pt.view (line.Held i) refl).told (same_topic pt.view (view_after pt.view (line.Held i)) pt.addresses t (held_topic (handled pt.view i) i (receiver_of (pt.view.told i))) h.own) h)
+line_treads pt next t (line.Proto i) is fits h = let f : moved pt (line.Proto i) pt.kernel ≡ next = cc in subst (λ (z : Point). Treads z (trails_after pt.view t (line.Proto i))) f (quiet_treads pt (view_after pt.view (line.Proto i)) t (λ m q. proto_known (handled pt.view i) (pt.view.told i) m q) (hushed pt.view (line.Proto i) refl).told (proto_place pt.view (handled pt.view i) pt.addresses t i (pt.view.told i) refl h.own) h)
+line_treads pt next t (line.Lacks p a b) is fits h = let f : moved pt (line.Lacks p a b) pt.kernel ≡ next = cc in subst (λ (z : Point). Treads z (trails_after pt.view t (line.Lacks p a b))) f (quiet_treads pt (view_after pt.view (line.Lacks p a b)) t (λ m q. refl) (hushed pt.view (line.Lacks p a b) refl).told (λ r m c e. cc) h)
+line_treads pt next t (line.Stays p) is fits h = let f : moved pt (line.Stays p) pt.kernel ≡ next = cc in subst (λ (z : Point). Treads z (trails_after pt.view t (line.Stays p))) f (learns_treads pt (view_after pt.view (line.Stays p)) t (λ q. stays_trail pt.view t p q fits.k fits.s fits.d fits.o fits.phase fits.off (h.trail q)) refl h.own.topic h)
+line_treads pt next t (line.Forwarded i m) is fits h = let f : moved pt (line.Forwarded i m) pt.kernel ≡ next = cc in subst (λ (z : Point). Treads z (trails_after pt.view t (line.Forwarded i m))) f (forwarded_treads pt t i m fits h)
+line_treads pt next t (line.SentOn p n) is fits h = let f : moved pt (line.SentOn p n) pt.kernel ≡ next = cc in subst (λ (z : Point). Treads z (trails_after pt.view t (line.SentOn p n))) f (sent_on_treads pt t p n fits h)
+line_treads pt next t (line.Updated i n) is fits h = let f : moved pt (line.Updated i n) pt.kernel ≡ next = cc in subst (λ (z : Point). Treads z (trails_after pt.view t (line.Updated i n))) f (updated_treads pt t i n h)
+line_treads pt next t (line.Put x y i k q) is fits h = let f : moved pt (line.Put x y i k q) pt.kernel ≡ next = cc in subst (λ (z : Point). Treads z (trails_after pt.view t (line.Put x y i k q))) f (put_treads pt t x y i k q fits h)
+line_treads pt next t (line.Migration s p) is fits h = let f : moved pt (line.Migration s p) pt.kernel ≡ next = cc in subst (λ (z : Point). Treads z (trails_after pt.view t (line.Migration s p))) f (stage_treads pt t p s fits h)

@@ -1,0 +1,65 @@
+-- All that the kernel without machines and the lines say of processes and of what waits for them holds wherever the rule leads.
+use Rattle.std.proofs.Common.{◌≡◌, List, [], ◌∷◌, refl, ◌∙◌, subst}
+use Rattle.std.specs.declared.option.Option.TheVariants.{Some}
+use Rattle.dm_onekernel.specs.declared.boot.Boot.{Boot}
+use Rattle.dm_onekernel.specs.Boot.{IsValid}
+use Rattle.dm_schedule.specs.declared.Step.{Step}
+use Rattle.dm_rule.specs.Laws.{IsStep, Leads}
+use Rattle.dm_rule.specs.Parts.{Spelled}
+use Rattle.dm_rule.specs.Point.{Point, first_point, labels}
+use Rattle.dm_rule.specs.Rule.{group_of}
+use Rattle.dm_rule.proofs.Phases.Always.{phased_start, phased_group}
+use Rattle.dm_rulelaws.proofs.Fits.Start.{start_fits}
+use Rattle.dm_rulelaws.proofs.RunLabels.{group_replay, replay_fits}
+use Rattle.dm_rulelaws.proofs.Runs.{Based}
+use Rattle.dm_rulelaws.proofs.Based.Constants.{constant_group}
+use Rattle.dm_rulelaws.proofs.Based.Known.{known_group}
+use Rattle.dm_rulelaws.proofs.Based.Lists.{lists_start, lists_group}
+use Rattle.dm_rulelaws.proofs.Based.Queues.{waits_start, waits_group, waits_by, queued_of, held_of}
+use Rattle.dm_rulelaws.proofs.Based.Start.{known_start}
+use Rattle.dm_rulelaws.proofs.Based.Unmoved.{unmoved_start, unmoved_group}
+
+pub based_start : (b : Boot) → IsValid b → Based b (first_point b)
+based_start b valid =
+    let phased = phased_start b valid in
+    let waits = waits_start b in
+    record {
+      phased = phased;
+      fits = start_fits b valid;
+      images = refl;
+      machines = refl;
+      format = refl;
+      queued = queued_of (first_point b) phased waits;
+      held = held_of (first_point b) waits;
+      lists = lists_start b;
+      known = known_start b valid;
+      pending = refl;
+      unmoved = (unmoved_start b).none;
+    }
+
+pub based_group : (b : Boot) (pt : Point) (d : Step) (w : Spelled) → IsStep pt.kernel.machines d → group_of b pt d ≡ Some w → Based b pt → Based b w.point
+based_group b pt d w fit is h =
+    let phased = phased_group b pt d w fit is h.phased in
+    let same = constant_group b pt d w is in
+    let waits = waits_group b pt d w is h.phased h.known (waits_by pt h.phased h.queued h.held) in
+    let (r, e, sound, fits) = replay_fits (labels w.lines) h.phased.state.r h.phased.state.e pt.kernel w.point.kernel (group_replay b pt d w is) h.phased.state.sound h.fits in
+    record {
+      phased = phased;
+      fits = fits;
+      images = same.images ∙ h.images;
+      machines = same.machines ∙ h.machines;
+      format = same.format ∙ h.format;
+      queued = queued_of w.point phased waits;
+      held = held_of w.point waits;
+      lists = lists_group b pt d w is h.phased h.known h.lists;
+      known = known_group b pt d w is h.phased h.known;
+      pending = same.pending h.pending;
+      unmoved = (unmoved_group b pt d w is h.phased h.known (record { none = h.unmoved })).none;
+    }
+
+pub based_on : (b : Boot) (es : List Step) (pt end : Point) → Leads b pt es end → Based b pt → Based b end
+based_on b [] pt end leads h = subst (Based b) leads h
+based_on b (d ∷ es) pt end (w, fit, is, rest) h = based_on b es w.point end rest (based_group b pt d w fit is h)
+
+pub based_always : (b : Boot) (es : List Step) (pt : Point) → IsValid b → Leads b (first_point b) es pt → Based b pt
+based_always b es pt valid leads = based_on b es (first_point b) pt leads (based_start b valid)

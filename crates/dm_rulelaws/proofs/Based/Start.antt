@@ -1,0 +1,229 @@
+-- Before the first line, what machines know agrees with the kernel without machines.
+use Rattle.std.proofs.Common.{◌≡◌, ℕ, ◌+◌, ◌==◌, ◌&&◌, ◌||◌, Bool, true, false, List, [], ◌∷◌, ◌++◌, length, map, refl, ap, ◌∙◌, sym, ◌≢◌, is_some, nat_le, nat_lt, inl, inr, arith}
+use Rattle.std.specs.Prelude.{if◌then◌else◌, slice_get, option_map}
+use Rattle.std.specs.declared.option.Option.{Option}
+use Rattle.std.specs.declared.option.Option.TheVariants.{None, Some}
+use Rattle.std.proofs.lemmas.Bool.{cases_Bool, false≢true}
+use Rattle.std.proofs.lemmas.Bool.Decides.{nat_tests}
+use Rattle.dm_link.specs.declared.Pid.{Pid}
+use Rattle.dm_link.specs.Names.{pid_eq}
+use Rattle.dm_link.specs.Plain.{plain_link}
+use Rattle.dm_onekernel.specs.declared.boot.BootImage.{BootImage}
+use Rattle.dm_onekernel.specs.declared.boot.BootProcess.{BootProcess}
+use Rattle.dm_onekernel.specs.declared.boot.Boot.{Boot}
+use Rattle.dm_onekernel.specs.Boot.{IsValid, switchboard, manager, starting_at, slots_of, links_are_valid, processes_are_valid, process_is_valid}
+use Rattle.dm_onekernel.specs.Kernel.{Life, Alive}
+use Rattle.dm_onekernel.specs.Kernel as kernels
+use Rattle.dm_onekernel.specs.Start.{begun, first_life, life_at}
+use Rattle.dm_laws.proofs.Equal.{pid_eq-is, pid_eq-same, pid_eq-swap}
+use Rattle.dm_rule.specs.Point.{first_point}
+use Rattle.dm_rule.specs.View.{Known, known_at, ring_at, first_view}
+use Rattle.dm_rule.specs.View as view
+use Rattle.dm_rulelaws.specs.Fits.{is_server}
+use Rattle.dm_rulelaws.specs.KnownStands.{KnownStands, agrees, server_at, rings, turns_here}
+use Rattle.dm_rulelaws.proofs.Fits.Rises.{both}
+use Rattle.dm_rulelaws.proofs.Fits.Start.{get_some}
+
+abbrev one_if : Bool → ℕ
+one_if c = if c then 1 else 0
+
+-- a process is here while it lives
+abbrev known_of_life : Option Life → Known
+known_of_life None = view.Unknown
+known_of_life (Some (Alive x)) = view.Here
+known_of_life (Some (kernels.Ended y)) = view.Ended
+
+abbrev is_alive : Option Life → Bool
+is_alive None = false
+is_alive (Some (Alive x)) = true
+is_alive (Some (kernels.Ended y)) = false
+
+-- a process of a list after some others of the file
+record Listed (b : Boot) (earlier : List BootProcess) (p : BootProcess) (ps : List BootProcess) : Type 0 where
+  number : p.pid.num ≡ 3 + starting_at p.pid.home earlier
+  image : is_some (slice_get b.images p.image) ≡ true
+  rest : processes_are_valid b (earlier ++ p ∷ []) ps ≡ true
+
+listed : (b : Boot) (earlier : List BootProcess) (p : BootProcess) (ps : List BootProcess) → processes_are_valid b earlier (p ∷ ps) ≡ true → Listed b earlier p ps
+listed b earlier p ps h =
+    let k = both (process_is_valid b (starting_at p.pid.home earlier) p) (processes_are_valid b (earlier ++ p ∷ []) ps) h in
+    let n = 3 + starting_at p.pid.home earlier in
+    let one = both (nat_lt p.pid.home (length b.machines)) ((p.pid.num == n) && (nat_lt p.image (length b.images) && (nat_le (length p.links) (slots_of b.format) && links_are_valid b p.links))) k.0 in
+    let second = both (p.pid.num == n) (nat_lt p.image (length b.images) && (nat_le (length p.links) (slots_of b.format) && links_are_valid b p.links)) one.1 in
+    let three = both (nat_lt p.image (length b.images)) (nat_le (length p.links) (slots_of b.format) && links_are_valid b p.links) second.1 in
+    let number = second.0 in
+    record { number = grind (arith, nat_tests); image = get_some b.images p.image three.0; rest = k.1 }
+
+starting-last : (m : ℕ) (ps : List BootProcess) (p : BootProcess) → starting_at m (ps ++ p ∷ []) ≡ starting_at m ps + one_if (p.pid.home == m)
+starting-last m [] p = omega arith
+starting-last m (q ∷ qs) p = let h = starting-last m qs p in omega (arith, h)
+
+-- a number below those that are left is none of theirs
+none_later : (b : Boot) (earlier ps : List BootProcess) (q : Pid) → processes_are_valid b earlier ps ≡ true → nat_lt q.num (3 + starting_at q.home earlier) ≡ true → life_at b ps q ≡ None
+none_later b earlier [] q h low = refl
+none_later b earlier (p ∷ ps) q h low =
+    let k = listed b earlier p ps h in
+    let number = k.number in
+    let more = starting-last q.home earlier p in
+    let apart : pid_eq p.pid q ≡ false = apart_of (pid_eq p.pid q) refl in
+    let next : nat_lt q.num (3 + starting_at q.home (earlier ++ p ∷ [])) ≡ true = grind (arith, nat_tests) in
+    ap (λ (c : Bool). if c then first_life b p else life_at b ps q) apart ∙ none_later b (earlier ++ p ∷ []) ps q k.rest next
+  where
+    apart_of : (c : Bool) → pid_eq p.pid q ≡ c → pid_eq p.pid q ≡ false
+    apart_of false e = e
+    apart_of true e =
+        let is : p.pid ≡ q = pid_eq-is p.pid q e in
+        let k = listed b earlier p ps h in
+        let number : q.num ≡ 3 + starting_at q.home earlier = sym (ap (λ (v : Pid). v.num) is) ∙ k.number ∙ ap (λ (v : Pid). 3 + starting_at v.home earlier) is in
+        let off : nat_lt q.num (3 + starting_at q.home earlier) ≡ false = grind (arith, nat_tests) in
+        absurd (false≢true (sym off ∙ low))
+
+alive_first : (b : Boot) (p : BootProcess) (o : Option BootImage) → is_some o ≡ true
+    → (known_of_life (option_map (λ (image : BootImage). Alive (begun b.format image (map plain_link p.links))) o) ≡ view.Here) × (is_alive (option_map (λ (image : BootImage). Alive (begun b.format image (map plain_link p.links))) o) ≡ true)
+alive_first b p None e = cc
+alive_first b p (Some i) e = (refl, refl)
+
+-- what machines know at the start
+servers_known : (q : Pid) (m : ℕ) (c : Bool) → is_server q ≡ c → (if (m == 0) && c then view.Here else view.Unknown) ≡ (if q.home == m then (if c then view.Here else view.Unknown) else view.Unknown)
+servers_known q m false e = never (m == 0) (q.home == m)
+  where
+    never : (c d : Bool) → (if c && false then view.Here else view.Unknown) ≡ (if d then view.Unknown else view.Unknown)
+    never true true = refl
+    never true false = refl
+    never false true = refl
+    never false false = refl
+servers_known q m true e =
+    let home : q.home ≡ 0 = home_of (pid_eq q switchboard) refl e in
+    let same : (m == 0) ≡ (q.home == m) = grind (arith, nat_tests) in
+    ap (λ (c : Bool). if c && true then view.Here else view.Unknown) same ∙ pick (q.home == m)
+  where
+    home_of : (c : Bool) → pid_eq q switchboard ≡ c → (c || pid_eq q manager) ≡ true → q.home ≡ 0
+    home_of true f g = grind (arith, nat_tests)
+    home_of false f g = grind (arith, nat_tests)
+
+    pick : (c : Bool) → (if c && true then view.Here else view.Unknown) ≡ (if c then view.Here else view.Unknown)
+    pick true = refl
+    pick false = refl
+
+known_first : (b : Boot) (earlier ps : List BootProcess) (m : ℕ) (q : Pid) → processes_are_valid b earlier ps ≡ true → known_at ps m q ≡ (if q.home == m then (if is_server q then view.Here else known_of_life (life_at b ps q)) else view.Unknown)
+known_first b earlier [] m q h = servers_known q m (is_server q) refl
+known_first b earlier (p ∷ ps) m q h = elim (cases_Bool (pid_eq p.pid q)) [
+  | inl same ↦
+      let k = listed b earlier p ps h in
+      let is : p.pid ≡ q = pid_eq-is p.pid q same in
+      let number : q.num ≡ 3 + starting_at q.home earlier = sym (ap (λ (v : Pid). v.num) is) ∙ k.number ∙ ap (λ (v : Pid). 3 + starting_at v.home earlier) is in
+      let server : is_server q ≡ false = (let e : pid_eq q switchboard ≡ false = grind (arith, nat_tests) in let d : pid_eq q manager ≡ false = grind (arith, nat_tests) in ap (λ (c : Bool). c || pid_eq q manager) e ∙ d) in
+      let life : known_of_life (life_at b (p ∷ ps) q) ≡ view.Here = ap (λ (c : Bool). known_of_life (if c then first_life b p else life_at b ps q)) same ∙ (alive_first b p (slice_get b.images p.image) k.image).0 in
+      let rest = known_first b (earlier ++ p ∷ []) ps m q k.rest in
+      ap (λ (c : Bool). if c && (p.pid.home == m) then view.Here else known_at ps m q) same
+      ∙ ap (λ (v : Pid). if v.home == m then view.Here else known_at ps m q) is
+      ∙ here_or (q.home == m) (known_at ps m q) (if is_server q then view.Here else known_of_life (life_at b ps q)) rest
+      ∙ ap (λ (v : Known). if q.home == m then v else view.Unknown) (sym life)
+      ∙ ap (λ (c : Bool). if q.home == m then (if c then view.Here else known_of_life (life_at b (p ∷ ps) q)) else view.Unknown) (sym server)
+  | inr apart ↦
+      let k = listed b earlier p ps h in
+      ap (λ (c : Bool). if c && (p.pid.home == m) then view.Here else known_at ps m q) apart ∙ known_first b (earlier ++ p ∷ []) ps m q k.rest
+      ∙ ap (λ (c : Bool). if q.home == m then (if is_server q then view.Here else known_of_life (if c then first_life b p else life_at b ps q)) else view.Unknown) (sym apart)
+]
+  where
+    here_or : (c : Bool) (x y : Known) → x ≡ (if c then y else view.Unknown) → (if c then view.Here else x) ≡ (if c then view.Here else view.Unknown)
+    here_or true x y e = refl
+    here_or false x y e = e
+
+-- rings at the start
+ring_if : (q p : Pid) (qs : List Pid) (c : Bool) → rings q (if c then p ∷ qs else qs) ≡ one_if (c && pid_eq q p) + rings q qs
+ring_if q p qs true = refl
+ring_if q p qs false = omega arith
+
+ring_first : (b : Boot) (earlier ps : List BootProcess) (m : ℕ) (q : Pid) → processes_are_valid b earlier ps ≡ true → rings q (ring_at ps m) ≡ one_if ((q.home == m) && is_alive (life_at b ps q))
+ring_first b earlier [] m q h = sym (never (q.home == m))
+  where
+    never : (c : Bool) → one_if (c && false) ≡ 0
+    never true = refl
+    never false = refl
+ring_first b earlier (p ∷ ps) m q h = elim (cases_Bool (pid_eq p.pid q)) [
+  | inl same ↦
+      let k = listed b earlier p ps h in
+      let is : p.pid ≡ q = pid_eq-is p.pid q same in
+      let number : q.num ≡ 3 + starting_at q.home earlier = sym (ap (λ (v : Pid). v.num) is) ∙ k.number ∙ ap (λ (v : Pid). 3 + starting_at v.home earlier) is in
+      let home : p.pid.home ≡ q.home = ap (λ (v : Pid). v.home) is in
+      let more = starting-last q.home earlier p in
+      let one : one_if (p.pid.home == q.home) ≡ 1 = (let e : (p.pid.home == q.home) ≡ true = grind (arith, nat_tests) in ap one_if e) in
+      let low : nat_lt q.num (3 + starting_at q.home (earlier ++ p ∷ [])) ≡ true = grind (arith, nat_tests) in
+      let none : life_at b ps q ≡ None = none_later b (earlier ++ p ∷ []) ps q k.rest low in
+      let rest : rings q (ring_at ps m) ≡ 0 = ring_first b (earlier ++ p ∷ []) ps m q k.rest ∙ ap (λ (o : Option Life). one_if ((q.home == m) && is_alive o)) none ∙ never (q.home == m) in
+      let first = ring_if q p.pid (ring_at ps m) (p.pid.home == m) in
+      let mine : one_if ((p.pid.home == m) && pid_eq q p.pid) ≡ one_if ((q.home == m) && true) = ap (λ (v : Pid). one_if ((v.home == m) && pid_eq q v)) is ∙ ap (λ (c : Bool). one_if ((q.home == m) && c)) (pid_eq-same q) in
+      let alive : one_if ((q.home == m) && is_alive (life_at b (p ∷ ps) q)) ≡ one_if ((q.home == m) && true) =
+      ap (λ (c : Bool). one_if ((q.home == m) && is_alive (if c then first_life b p else life_at b ps q))) same ∙ ap (λ (c : Bool). one_if ((q.home == m) && c)) (alive_first b p (slice_get b.images p.image) k.image).1 in
+      omega (arith, first, rest, mine, alive)
+  | inr apart ↦
+      let k = listed b earlier p ps h in
+      let rest = ring_first b (earlier ++ p ∷ []) ps m q k.rest in
+      let first = ring_if q p.pid (ring_at ps m) (p.pid.home == m) in
+      let mine : one_if ((p.pid.home == m) && pid_eq q p.pid) ≡ 0 = ap (λ (c : Bool). one_if ((p.pid.home == m) && c)) (pid_eq-swap q p.pid ∙ apart) ∙ never (p.pid.home == m) in
+      let alive : one_if ((q.home == m) && is_alive (life_at b (p ∷ ps) q)) ≡ one_if ((q.home == m) && is_alive (life_at b ps q)) = ap (λ (c : Bool). one_if ((q.home == m) && is_alive (if c then first_life b p else life_at b ps q))) apart in
+      omega (arith, first, rest, mine, alive)
+]
+  where
+    never : (c : Bool) → one_if (c && false) ≡ 0
+    never true = refl
+    never false = refl
+
+-- what they know agrees
+agrees_first : (c : Bool) (o : Option Life) → agrees (if c then known_of_life o else view.Unknown) o ≡ true
+agrees_first true None = refl
+agrees_first true (Some (Alive x)) = refl
+agrees_first true (Some (kernels.Ended y)) = refl
+agrees_first false o = refl
+
+turns_first : (c : Bool) (o : Option Life) → one_if (c && is_alive o) ≡ turns_here false (if c then known_of_life o else view.Unknown)
+turns_first true None = refl
+turns_first true (Some (Alive x)) = refl
+turns_first true (Some (kernels.Ended y)) = refl
+turns_first false o = refl
+
+some_first : (o : Option Life) → is_some o ≡ true → known_of_life o ≢ view.Unknown
+some_first None e k = absurd (false≢true e)
+some_first (Some (Alive x)) e k = cc
+some_first (Some (kernels.Ended y)) e k = cc
+
+is_first : (b : Boot) (m : ℕ) (q : Pid) (c : Bool) → IsValid b → is_server q ≡ c → known_at b.processes m q ≡ (if q.home == m then (if c then view.Here else known_of_life (life_at b b.processes q)) else view.Unknown)
+is_first b m q c valid e = known_first b [] b.processes m q valid.processes ∙ ap (λ (x : Bool). if q.home == m then (if x then view.Here else known_of_life (life_at b b.processes q)) else view.Unknown) e
+
+server_home : (q : Pid) (c : Bool) → pid_eq q switchboard ≡ c → (c || pid_eq q manager) ≡ true → (q.home ≡ 0) × (nat_lt q.num 3 ≡ true)
+server_home q true f g = (grind (arith, nat_tests), grind (arith, nat_tests))
+server_home q false f g = (grind (arith, nat_tests), grind (arith, nat_tests))
+
+server_first : (b : Boot) (m : ℕ) (q : Pid) → IsValid b → is_server q ≡ true → known_at b.processes m q ≡ server_at m
+server_first b m q valid e =
+    let home = (server_home q (pid_eq q switchboard) refl e).0 in
+    let same : (q.home == m) ≡ (m == 0) = grind (arith, nat_tests) in
+    is_first b m q true valid e ∙ ap (λ (c : Bool). if c then view.Here else view.Unknown) same
+
+server_none : (b : Boot) (q : Pid) → IsValid b → is_server q ≡ true → life_at b b.processes q ≡ None
+server_none b q valid e =
+    let low = (server_home q (pid_eq q switchboard) refl e).1 in
+    none_later b [] b.processes q valid.processes (let f : nat_lt q.num (3 + starting_at q.home []) ≡ true = low in f)
+
+ring_by : (b : Boot) (m : ℕ) (q : Pid) (c : Bool) → IsValid b → is_server q ≡ c → rings q (ring_at b.processes m) ≡ turns_here c (known_at b.processes m q)
+ring_by b m q true valid e =
+    ring_first b [] b.processes m q valid.processes ∙ ap (λ (o : Option Life). one_if ((q.home == m) && is_alive o)) (server_none b q valid e) ∙ never (q.home == m)
+  where
+    never : (c : Bool) → one_if (c && false) ≡ 0
+    never true = refl
+    never false = refl
+ring_by b m q false valid e =
+    ring_first b [] b.processes m q valid.processes ∙ turns_first (q.home == m) (life_at b b.processes q) ∙ ap (turns_here false) (sym (is_first b m q false valid e))
+
+self : (n : ℕ) → (n == n) ≡ true
+self n = grind (arith, nat_tests)
+
+pub known_start : (b : Boot) → IsValid b → KnownStands (first_point b).kernel (first_point b).view
+known_start b valid = record {
+  server = λ m q e. server_first b m q valid e;
+  agree = λ m q e. ap (λ (k : Known). agrees k (life_at b b.processes q)) (is_first b m q false valid e) ∙ agrees_first (q.home == m) (life_at b b.processes q);
+  home = λ q e some unknown. some_first (life_at b b.processes q) some
+      (sym (is_first b q.home q false valid e ∙ ap (λ (c : Bool). if c then known_of_life (life_at b b.processes q) else view.Unknown) (self q.home)) ∙ unknown);
+  ring = λ m q. ring_by b m q (is_server q) valid refl;
+}

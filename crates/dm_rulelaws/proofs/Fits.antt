@@ -1,0 +1,9 @@
+-- Lemmas of the family Fits, by file.
+pub mod Rises
+pub mod Calls
+pub mod Receives
+pub mod Steps
+pub mod Serves
+pub mod Creates
+pub mod Servers
+pub mod Start

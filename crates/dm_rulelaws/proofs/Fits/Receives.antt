@@ -1,0 +1,182 @@
+-- What a process becomes by its instructions, its calls and its receives fits.
+use Rattle.std.proofs.Common.{◌≡◌, ℕ, zero, suc, ◌+◌, ◌≤◌, ◌&&◌, Bool, true, false, List, [], ◌∷◌, length, refl, ap, ◌∙◌, sym, subst, nat_le, arith}
+use Rattle.std.specs.Prelude.{⊤, if◌then◌else◌}
+use Rattle.std.specs.declared.option.Option.{Option}
+use Rattle.std.specs.declared.option.Option.TheVariants.{None, Some}
+use Rattle.std.proofs.lemmas.Grind.{common_steps}
+use Rattle.dm_link.specs.declared.Pid.{Pid}
+use Rattle.dm_link.specs.Names.{pid_eq}
+use Rattle.dm_link.specs.Plain.{PlainLink}
+use Rattle.dm_linktable.specs.Slots.{first_empty}
+use Rattle.dm_message.specs.declared.MsgId.{MsgId}
+use Rattle.dm_message.specs.Plain as what
+use Rattle.dm_message.specs.Plain.{PlainMessage, PlainWhat}
+use Rattle.dm_process.specs.Mail.{on_mask}
+use Rattle.dm_processor.specs.Instructions.{Row, instruction}
+use Rattle.dm_processor.specs.Instructions as row
+use Rattle.dm_processor.specs.declared.registers.Regs.{Regs}
+use Rattle.dm_processor.specs.Kept.{KeepsLengths}
+use Rattle.dm_processor.proofs.Lengths.{instruction-lengths}
+use Rattle.dm_onekernel.specs.declared.label.Reply.{Reply}
+use Rattle.dm_onekernel.specs.Options.{bind}
+use Rattle.dm_onekernel.specs.PlainProcess.{PlainProcess, PlainStatus, Ready, Waiting, Moving}
+use Rattle.dm_onekernel.specs.Kernel.{Alive, OneKernel}
+use Rattle.dm_onekernel.specs.Pieces.{written_at}
+use Rattle.dm_onekernel.specs.Receiving as receiving
+use Rattle.dm_onekernel.specs.Refusals.{first_failed}
+use Rattle.dm_onekernel.specs.Calls as calls
+use Rattle.dm_onekernel.specs.Step as kernel
+use Rattle.dm_laws.proofs.Counted.{pending_of}
+use Rattle.dm_laws.proofs.Steps.{bind-is, alive-is, Runs}
+use Rattle.dm_rulelaws.specs.Fits.{Each, Lives, has_bytes, LinkFits, SlotFits, move_fits, ProcessFits, WhatFits, KernelFits}
+use Rattle.dm_rulelaws.proofs.Fits.Rises.{move_on}
+use Rattle.dm_rulelaws.proofs.Fits.Calls.{CallFits, call_fits, slots_set}
+
+-- a process that executes
+ready_if : (y x : PlainProcess) (b : Bool) → (if b then None else Some y) ≡ Some x → y ≡ x
+ready_if y x true e = cc
+ready_if y x false e = cc
+
+ready_is : (y x : PlainProcess) (st : PlainStatus) → kernel.if_ready y st ≡ Some x → (y ≡ x) × (pending_of st ≡ None)
+ready_is y x Ready e = (ready_if y x y.stopped e, refl)
+ready_is y x (Waiting mask base size) e = cc
+ready_is y x (Moving dir owner base own left pending) e = cc
+
+pub running_is : (s : OneKernel) (p : Pid) (x : PlainProcess) → kernel.running s p ≡ Some x → Runs s p x
+running_is s p x e =
+    let (y, is, ready) = bind-is (kernel.alive (s.processes p)) (λ (v : PlainProcess). kernel.if_ready v v.status) x e in
+    let k = ready_is y x y.status ready in
+    record { alive = alive-is (s.processes p) x (is ∙ ap Some k.0); still = sym (ap (λ (v : PlainProcess). pending_of v.status) k.0) ∙ k.1 }
+
+-- memory never shrinks
+pub written_longer : (memory : List ℕ) (base : ℕ) (bytes : List ℕ) → length memory ≤ length (written_at memory base bytes)
+written_longer memory base bytes = grind (arith, common_steps)
+
+plain_length : (w : Row) (regs : Regs) (bytes : List ℕ) (m : kernel.Machine) → KeepsLengths w regs bytes → kernel.plain_row w ≡ Some m → length m.bytes ≡ length bytes
+plain_length (row.Plain r b) regs bytes m h e =
+    let f : record { regs = r; bytes = b } ≡ m = cc in
+    let g = h.1 in
+    sym (ap (λ (v : kernel.Machine). length v.bytes) f) ∙ g
+plain_length (row.Calls n r) regs bytes m h e = cc
+plain_length (row.Faults f) regs bytes m h e = cc
+
+pub steps_length : (k : ℕ) (m n : kernel.Machine) → kernel.plain_steps k m ≡ Some n → length n.bytes ≡ length m.bytes
+steps_length zero m n e = let f : m ≡ n = cc in sym (ap (λ (v : kernel.Machine). length v.bytes) f)
+steps_length (suc k) m n e =
+    let (mid, before, last) = bind-is (kernel.plain_steps k m) kernel.plain_step n e in
+    plain_length (instruction mid.regs mid.bytes) mid.regs mid.bytes n (instruction-lengths mid.regs mid.bytes) last ∙ steps_length k m mid before
+
+-- a process that goes on, and whose memory doesn't shrink
+pub record GoesOn (ps : Lives) (x y : PlainProcess) : Type 0 where
+  pub memory : length x.memory ≤ length y.memory
+  pub slots : Each (SlotFits ps) y.links
+  pub move : move_fits ps y y.status ≡ true
+
+-- what comes next of a process that executes
+abbrev pub NextFits : Lives → PlainProcess → kernel.Next → Type 0
+NextFits ps x (kernel.Calls number called) = CallFits ps x called
+NextFits ps x (kernel.Faults fault) = ⊤
+
+pub record NextIs (s : OneKernel) (p : Pid) (n : kernel.Next) : Type 0 where
+  pub x : PlainProcess
+  pub is : Runs s p x
+  pub z : PlainProcess
+  pub memory : z.memory ≡ x.memory
+  pub fits : NextFits s.processes z n
+
+alive_has : (s : OneKernel) (p : Pid) (x : PlainProcess) (n : ℕ) → s.processes p ≡ Some (Alive x) → nat_le n (length x.memory) ≡ true → has_bytes n (s.processes p) ≡ true
+alive_has s p x n is e = ap (has_bytes n) is ∙ e
+
+next_row_is : (s : OneKernel) (p : Pid) (x : PlainProcess) (w : Row) (n : kernel.Next) → Runs s p x → KernelFits s → kernel.next_row p x w ≡ Some n → NextIs s p n
+next_row_is s p x (row.Plain regs bytes) n is h e = cc
+next_row_is s p x (row.Calls number regs) n is h e =
+    let z = record x { regs = regs } in
+    let f : kernel.Calls number (calls.call p z number) ≡ n = cc in
+    let fits = h.processes p x is.alive in
+    record {
+      x = x;
+      is = is;
+      z = z;
+      memory = refl;
+      fits = subst (NextFits s.processes z) f (call_fits s.processes p z number (λ k e. alive_has s p x k is.alive e) (record { slots = fits.slots; move = move_on s.processes s.processes (λ q k g. g) x z (omega arith) x.status fits.move }));
+    }
+next_row_is s p x (row.Faults fault) n is h e =
+    let f : kernel.Faults fault ≡ n = cc in
+    record { x = x; is = is; z = x; memory = refl; fits = subst (NextFits s.processes x) f tt }
+
+pub next_is : (s : OneKernel) (p : Pid) (n : kernel.Next) → KernelFits s → kernel.next s p ≡ Some n → NextIs s p n
+next_is s p n h e =
+    let (x, running, row_is) = bind-is (kernel.running s p) (λ (v : PlainProcess). kernel.next_row p v (instruction v.regs v.memory)) n e in
+    next_row_is s p x (instruction x.regs x.memory) n (running_is s p x running) h row_is
+
+-- links are placed
+placed_step : (ps : Lives) (t : receiving.Placed) (r : ℕ) (l : PlainLink) (o : Option ℕ) → LinkFits ps l → Each (SlotFits ps) t.links → Each (SlotFits ps) (receiving.place_into t r l o).links
+placed_step ps t r l None f h = h
+placed_step ps t r l (Some slot) f h = slots_set ps t.links slot (Some l) f h
+
+placed_fit : (ps : Lives) (ls : List PlainLink) (t : receiving.Placed) (r : ℕ) → Each (LinkFits ps) ls → Each (SlotFits ps) t.links → Each (SlotFits ps) (receiving.place_links t r ls).links
+placed_fit ps [] t r f h = h
+placed_fit ps (l ∷ ls) t r f h = placed_fit ps ls (receiving.place_into t r l (first_empty t.links)) (r + 1) f.1 (placed_step ps t r l (first_empty t.links) f.0 h)
+
+abbrev pub CompletedFits : Lives → PlainProcess → receiving.Completed → Type 0
+CompletedFits ps x (receiving.Receives y) = GoesOn ps x y
+CompletedFits ps x (receiving.Refuses c y) = GoesOn ps x y
+
+unless_fits : (ps : Lives) (x : PlainProcess) (base code channel : ℕ) (body : List ℕ) (links : List PlainLink) (o : Option Reply) → Each (LinkFits ps) links → ProcessFits ps x → CompletedFits ps x (receiving.completes_unless o x (receiving.receives x base code channel body links))
+unless_fits ps x base code channel body links None f h = record {
+  memory = written_longer x.memory base body;
+  slots = placed_fit ps links (record { regs = receiving.received_regs x.regs code channel (length body) (length links); links = x.links }) 5 f h.slots;
+  move = refl;
+}
+unless_fits ps x base code channel body links (Some c) f h = record { memory = omega arith; slots = h.slots; move = refl }
+
+if_completes : (ps : Lives) (x : PlainProcess) (b : Bool) (c d : receiving.Completed) → CompletedFits ps x c → (if b then Some c else None) ≡ Some d → CompletedFits ps x d
+if_completes ps x true c d h e = let f : c ≡ d = cc in subst (CompletedFits ps x) f h
+if_completes ps x false c d h e = cc
+
+completes_what_fits : (s : OneKernel) (p : Pid) (x : PlainProcess) (i : MsgId) (m : PlainMessage) (mask base size : ℕ) (w : PlainWhat) (d : receiving.Completed) → WhatFits s i m w → ProcessFits s.processes x → receiving.completes_what p x m mask base size w ≡ Some d
+    → CompletedFits s.processes x d
+completes_what_fits s p x i m mask base size (what.User code channel body links) d f h e =
+    if_completes s.processes x (pid_eq m.to p && on_mask mask channel) (receiving.completes x base size code channel body links) d
+    (unless_fits s.processes x base code channel body links (first_failed (receiving.receive_refusals x size body links)) f.1 h) e
+completes_what_fits s p x i m mask base size what.Stop d f h e = cc
+completes_what_fits s p x i m mask base size what.Resume d f h e = cc
+completes_what_fits s p x i m mask base size what.Kill d f h e = cc
+completes_what_fits s p x i m mask base size (what.Read a b) d f h e = cc
+completes_what_fits s p x i m mask base size (what.Write a b) d f h e = cc
+completes_what_fits s p x i m mask base size (what.Block a) d f h e = cc
+completes_what_fits s p x i m mask base size what.Written d f h e = cc
+completes_what_fits s p x i m mask base size what.Gone d f h e = cc
+completes_what_fits s p x i m mask base size (what.Create a b) d f h e = cc
+completes_what_fits s p x i m mask base size (what.Created a) d f h e = cc
+completes_what_fits s p x i m mask base size what.NoRoom d f h e = cc
+completes_what_fits s p x i m mask base size (what.Move a) d f h e = cc
+completes_what_fits s p x i m mask base size (what.Moved a) d f h e = cc
+
+abbrev StatusCompletes : OneKernel → PlainProcess → PlainStatus → receiving.Completed → Type 0
+StatusCompletes s x st d = (pending_of st ≡ None) × CompletedFits s.processes x d
+
+completes_status_fits : (s : OneKernel) (p : Pid) (x : PlainProcess) (i : MsgId) (m : PlainMessage) (st : PlainStatus) (d : receiving.Completed) → WhatFits s i m m.what → ProcessFits s.processes x → receiving.completes_status p x m st ≡ Some d
+    → StatusCompletes s x st d
+completes_status_fits s p x i m (Waiting mask base size) d f h e = (refl, completes_what_fits s p x i m mask base size m.what d f h e)
+completes_status_fits s p x i m Ready d f h e = cc
+completes_status_fits s p x i m (Moving dir owner base own left pending) d f h e = cc
+
+completes_with_fits : (s : OneKernel) (p : Pid) (x : PlainProcess) (i : MsgId) (m : PlainMessage) (b : Bool) (d : receiving.Completed) → WhatFits s i m m.what → ProcessFits s.processes x → (if b then None else receiving.completes_status p x m x.status) ≡ Some d
+    → StatusCompletes s x x.status d
+completes_with_fits s p x i m true d f h e = cc
+completes_with_fits s p x i m false d f h e = completes_status_fits s p x i m x.status d f h e
+
+pub record Completing (s : OneKernel) (p : Pid) (d : receiving.Completed) : Type 0 where
+  pub x : PlainProcess
+  pub alive : s.processes p ≡ Some (Alive x)
+  pub still : pending_of x.status ≡ None
+  pub fits : CompletedFits s.processes x d
+
+pub completing_is : (s : OneKernel) (p : Pid) (id : MsgId) (d : receiving.Completed) → KernelFits s → kernel.completing s p id ≡ Some d → Completing s p d
+completing_is s p id d h e =
+    let (x, is, rest) = bind-is (kernel.alive (s.processes p)) (λ (v : PlainProcess). bind (s.bag id) (receiving.completes_with p v)) d e in
+    let (m, there, last) = bind-is (s.bag id) (receiving.completes_with p x) d rest in
+    let alive = alive-is (s.processes p) x is in
+    let k = completes_with_fits s p x id m x.stopped d (h.messages id m there) (h.processes p x alive) last in
+    record { x = x; alive = alive; still = k.0; fits = k.1 }

@@ -1,0 +1,382 @@
+-- What kernels do with messages keeps that all fits.
+use Rattle.std.proofs.Common.{◌≡◌, ℕ, ◌+◌, ◌-◌, ◌≤◌, ◌==◌, ◌&&◌, Bool, true, false, List, length, take, drop, refl, ap, ◌∙◌, sym, subst, nat_le, arith}
+use Rattle.std.specs.Prelude.{if◌then◌else◌}
+use Rattle.std.specs.declared.option.Option.{Option}
+use Rattle.std.specs.declared.option.Option.TheVariants.{None, Some}
+use Rattle.std.proofs.lemmas.Bool.Decides.{nat_tests}
+use Rattle.std.proofs.lemmas.List.{length-take, length-drop}
+use Rattle.dm_link.specs.declared.Pid.{Pid}
+use Rattle.dm_message.specs.declared.MsgId.{MsgId}
+use Rattle.dm_message.specs.Ids.{id_eq, id_of}
+use Rattle.dm_message.specs.Plain as what
+use Rattle.dm_message.specs.Plain.{PlainMessage, PlainWhat}
+use Rattle.dm_process.specs.declared.process.Direction.{Direction}
+use Rattle.dm_process.specs.declared.process.Direction.TheVariants as direction
+use Rattle.dm_onekernel.specs.declared.label.Label.TheVariants as label
+use Rattle.dm_onekernel.specs.declared.label.Why.{Why}
+use Rattle.dm_onekernel.specs.declared.label.Why.TheVariants as why
+use Rattle.dm_onekernel.specs.declared.label.Reply.TheVariants as reply
+use Rattle.dm_onekernel.specs.Options.{bind}
+use Rattle.dm_onekernel.specs.PlainProcess.{PlainProcess, PlainStatus, Ready, Waiting, Moving}
+use Rattle.dm_onekernel.specs.Kernel.{Life, Alive, Ended, OneKernel, with_process, with_sent}
+use Rattle.dm_onekernel.specs.Pieces as pieces
+use Rattle.dm_onekernel.specs.Pieces.{answer_id, answer_to}
+use Rattle.dm_onekernel.specs.Service as service
+use Rattle.dm_onekernel.specs.Service.{without_message, is_of_memory, is_dropped}
+use Rattle.dm_onekernel.specs.Step as kernel
+use Rattle.dm_laws.proofs.Counted.{is_piece, pending_of}
+use Rattle.dm_laws.proofs.Equal.{id_eq-same}
+use Rattle.dm_laws.proofs.Movers.{One, stayed, out_at}
+use Rattle.dm_laws.proofs.Sound.{Sound}
+use Rattle.dm_laws.proofs.Steps.{bind-is, when-is, alive-is}
+use Rattle.dm_rulelaws.specs.Fits.{Each, Lives, has_bytes, SlotFits, move_fits, ProcessFits, piece_fits, status_awaits, awaits, WhatFits, KernelFits}
+use Rattle.dm_rulelaws.proofs.Fits.Rises.{both, two, move_on, Becomes, set_if, set_fits, set_at, set_rises, out_fits, put_fits, end_fits}
+use Rattle.dm_rulelaws.proofs.Fits.Calls.{SentFits, requests_fit}
+use Rattle.dm_rulelaws.proofs.Fits.Receives.{GoesOn, written_longer}
+use Rattle.dm_rulelaws.proofs.Fits.Steps.{becomes, sent_fits}
+
+-- a process that goes on waiting for the same
+pub same_becomes : (s : OneKernel) (p : Pid) (x y : PlainProcess) → s.processes p ≡ Some (Alive x) → y.status ≡ x.status → GoesOn s.processes x y → Becomes s p (Alive y)
+same_becomes s p x y is status goes = becomes s p x y is goes (λ i m there from e. ap (λ (st : PlainStatus). status_awaits st i.n m.what) status ∙ e)
+
+-- the receiver of a message goes on
+changed_fits : (s : OneKernel) (id : MsgId) (m : PlainMessage) (x y : PlainProcess) → s.processes m.to ≡ Some (Alive x) → y.status ≡ x.status → GoesOn s.processes x y → KernelFits s → KernelFits (service.changed s id m y)
+changed_fits s id m x y is status g h =
+    set_fits (without_message s id) m.to (Alive y) (same_becomes (without_message s id) m.to x y is status (record { memory = g.memory; slots = g.slots; move = g.move })) (out_fits s id h)
+
+goes_same : (s : OneKernel) (p : Pid) (x y : PlainProcess) → length x.memory ≤ length y.memory → y.links ≡ x.links → y.status ≡ x.status → s.processes p ≡ Some (Alive x) → KernelFits s → GoesOn s.processes x y
+goes_same s p x y le links status is h =
+    let f = h.processes p x is in
+    record {
+      memory = le;
+      slots = subst (Each (SlotFits s.processes)) (sym links) f.slots;
+      move = subst (λ (st : PlainStatus). move_fits s.processes y st ≡ true) (sym status) (move_on s.processes s.processes (λ q n e. e) x y le x.status f.move);
+    }
+
+-- whoever awaits a request awaits its answers
+status_turns : (st : PlainStatus) (n : ℕ) (v w : PlainWhat) → ((dir : Direction) (left : ℕ) → piece_fits dir left v ≡ true → piece_fits dir left w ≡ true) → status_awaits st n v ≡ true → status_awaits st n w ≡ true
+status_turns Ready n v w f h = cc
+status_turns (Waiting mask base size) n v w f h = cc
+status_turns (Moving dir owner base own left pending) n v w f h =
+    let k = both (n == pending) (piece_fits dir left v) h in
+    two (n == pending) (piece_fits dir left w) k.0 (f dir left k.1)
+
+turns : (o : Option Life) (n : ℕ) (v w : PlainWhat) → ((dir : Direction) (left : ℕ) → piece_fits dir left v ≡ true → piece_fits dir left w ≡ true) → awaits o n v ≡ true → awaits o n w ≡ true
+turns None n v w f h = cc
+turns (Some (Alive x)) n v w f h = status_turns x.status n v w f h
+turns (Some (Ended y)) n v w f h = refl
+
+read_block : (base len : ℕ) (bytes : List ℕ) → length bytes ≡ len → (dir : Direction) (left : ℕ) → piece_fits dir left (what.Read base len) ≡ true → piece_fits dir left (what.Block bytes) ≡ true
+read_block base len bytes e direction.FromArea left h = ap (λ n. n == pieces.piece_of left) e ∙ h
+read_block base len bytes e direction.IntoArea left h = cc
+
+read_gone : (base len : ℕ) (dir : Direction) (left : ℕ) → piece_fits dir left (what.Read base len) ≡ true → piece_fits dir left what.Gone ≡ true
+read_gone base len direction.FromArea left h = refl
+read_gone base len direction.IntoArea left h = refl
+
+write_written : (base : ℕ) (bytes : List ℕ) (dir : Direction) (left : ℕ) → piece_fits dir left (what.Write base bytes) ≡ true → piece_fits dir left what.Written ≡ true
+write_written base bytes direction.FromArea left h = cc
+write_written base bytes direction.IntoArea left h = refl
+
+write_gone : (base : ℕ) (bytes : List ℕ) (dir : Direction) (left : ℕ) → piece_fits dir left (what.Write base bytes) ≡ true → piece_fits dir left what.Gone ≡ true
+write_gone base bytes direction.FromArea left h = refl
+write_gone base bytes direction.IntoArea left h = refl
+
+-- an answer to a request of a data move fits wherever whoever awaited the request still awaits it
+answered_fits : (u : OneKernel) (id : MsgId) (m : PlainMessage) (v w : PlainWhat) → m.id ≡ id → m.sender ≡ id.from → ((dir : Direction) (left : ℕ) → piece_fits dir left v ≡ true → piece_fits dir left w ≡ true) → awaits (u.processes id.from) id.n v ≡ true
+    → (m.sender ≡ m.id.from) × (awaits (u.processes m.id.from) m.id.n w ≡ true)
+answered_fits u id m v w name sender f h =
+    (sender ∙ sym (ap (λ (i : MsgId). i.from) name), ap (λ (i : MsgId). awaits (u.processes i.from) i.n w) name ∙ turns (u.processes id.from) id.n v w f h)
+
+waits_on : (s : OneKernel) (id : MsgId) (m : PlainMessage) (x y : PlainProcess) (n : ℕ) (w : PlainWhat) (q : Pid) → s.processes m.to ≡ Some (Alive x) → y.status ≡ x.status → awaits (s.processes q) n w ≡ true → awaits ((service.changed s id m y).processes q) n w ≡ true
+waits_on s id m x y n w q is status h =
+    set_if (λ (o : Option Life). awaits o n w ≡ true) (without_message s id) m.to q (Alive y) (λ same e. ap (λ (st : PlainStatus). status_awaits st n w) status ∙ sym (ap (λ (o : Option Life). awaits o n w) is) ∙ e) h
+
+some_of : {A : Type 0} (b : Bool) (x y : A) → (if b then Some x else None) ≡ Some y → (b ≡ true) × (x ≡ y)
+some_of true x y e = (refl, cc)
+some_of false x y e = cc
+
+read_length : (memory : List ℕ) (base len : ℕ) → base + len ≤ length memory → length (take len (drop base memory)) ≡ len
+read_length memory base len le =
+    let a = length-take len (drop base memory) in
+    let b = length-drop base memory in
+    omega (arith, a, b, le)
+
+-- landings
+pub record Lands (ps : Lives) (p : Pid) (x : PlainProcess) (m : PlainMessage) (y : PlainProcess) : Type 0 where
+  pub goes : GoesOn ps x y
+  pub what : SentFits ps y m m.what
+  pub from : m.id.from ≡ p
+
+abbrev pub LandedFits : Lives → Pid → PlainProcess → pieces.Landed → Type 0
+LandedFits ps p x (pieces.Next m y) = Lands ps p x m y
+LandedFits ps p x (pieces.Done c y) = GoesOn ps x y
+
+done_fits : (ps : Lives) (p : Pid) (x z : PlainProcess) (c : _) → length x.memory ≤ length z.memory → z.links ≡ x.links → ProcessFits ps x → LandedFits ps p x (pieces.done c z)
+done_fits ps p x z c le links h = record { memory = le; slots = subst (Each (SlotFits ps)) (sym links) h.slots; move = refl }
+
+piece_less : (left : ℕ) → pieces.piece_of left ≤ left
+piece_less left = grind (arith, nat_tests)
+
+requests_from : (p : Pid) (z : PlainProcess) (dir : Direction) (owner : Pid) (base own left : ℕ) → (pieces.requests p z dir owner base own left).message.id.from ≡ p
+requests_from p z dir owner base own left = refl
+
+goes_on_by : (ps : Lives) (p : Pid) (x z : PlainProcess) (dir : Direction) (owner : Pid) (base own left : ℕ) (b : Bool) → length x.memory ≤ length z.memory → z.links ≡ x.links → ProcessFits ps x → has_bytes (base + left) (ps owner) ≡ true → nat_le (own + left) (length x.memory) ≡ true
+    → LandedFits ps p x (if b then pieces.done reply.Done z else pieces.next_request (pieces.requests p z dir owner (base + pieces.piece_of left) (own + pieces.piece_of left) (left - pieces.piece_of left)))
+goes_on_by ps p x z dir owner base own left true le links h has within = done_fits ps p x z reply.Done le links h
+goes_on_by ps p x z dir owner base own left false le links h has within =
+    let piece = pieces.piece_of left in
+    let less = piece_less left in
+    let k = requests_fit ps p z z dir owner (base + piece) (own + piece) (left - piece) refl refl
+    (let e : base + piece + (left - piece) ≡ base + left = omega (arith, less) in ap (λ n. has_bytes n (ps owner)) e ∙ has)
+    (let e : own + piece + (left - piece) ≡ own + left = omega (arith, less) in ap (λ n. nat_le n (length z.memory)) e ∙ (let f : nat_le (own + left) (length z.memory) ≡ true = grind (arith, nat_tests) in f))
+    (subst (Each (SlotFits ps)) (sym links) h.slots) in
+    let q = pieces.requests p z dir owner (base + piece) (own + piece) (left - piece) in
+    let same : length q.process.memory ≡ length z.memory = ap length k.goes.memory in
+    record { goes = record { memory = omega (arith, le, same); slots = k.goes.slots; move = k.goes.move }; what = k.what; from = refl }
+
+if_lands : (ps : Lives) (p : Pid) (x : PlainProcess) (b : Bool) (k c : pieces.Landed) → LandedFits ps p x k → (if b then Some k else None) ≡ Some c → LandedFits ps p x c
+if_lands ps p x true k c h e = let f : k ≡ c = cc in subst (LandedFits ps p x) f h
+if_lands ps p x false k c h e = cc
+
+lands_what_fits : (ps : Lives) (p : Pid) (x : PlainProcess) (dir : Direction) (owner : Pid) (base own left : ℕ) (w : PlainWhat) (c : pieces.Landed) → ProcessFits ps x → has_bytes (base + left) (ps owner) ≡ true → nat_le (own + left) (length x.memory) ≡ true
+    → pieces.lands_what p x dir owner base own left w ≡ Some c → LandedFits ps p x c
+lands_what_fits ps p x direction.FromArea owner base own left (what.Block bytes) c h has within e =
+    let z = record x { memory = pieces.written_at x.memory own bytes } in
+    if_lands ps p x ((length bytes == pieces.piece_of left) && nat_le (own + left) (length x.memory)) (pieces.goes_on p z direction.FromArea owner base own left (pieces.piece_of left)) c
+    (goes_on_by ps p x z direction.FromArea owner base own left (left - pieces.piece_of left == 0) (written_longer x.memory own bytes) refl h has within) e
+lands_what_fits ps p x direction.IntoArea owner base own left what.Written c h has within e =
+    if_lands ps p x (nat_le (own + left) (length x.memory)) (pieces.goes_on p x direction.IntoArea owner base own left (pieces.piece_of left)) c
+    (goes_on_by ps p x x direction.IntoArea owner base own left (left - pieces.piece_of left == 0) (omega arith) refl h has within) e
+lands_what_fits ps p x direction.FromArea owner base own left what.Gone c h has within e = let k : pieces.done reply.Gone x ≡ c = cc in subst (LandedFits ps p x) k (done_fits ps p x x reply.Gone (omega arith) refl h)
+lands_what_fits ps p x direction.IntoArea owner base own left what.Gone c h has within e = let k : pieces.done reply.Gone x ≡ c = cc in subst (LandedFits ps p x) k (done_fits ps p x x reply.Gone (omega arith) refl h)
+lands_what_fits ps p x direction.FromArea owner base own left what.Written c h has within e = cc
+lands_what_fits ps p x direction.IntoArea owner base own left (what.Block bytes) c h has within e = cc
+lands_what_fits ps p x direction.FromArea owner base own left (what.User z1 z2 z3 z4) c h has within e = cc
+lands_what_fits ps p x direction.FromArea owner base own left what.Stop c h has within e = cc
+lands_what_fits ps p x direction.FromArea owner base own left what.Resume c h has within e = cc
+lands_what_fits ps p x direction.FromArea owner base own left what.Kill c h has within e = cc
+lands_what_fits ps p x direction.FromArea owner base own left (what.Read z1 z2) c h has within e = cc
+lands_what_fits ps p x direction.FromArea owner base own left (what.Write z1 z2) c h has within e = cc
+lands_what_fits ps p x direction.FromArea owner base own left (what.Create z1 z2) c h has within e = cc
+lands_what_fits ps p x direction.FromArea owner base own left (what.Created z1) c h has within e = cc
+lands_what_fits ps p x direction.FromArea owner base own left what.NoRoom c h has within e = cc
+lands_what_fits ps p x direction.FromArea owner base own left (what.Move z1) c h has within e = cc
+lands_what_fits ps p x direction.FromArea owner base own left (what.Moved z1) c h has within e = cc
+lands_what_fits ps p x direction.IntoArea owner base own left (what.User z1 z2 z3 z4) c h has within e = cc
+lands_what_fits ps p x direction.IntoArea owner base own left what.Stop c h has within e = cc
+lands_what_fits ps p x direction.IntoArea owner base own left what.Resume c h has within e = cc
+lands_what_fits ps p x direction.IntoArea owner base own left what.Kill c h has within e = cc
+lands_what_fits ps p x direction.IntoArea owner base own left (what.Read z1 z2) c h has within e = cc
+lands_what_fits ps p x direction.IntoArea owner base own left (what.Write z1 z2) c h has within e = cc
+lands_what_fits ps p x direction.IntoArea owner base own left (what.Create z1 z2) c h has within e = cc
+lands_what_fits ps p x direction.IntoArea owner base own left (what.Created z1) c h has within e = cc
+lands_what_fits ps p x direction.IntoArea owner base own left what.NoRoom c h has within e = cc
+lands_what_fits ps p x direction.IntoArea owner base own left (what.Move z1) c h has within e = cc
+lands_what_fits ps p x direction.IntoArea owner base own left (what.Moved z1) c h has within e = cc
+
+-- a mover whose request is answered is awaited by no other message
+record LandsIs (ps : Lives) (p : Pid) (x : PlainProcess) (m : PlainMessage) (c : pieces.Landed) : Type 0 where
+  fits : LandedFits ps p x c
+  pending : pending_of x.status ≡ Some m.id.n
+
+lands_if : (ps : Lives) (p : Pid) (x : PlainProcess) (b : Bool) (dir : Direction) (owner : Pid) (base own left n pending : ℕ) (w : PlainWhat) (c : pieces.Landed) → b ≡ (n == pending) → ProcessFits ps x → has_bytes (base + left) (ps owner) ≡ true
+    → nat_le (own + left) (length x.memory) ≡ true → (if b then pieces.lands_what p x dir owner base own left w else None) ≡ Some c → (LandedFits ps p x c) × (pending ≡ n)
+lands_if ps p x true dir owner base own left n pending w c is h has within e =
+    (lands_what_fits ps p x dir owner base own left w c h has within e, let f : pending ≡ n = grind (arith, nat_tests) in f)
+lands_if ps p x false dir owner base own left n pending w c is h has within e = cc
+
+lands_by : (ps : Lives) (p : Pid) (x : PlainProcess) (m : PlainMessage) (st : PlainStatus) (c : pieces.Landed) → x.status ≡ st → ProcessFits ps x → pieces.lands p x m st ≡ Some c → LandsIs ps p x m c
+lands_by ps p x m (Moving dir owner base own left pending) c is h e =
+    let move : (has_bytes (base + left) (ps owner) && nat_le (own + left) (length x.memory)) ≡ true = sym (ap (move_fits ps x) is) ∙ h.move in
+    let k = both (has_bytes (base + left) (ps owner)) (nat_le (own + left) (length x.memory)) move in
+    let l = lands_if ps p x (m.id.n == pending) dir owner base own left m.id.n pending m.what c refl h k.0 k.1 e in
+    record { fits = l.0; pending = ap pending_of is ∙ ap Some l.1 }
+lands_by ps p x m Ready c is h e = cc
+lands_by ps p x m (Waiting mask base size) c is h e = cc
+
+-- what a status awaits is under its pending number, and of a data move
+awaited_is : (st : PlainStatus) (n k : ℕ) (w : PlainWhat) → pending_of st ≡ Some k → status_awaits st n w ≡ true → n ≡ k
+awaited_is Ready n k w e h = cc
+awaited_is (Waiting mask base size) n k w e h = cc
+awaited_is (Moving dir owner base own left pending) n k w e h =
+    let f : pending ≡ k = cc in
+    let g = (both (n == pending) (piece_fits dir left w) h).0 in
+    let i : n ≡ pending = grind (arith, nat_tests) in
+    i ∙ f
+
+abbrev of_move : PlainWhat → Type 0
+of_move w = (b : Bool) → (is_of_memory w ≡ true → b ≡ true) → (is_piece w ≡ true → b ≡ true) → b ≡ true
+
+piece_of_move : (dir : Direction) (left : ℕ) (w : PlainWhat) → piece_fits dir left w ≡ true → of_move w
+piece_of_move direction.FromArea left (what.Read base len) h b f g = f refl
+piece_of_move direction.FromArea left (what.Block bytes) h b f g = g refl
+piece_of_move direction.FromArea left what.Gone h b f g = g refl
+piece_of_move direction.IntoArea left (what.Write base bytes) h b f g = f refl
+piece_of_move direction.IntoArea left what.Written h b f g = g refl
+piece_of_move direction.IntoArea left what.Gone h b f g = g refl
+piece_of_move direction.IntoArea left (what.Read base len) h b f g = f refl
+piece_of_move direction.IntoArea left (what.Block bytes) h b f g = g refl
+piece_of_move direction.FromArea left (what.Write base bytes) h b f g = f refl
+piece_of_move direction.FromArea left what.Written h b f g = g refl
+piece_of_move direction.FromArea left (what.User z1 z2 z3 z4) h b f g = cc
+piece_of_move direction.FromArea left what.Stop h b f g = cc
+piece_of_move direction.FromArea left what.Resume h b f g = cc
+piece_of_move direction.FromArea left what.Kill h b f g = cc
+piece_of_move direction.FromArea left (what.Create z1 z2) h b f g = cc
+piece_of_move direction.FromArea left (what.Created z1) h b f g = cc
+piece_of_move direction.FromArea left what.NoRoom h b f g = cc
+piece_of_move direction.FromArea left (what.Move z1) h b f g = cc
+piece_of_move direction.FromArea left (what.Moved z1) h b f g = cc
+piece_of_move direction.IntoArea left (what.User z1 z2 z3 z4) h b f g = cc
+piece_of_move direction.IntoArea left what.Stop h b f g = cc
+piece_of_move direction.IntoArea left what.Resume h b f g = cc
+piece_of_move direction.IntoArea left what.Kill h b f g = cc
+piece_of_move direction.IntoArea left (what.Create z1 z2) h b f g = cc
+piece_of_move direction.IntoArea left (what.Created z1) h b f g = cc
+piece_of_move direction.IntoArea left what.NoRoom h b f g = cc
+piece_of_move direction.IntoArea left (what.Move z1) h b f g = cc
+piece_of_move direction.IntoArea left (what.Moved z1) h b f g = cc
+
+awaited_of_move : (st : PlainStatus) (n : ℕ) (w : PlainWhat) → status_awaits st n w ≡ true → of_move w
+awaited_of_move Ready n w h b f g = cc
+awaited_of_move (Waiting mask base size) n w h b f g = cc
+awaited_of_move (Moving dir owner base own left pending) n w h b f g = piece_of_move dir left w (both (n == pending) (piece_fits dir left w) h).1 b f g
+
+one_not : (a b : Option PlainMessage) (x y : PlainMessage) (c : Bool) → a ≡ Some x → b ≡ Some y → One a b → c ≡ true
+one_not (Some v) (Some w) x y c e f h = absurd h
+one_not None b x y c e f h = cc
+one_not (Some v) None x y c e f h = cc
+
+name_is : (i : MsgId) (p : Pid) (n : ℕ) → i.from ≡ p → i.n ≡ n → i.answer ≡ false → i ≡ id_of p n
+name_is i p n e f g = λ j. record { from = e j; n = f j; answer = g j }
+
+answer_is : (i : MsgId) (p : Pid) (n : ℕ) → i.from ≡ p → i.n ≡ n → i.answer ≡ true → i ≡ answer_id (id_of p n)
+answer_is i p n e f g = λ j. record { from = e j; n = f j; answer = g j }
+
+alone : (r e : MsgId → ℕ) (s : OneKernel) (id : MsgId) (m : PlainMessage) (x : PlainProcess) → s.bag id ≡ Some m → s.processes m.to ≡ Some (Alive x) → is_piece m.what ≡ true → pending_of x.status ≡ Some m.id.n → Sound r e s
+    → (i : MsgId) (k : PlainMessage) → (without_message s id).bag i ≡ Some k → i.from ≡ m.to → status_awaits x.status i.n k.what ≡ true → (b : Bool) → b ≡ true
+alone r e s id m x there is piece pending h i k stands from waits b =
+    let n = m.id.n in
+    let name : m.id ≡ id = h.entered.named id m there in
+    let back = h.movers.returns id m there piece in
+    let mine : id ≡ answer_id (id_of m.to n) = answer_is id m.to n (sym back.0) (ap (λ (v : MsgId). v.n) (sym name)) back.1 in
+    let one : One (s.bag (id_of m.to n)) (s.bag (answer_id (id_of m.to n))) = h.movers.mover m.to x n is pending in
+    let was : s.bag i ≡ Some k = stayed s id i k stands in
+    let number : i.n ≡ n = awaited_is x.status i.n n k.what pending waits in
+    awaited_of_move x.status i.n k.what waits b
+    (λ memory.
+    let same : i ≡ id_of m.to n = name_is i m.to n from number (h.movers.requests i k was memory) in
+    one_not (s.bag (id_of m.to n)) (s.bag (answer_id (id_of m.to n))) k m b (sym (ap s.bag same) ∙ was) (sym (ap s.bag mine) ∙ there) one)
+    (λ answers.
+    let same : i ≡ answer_id (id_of m.to n) = answer_is i m.to n from number (h.movers.returns i k was answers).1 in
+    let off : (without_message s id).bag i ≡ None = out_at s id i (ap (id_eq id) (same ∙ sym mine) ∙ id_eq-same id) in
+    let none : None ≡ Some k = sym off ∙ stands in cc)
+
+landed_fits : (r e : MsgId → ℕ) (s : OneKernel) (id : MsgId) (m : PlainMessage) (x : PlainProcess) (c : pieces.Landed) → s.bag id ≡ Some m → s.processes m.to ≡ Some (Alive x) → is_piece m.what ≡ true → LandsIs s.processes m.to x m c → Sound r e s → KernelFits s
+    → KernelFits (service.landed s id m c)
+landed_fits r e s id m x (pieces.Done reply y) there is piece lands h fits =
+    let g = lands.fits in
+    set_fits (without_message s id) m.to (Alive y)
+    (becomes (without_message s id) m.to x y is (record { memory = g.memory; slots = g.slots; move = g.move }) (λ i k stands from waits. alone r e s id m x there is piece lands.pending h i k stands from waits (status_awaits y.status i.n k.what)))
+    (out_fits s id fits)
+landed_fits r e s id m x (pieces.Next request y) there is piece lands h fits =
+    let g = lands.fits in
+    let v = without_message s id in
+    let u = with_process v m.to (Alive y) in
+    let b = becomes v m.to x y is (record { memory = g.goes.memory; slots = g.goes.slots; move = g.goes.move }) (λ i k stands from waits. alone r e s id m x there is piece lands.pending h i k stands from waits (status_awaits y.status i.n k.what)) in
+    put_fits u request (sent_fits v u m.to y request request.what (set_rises v m.to (Alive y) b.bytes) (set_at v m.to (Alive y)) g.from g.what) (set_fits v m.to (Alive y) b (out_fits s id fits))
+
+lands_row : (r e : MsgId → ℕ) (s t : OneKernel) (id : MsgId) (m : PlainMessage) (x : PlainProcess) → s.bag id ≡ Some m → s.processes m.to ≡ Some (Alive x) → is_piece m.what ≡ true
+    → bind (pieces.lands m.to x m x.status) (λ (c : pieces.Landed). Some (service.landed s id m c)) ≡ Some t → Sound r e s → KernelFits s → KernelFits t
+lands_row r e s t id m x there is piece e_ h fits =
+    let (c, lands, last) = bind-is (pieces.lands m.to x m x.status) (λ (v : pieces.Landed). Some (service.landed s id m v)) t e_ in
+    let k : service.landed s id m c ≡ t = cc in
+    subst KernelFits k (landed_fits r e s id m x c there is piece (lands_by s.processes m.to x m x.status c refl (fits.processes m.to x is) lands) h fits)
+
+-- served: a row a kind
+serves_row : (r e : MsgId → ℕ) (s t : OneKernel) (id : MsgId) (m : PlainMessage) (x : PlainProcess) (w : PlainWhat) → m.what ≡ w → WhatFits s id m w → s.bag id ≡ Some m → s.processes m.to ≡ Some (Alive x) → service.serves s id m x w ≡ Some t → Sound r e s → KernelFits s
+    → KernelFits t
+serves_row r e s t id m x what.Stop w f there is e_ h fits =
+    let y = record x { stopped = true } in
+    let k : service.changed s id m y ≡ t = cc in
+    subst KernelFits k (changed_fits s id m x y is refl (goes_same s m.to x y (omega arith) refl refl is fits) fits)
+serves_row r e s t id m x what.Resume w f there is e_ h fits =
+    let y = record x { stopped = false } in
+    let k : service.changed s id m y ≡ t = cc in
+    subst KernelFits k (changed_fits s id m x y is refl (goes_same s m.to x y (omega arith) refl refl is fits) fits)
+serves_row r e s t id m x what.Kill w f there is e_ h fits =
+    let k : with_process (without_message s id) m.to (Ended why.Killed) ≡ t = cc in
+    subst KernelFits k (end_fits (without_message s id) m.to why.Killed (out_fits s id fits))
+serves_row r e s t id m x (what.Read base len) w f there is e_ h fits =
+    let (c, served, last) = bind-is (pieces.reads x m base len) (λ (v : pieces.Served). Some (service.answered s id m v)) t e_ in
+    let bytes = take len (drop base x.memory) in
+    let k = some_of (nat_le (base + len) (length x.memory)) (record { process = x; answer = answer_to m (what.Block bytes) }) c served in
+    let g : service.answered s id m c ≡ t = cc in
+    let within = k.0 in
+    let size : length bytes ≡ len = read_length x.memory base len (let le : base + len ≤ length x.memory = grind (arith, nat_tests) in le) in
+    subst KernelFits (ap (service.answered s id m) k.1 ∙ g)
+    (put_fits (service.changed s id m x) (answer_to m (what.Block bytes))
+    (answered_fits (service.changed s id m x) id m (what.Read base len) (what.Block bytes) (h.entered.named id m there) (h.movers.senders id m there (ap is_of_memory w)) (read_block base len bytes size)
+    (waits_on s id m x x id.n (what.Read base len) id.from is refl f.1))
+    (changed_fits s id m x x is refl (goes_same s m.to x x (omega arith) refl refl is fits) fits))
+serves_row r e s t id m x (what.Write base bytes) w f there is e_ h fits =
+    let (c, served, last) = bind-is (pieces.writes x m base bytes) (λ (v : pieces.Served). Some (service.answered s id m v)) t e_ in
+    let y = record x { memory = pieces.written_at x.memory base bytes } in
+    let k = some_of (nat_le (base + length bytes) (length x.memory)) (record { process = y; answer = answer_to m what.Written }) c served in
+    let g : service.answered s id m c ≡ t = cc in
+    subst KernelFits (ap (service.answered s id m) k.1 ∙ g)
+    (put_fits (service.changed s id m y) (answer_to m what.Written)
+    (answered_fits (service.changed s id m y) id m (what.Write base bytes) what.Written (h.entered.named id m there) (h.movers.senders id m there (ap is_of_memory w)) (write_written base bytes)
+    (waits_on s id m x y id.n (what.Write base bytes) id.from is refl f.1))
+    (changed_fits s id m x y is refl (goes_same s m.to x y (written_longer x.memory base bytes) refl refl is fits) fits))
+serves_row r e s t id m x (what.Block bytes) w f there is e_ h fits = lands_row r e s t id m x there is (ap is_piece w) e_ h fits
+serves_row r e s t id m x what.Written w f there is e_ h fits = lands_row r e s t id m x there is (ap is_piece w) e_ h fits
+serves_row r e s t id m x what.Gone w f there is e_ h fits = lands_row r e s t id m x there is (ap is_piece w) e_ h fits
+serves_row r e s t id m x (what.User a b c d) w f there is e_ h fits = cc
+serves_row r e s t id m x (what.Create a b) w f there is e_ h fits = cc
+serves_row r e s t id m x (what.Created a) w f there is e_ h fits = cc
+serves_row r e s t id m x what.NoRoom w f there is e_ h fits = cc
+serves_row r e s t id m x (what.Move a) w f there is e_ h fits = cc
+serves_row r e s t id m x (what.Moved a) w f there is e_ h fits = cc
+
+pub served_step : (r e : MsgId → ℕ) (s t : OneKernel) (id : MsgId) → kernel.step s (label.Served id) ≡ Some t → Sound r e s → KernelFits s → KernelFits t
+served_step r e s t id is h fits =
+    let (m, there, rest) = bind-is (s.bag id) (λ (v : PlainMessage). bind (kernel.alive (s.processes v.to)) (λ (p : PlainProcess). service.serves s id v p v.what)) t is in
+    let (x, alive, last) = bind-is (kernel.alive (s.processes m.to)) (λ (p : PlainProcess). service.serves s id m p m.what) t rest in
+    serves_row r e s t id m x m.what refl (fits.messages id m there) there (alive-is (s.processes m.to) x alive) last h fits
+
+-- the ended
+drops_row : (s t : OneKernel) (id : MsgId) (m : PlainMessage) (y : Why) → kernel.drops s id m y ≡ Some t → KernelFits s → KernelFits t
+drops_row s t id m y is fits = let k = when-is (is_dropped m.what) (without_message s id) t is in subst KernelFits k.1 (out_fits s id fits)
+
+pub dropped_step : (s t : OneKernel) (id : MsgId) → kernel.step s (label.Dropped id) ≡ Some t → KernelFits s → KernelFits t
+dropped_step s t id is fits =
+    let (m, there, rest) = bind-is (s.bag id) (λ (v : PlainMessage). bind (kernel.ended (s.processes v.to)) (kernel.drops s id v)) t is in
+    let (y, ended, last) = bind-is (kernel.ended (s.processes m.to)) (kernel.drops s id m) t rest in
+    drops_row s t id m y last fits
+
+gone_fits : (r e : MsgId → ℕ) (s : OneKernel) (id : MsgId) (m : PlainMessage) (w : PlainWhat) → m.what ≡ w → is_of_memory w ≡ true → WhatFits s id m w → s.bag id ≡ Some m → Sound r e s → WhatFits (without_message s id) (answer_id m.id) (answer_to m what.Gone) what.Gone
+gone_fits r e s id m (what.Read base len) is memory f there h =
+    answered_fits (without_message s id) id m (what.Read base len) what.Gone (h.entered.named id m there) (h.movers.senders id m there (ap is_of_memory is)) (read_gone base len) f.1
+gone_fits r e s id m (what.Write base bytes) is memory f there h =
+    answered_fits (without_message s id) id m (what.Write base bytes) what.Gone (h.entered.named id m there) (h.movers.senders id m there (ap is_of_memory is)) (write_gone base bytes) f.1
+gone_fits r e s id m (what.User z1 z2 z3 z4) is memory f there h = cc
+gone_fits r e s id m what.Stop is memory f there h = cc
+gone_fits r e s id m what.Resume is memory f there h = cc
+gone_fits r e s id m what.Kill is memory f there h = cc
+gone_fits r e s id m (what.Block z1) is memory f there h = cc
+gone_fits r e s id m what.Written is memory f there h = cc
+gone_fits r e s id m what.Gone is memory f there h = cc
+gone_fits r e s id m (what.Create z1 z2) is memory f there h = cc
+gone_fits r e s id m (what.Created z1) is memory f there h = cc
+gone_fits r e s id m what.NoRoom is memory f there h = cc
+gone_fits r e s id m (what.Move z1) is memory f there h = cc
+gone_fits r e s id m (what.Moved z1) is memory f there h = cc
+
+pub gone_step : (r e : MsgId → ℕ) (s t : OneKernel) (id : MsgId) → kernel.step s (label.Gone id) ≡ Some t → Sound r e s → KernelFits s → KernelFits t
+gone_step r e s t id is h fits =
+    let (m, there, rest) = bind-is (s.bag id) (λ (v : PlainMessage). bind (kernel.ended (s.processes v.to)) (kernel.says_gone s id v)) t is in
+    let (y, ended, last) = bind-is (kernel.ended (s.processes m.to)) (kernel.says_gone s id m) t rest in
+    let k = when-is (is_of_memory m.what) (with_sent (without_message s id) (Some (answer_to m what.Gone))) t last in
+    subst KernelFits k.1 (put_fits (without_message s id) (answer_to m what.Gone) (gone_fits r e s id m m.what refl k.0 (fits.messages id m there) there h) (out_fits s id fits))

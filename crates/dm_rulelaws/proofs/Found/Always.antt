@@ -1,0 +1,168 @@
+-- Each message stands where its receiver is known, wherever the rule leads.
+use Rattle.std.proofs.Common.{◌≡◌, ◌≢◌, ℕ, ◌<◌, ◌≤◌, ◌==◌, ◌&&◌, ◌||◌, Bool, true, false, is_some, List, [], ◌∷◌, ◌++◌, length, refl, ap, ◌∙◌, sym, subst, inl, inr, arith}
+use Rattle.std.specs.Prelude.{if◌then◌else◌}
+use Rattle.std.specs.declared.option.Option.{Option}
+use Rattle.std.specs.declared.option.Option.TheVariants.{None, Some}
+use Rattle.std.proofs.lemmas.Bool.{cases_Bool, false≢true}
+use Rattle.std.proofs.lemmas.Bool.Decides.{nat_tests}
+use Rattle.dm_link.specs.declared.Pid.{Pid}
+use Rattle.dm_link.specs.Names.{Place, pid_eq}
+use Rattle.dm_message.specs.declared.MsgId.{MsgId}
+use Rattle.dm_message.specs.Plain.{PlainMessage}
+use Rattle.dm_onekernel.specs.declared.boot.BootProcess.{BootProcess}
+use Rattle.dm_onekernel.specs.declared.boot.Boot.{Boot}
+use Rattle.dm_onekernel.specs.Boot.{IsValid, processes_are_valid, switchboard, manager}
+use Rattle.dm_onekernel.specs.Start.{first_life, life_at}
+use Rattle.dm_schedule.specs.declared.Step.{Step}
+use Rattle.dm_rule.specs.View.{View, Told, Unknown, Here, is_kernels, known_at, first_view}
+use Rattle.dm_rule.specs.Addresses.{Holder, Receiver, Sender}
+use Rattle.dm_rule.specs.Homes.{names, to_of}
+use Rattle.dm_rule.specs.Laws.{IsStep, Leads}
+use Rattle.dm_rule.specs.Parts.{Spelled}
+use Rattle.dm_rule.specs.Point.{Point, first_point}
+use Rattle.dm_rule.specs.Rule.{group_of}
+use Rattle.dm_rule.specs.Spots.{Spot, Queue, Held, Inbox, Untaken, StandsOutside, standing}
+use Rattle.dm_rule.proofs.Groups.{stands_right}
+use Rattle.dm_rule.proofs.Homes.Start.{Homes-start}
+use Rattle.dm_rule.proofs.Phases.Always.{Phased, phased_start, phased_group, phased_on}
+use Rattle.dm_rule.proofs.Trails.Places.{Goes, Comes, Named, Links, Owns}
+use Rattle.dm_rulelaws.specs.Found.{Found, machine_of, is_fixed}
+use Rattle.dm_rulelaws.proofs.Fits.Start.{start_fits}
+use Rattle.dm_rulelaws.proofs.Found.Core.{KnowsAt, Knows, IsReal, AboutIs, KnownIs, Core, known_within}
+use Rattle.dm_rulelaws.proofs.Found.Groups.{core_group}
+use Rattle.dm_rulelaws.proofs.Found.Real.{named_real}
+
+-- what each group keeps
+abbrev pub FoundBy : Point → Type 0
+FoundBy pt = Core pt.kernel.machines pt
+
+-- where a run begins
+start_knows : (b : Boot) (v : View) (earlier ps : List BootProcess) (m : ℕ) (q : Pid) → processes_are_valid b earlier ps ≡ true → 0 < length b.machines → KnownIs (length b.machines) v m q (known_at ps m q)
+start_knows b v earlier [] m q valid some = server_is ((m == 0) && (pid_eq q switchboard || pid_eq q manager)) refl
+  where
+    server_is : (c : Bool) → ((m == 0) && (pid_eq q switchboard || pid_eq q manager)) ≡ c → KnownIs (length b.machines) v m q (if c then Here else Unknown)
+    server_is true e = let f : m ≡ 0 = grind (arith, nat_tests) in subst (λ (k : ℕ). k < length b.machines) (sym f) some
+    server_is false e = tt
+start_knows b v earlier (p ∷ ps) m q valid some =
+    let home : p.pid.home < length b.machines = grind (arith, nat_tests) in
+    let rest : processes_are_valid b (earlier ++ p ∷ []) ps ≡ true = grind (arith, nat_tests) in
+    first_is (pid_eq p.pid q && (p.pid.home == m)) refl home (start_knows b v (earlier ++ p ∷ []) ps m q rest some)
+  where
+    first_is : (c : Bool) → (pid_eq p.pid q && (p.pid.home == m)) ≡ c → p.pid.home < length b.machines → KnownIs (length b.machines) v m q (known_at ps m q) → KnownIs (length b.machines) v m q (if c then Here else known_at ps m q)
+    first_is true e home rest = let f : p.pid.home ≡ m = grind (arith, nat_tests) in subst (λ (k : ℕ). k < length b.machines) f home
+    first_is false e home rest = rest
+
+nothing_stands : (b : Boot) (i : MsgId) (z : Spot) → standing (first_view b) i z ≡ 0
+nothing_stands b i (Queue m p) = refl
+nothing_stands b i (Held m p) = refl
+nothing_stands b i (Inbox m) = refl
+nothing_stands b i (Untaken c d) = refl
+
+start_all : (b : Boot) → IsValid b → (h : Holder) (q : Pid) → Named (first_point b).kernel (first_point b).view h q → Knows (first_point b).view q ((first_point b).addresses h)
+start_all b valid h q (Links e) = inl (ap (λ (p : Place). p.at) ((Homes-start b valid).home h q e))
+start_all b valid h q (Owns (Goes i u is own told to)) = absurd (let f : None ≡ Some u = told in cc)
+start_all b valid h q (Owns (Comes i u is own told move to)) = absurd (let f : None ≡ Some u = told in cc)
+
+start_home : (b : Boot) (ps : List BootProcess) (q : Pid) → is_some (life_at b ps q) ≡ true → known_at ps q.home q ≢ Unknown
+start_home b [] q made = absurd (false≢true made)
+start_home b (p ∷ ps) q made = elim (cases_Bool (pid_eq p.pid q)) [
+  | inl same ↦
+      let here : known_at (p ∷ ps) q.home q ≡ Here =
+      ap (λ (c : Bool). if c then Here else known_at ps q.home q) (let f : (pid_eq p.pid q && (p.pid.home == q.home)) ≡ true = grind (arith, nat_tests) in f) in
+      λ e. let f : Here ≡ Unknown = sym here ∙ e in cc
+  | inr off ↦ λ e. start_home b ps q (sym (ap (λ (c : Bool). is_some (if c then first_life b p else life_at b ps q)) off) ∙ made) (sym (ap (λ (c : Bool). if c && (p.pid.home == q.home) then Here else known_at ps q.home q) off) ∙ e)
+]
+
+pub found_start : (b : Boot) → IsValid b → FoundBy (first_point b)
+found_start b valid =
+    let some : 0 < length b.machines = let e = valid.some_machines in grind (arith, nat_tests) in
+    record {
+      acting = some;
+      machines = refl;
+      all = start_all b valid;
+      held = λ m p i least. absurd (omega (arith, least));
+      tells = λ i u e. absurd (let f : None ≡ Some u = e in cc);
+      real = λ i u e own. absurd (let f : None ≡ Some u = e in cc);
+      topic = tt;
+      known = λ m q. start_knows b (first_view b) [] b.processes m q valid.processes some;
+      places = λ i z e. absurd (let f = nothing_stands b i z in omega (arith, e, f));
+      senders = λ i m e. absurd (let f : None ≡ Some m = e in cc);
+      fits = start_fits b valid;
+      home = λ q made. start_home b b.processes q made;
+      pending = refl;
+    }
+
+-- each group
+pub found_group : (b : Boot) (pt : Point) (d : Step) (w : Spelled) → IsStep pt.kernel.machines d → group_of b pt d ≡ Some w → Phased pt → FoundBy pt → FoundBy w.point
+found_group b pt d w fit is phased h =
+    let k = core_group pt.kernel.machines b pt d w fit is phased h in
+    subst (λ (n : ℕ). Core n w.point) (sym k.machines) k
+
+-- what stands somewhere is in the bag, or a kernel's own
+stands_own : (i : MsgId) (c : Bool) (f : Spot → ℕ) (z : Spot) → is_kernels i ≡ c → StandsOutside c f → 1 ≤ f z → c ≡ true
+stands_own i true f z is h e = refl
+stands_own i false f z is h e = absurd (let k = h z in omega (arith, k, e))
+
+stands_named : (pt : Point) (i : MsgId) (z : Spot) (t : Told) (o : Option PlainMessage) → Phased pt → FoundBy pt → 1 ≤ standing pt.view i z → pt.view.told i ≡ Some t → pt.kernel.bag i ≡ o
+    → Knows pt.view t.receiver (pt.addresses (Receiver i)) × IsReal pt.kernel.machines pt.view t.receiver
+stands_named pt i z t None base h e told is =
+    let own : is_kernels i ≡ true = stands_own i (is_kernels i) (standing pt.view i) z refl (stands_right pt i base.state None is) e in
+    (h.all (Receiver i) t.receiver (Owns (Goes i t refl own told refl)), (h.real i t told own).0)
+stands_named pt i z t (Some m) base h e told is =
+    let same : t.receiver ≡ m.to = base.sane.tells.receiver i m t is told in
+    let named : names pt.kernel (Receiver i) ≡ Some t.receiver = ap to_of is ∙ ap Some (sym same) in
+    (h.all (Receiver i) t.receiver (Links named), named_real pt pt.kernel.machines (Receiver i) t.receiver h named)
+
+-- where someone is known there is a machine
+known_there : (pt : Point) (q : Pid) (m : ℕ) → FoundBy pt → KnowsAt pt.view q m → IsReal pt.kernel.machines pt.view q → m < pt.kernel.machines
+known_there pt q m h knows real = elim knows [
+  | inl home ↦ elim real [
+    | inl fixed ↦ subst (λ (k : ℕ). k < pt.kernel.machines) (sym home) fixed.1
+    | inr known ↦ subst (λ (k : ℕ). k < pt.kernel.machines) (sym home) (known_within pt.kernel.machines pt.view q.home q (pt.view.known q.home q) known (h.known q.home q))
+  ]
+  | inr away ↦ known_within pt.kernel.machines pt.view m q (pt.view.known m q) away.1 (h.known m q)
+]
+
+free_known : (n : ℕ) (v : View) (q : Pid) (m : ℕ) → is_fixed q ≡ false → KnowsAt v q m → IsReal n v q → v.known m q ≢ Unknown
+free_known n v q m free knows real = elim knows [
+  | inl home ↦ elim real [
+    | inl fixed ↦ absurd (false≢true (sym free ∙ fixed.0))
+    | inr known ↦ subst (λ (k : ℕ). v.known k q ≢ Unknown) (sym home) known
+  ]
+  | inr away ↦ away.1
+]
+
+fixed_home : (v : View) (q : Pid) (m : ℕ) → is_fixed q ≡ true → KnowsAt v q m → m ≡ q.home
+fixed_home v q m fixed knows = elim knows [
+  | inl home ↦ home
+  | inr away ↦ absurd (false≢true (sym away.0 ∙ fixed))
+]
+
+pub found_of : (pt : Point) → Phased pt → FoundBy pt → Found pt
+found_of pt base h =
+    let v = pt.view in
+    let n = pt.kernel.machines in
+    record {
+      told = λ i z e. (h.places i z e).1;
+      at_ = λ i z e. (h.places i z e).0;
+      process = λ i z t e told free. let k = stands_named pt i z t (pt.kernel.bag i) base h e told refl in free_known n v t.receiver (machine_of z) free (subst (KnowsAt v t.receiver) (h.places i z e).0 k.0) k.1;
+      fixed = λ i z t e told fixed. let k = stands_named pt i z t (pt.kernel.bag i) base h e told refl in fixed_home v t.receiver (machine_of z) fixed (subst (KnowsAt v t.receiver) (h.places i z e).0 k.0);
+      within = λ g q e. known_there pt q (pt.addresses g).at h (h.all g q (Links e)) (named_real pt n g q h e);
+      own_within = λ i t told own. known_there pt t.receiver (pt.addresses (Receiver i)).at h (h.all (Receiver i) t.receiver (Owns (Goes i t refl own told refl))) (h.real i t told own).0;
+      asker_within = λ i t told own move. subst (λ (k : ℕ). k < n) (sym (fixed_home v manager (pt.addresses (Sender i)).at refl (h.all (Sender i) manager (Owns (Comes i t refl own told move refl))))) (let le = h.acting in omega (arith, le));
+      target_within = λ i t m told about. subst (AboutIs n v) about (h.tells i t told);
+      forward_within = λ m k j p e. known_within n v k p (v.known k p) (subst (KnownIs n v m p) e (h.known m p)).1 (h.known k p);
+      frozen_within = λ m k p e. (subst (KnownIs n v m p) e (h.known m p)).1;
+      incoming_within = λ m k p e. (subst (KnownIs n v m p) e (h.known m p)).1;
+      known_within = λ m p known. known_within n v m p (v.known m p) known (h.known m p);
+    }
+
+-- wherever the rule leads
+found_on : (b : Boot) (es : List Step) (pt end : Point) → Leads b pt es end → Phased pt → FoundBy pt → FoundBy end
+found_on b [] pt end leads phased h = subst FoundBy leads h
+found_on b (d ∷ es) pt end (w, fit, is, rest) phased h = found_on b es w.point end rest (phased_group b pt d w fit is phased) (found_group b pt d w fit is phased h)
+
+pub found_always : (b : Boot) (es : List Step) (pt : Point) → IsValid b → Leads b (first_point b) es pt → Found pt
+found_always b es pt valid leads =
+    let first = phased_start b valid in
+    found_of pt (phased_on b es (first_point b) pt leads first) (found_on b es (first_point b) pt leads first (found_start b valid))

@@ -1,0 +1,224 @@
+-- What a turn needs where a message goes on, and where those of a process that leaves do.
+use Rattle.std.proofs.Common.{◌≡◌, ◌≢◌, ℕ, ◌<◌, ◌≤◌, Bool, true, false, List, [], ◌∷◌, ◌++◌, length, refl, ap, ◌∙◌, sym, subst, inl, inr, arith}
+use Rattle.std.specs.Prelude.{if◌then◌else◌}
+use Rattle.std.specs.declared.option.Option.{Option}
+use Rattle.std.specs.declared.option.Option.TheVariants.{None, Some}
+use Rattle.std.proofs.lemmas.Bool.{cases_Bool, false≢true}
+use Rattle.dm_link.specs.declared.Pid.{Pid}
+use Rattle.dm_link.specs.Names.{Place}
+use Rattle.dm_message.specs.declared.MsgId.{MsgId}
+use Rattle.dm_message.specs.Ids.{id_eq}
+use Rattle.dm_message.specs.Plain.{PlainMessage}
+use Rattle.dm_message.specs.declared.kind.MessageKind.{MessageKind}
+use Rattle.dm_message.specs.declared.kind.MessageKind.TheVariants as kind
+use Rattle.dm_laws.proofs.Equal.{id_eq-is, id_eq-same}
+use Rattle.dm_line.specs.declared.line.Line.TheVariants as line
+use Rattle.dm_line.specs.declared.line.Stage.TheVariants as stage
+use Rattle.dm_rule.specs.View.{View, Told, Known, Unknown, Here, Frozen, Incoming, Forward, Ended, is_kernels, own_id, handled, forwarded_for, forward_about, receiver_of, view_after}
+use Rattle.dm_rule.specs.Addresses.{Addresses, Receiver, Sender, given, place_known, all_follow, is_told_back, tells_back, forwards}
+use Rattle.dm_rule.specs.Homes.{to_of}
+use Rattle.dm_rule.specs.Point.{Point, moved}
+use Rattle.dm_rule.specs.Parts.{Part, Says, Again, Owns}
+use Rattle.dm_rule.specs.Migrating.{to_kernel, forwards_on, sends_on, leaves}
+use Rattle.dm_rule.specs.Spots.{Spot, times, standing, StandsAsBag}
+use Rattle.dm_rule.proofs.Letters.{letters}
+use Rattle.dm_rule.proofs.Lines.{not_true}
+use Rattle.dm_rule.proofs.Moves.Lists.{both_lists, without_all, without_at, first_off}
+use Rattle.dm_rule.proofs.Moves.Sent.{sent_way}
+use Rattle.dm_rule.proofs.Once.{one_of}
+use Rattle.dm_rule.proofs.Phases.Answers.{front_gone}
+use Rattle.dm_rule.proofs.Phases.Lines.{forwarded_known}
+use Rattle.dm_rule.proofs.States.{State}
+use Rattle.dm_rule.proofs.Telling.{Sane}
+use Rattle.dm_rule.proofs.Trails.Places.{Goes, Comes, Named, Links, Owns}
+use Rattle.dm_rule.proofs.Trails.Lines.{forwarded_back}
+use Rattle.dm_rule.proofs.Trails.Puts.{is_own}
+use Rattle.dm_rulelaws.specs.Found.{is_fixed}
+use Rattle.dm_rulelaws.proofs.Found.Core.{AboutIs, KnowsAt, Knows, IsReal, KnownIs, Core, Grows, knows_grow, real_grows}
+use Rattle.dm_rulelaws.proofs.Found.Given.{NeedsForward, NeedsSent}
+use Rattle.dm_rulelaws.proofs.Found.Parts.{AllNeed, NeedOf, NeedsOwn, Same, again_same, loose_need, own_outside, own_fresh}
+use Rattle.dm_rulelaws.proofs.Found.Rows.{said_next}
+use Rattle.dm_rulelaws.proofs.Found.Hears.{to_restart}
+
+-- whom a message of which something was told is for
+pub named_for : (pt : Point) (id : MsgId) (u : Told) (q : Pid) → Sane pt → pt.view.told id ≡ Some u → Named pt.kernel pt.view (Receiver id) q → q ≡ u.receiver
+named_for pt id u q sane told (Links e) = named_by (pt.kernel.bag id) refl e
+  where
+    named_by : (o : Option PlainMessage) → pt.kernel.bag id ≡ o → to_of o ≡ Some q → q ≡ u.receiver
+    named_by None is f = cc
+    named_by (Some x) is f = let g : x.to ≡ q = cc in sym g ∙ sym (sane.tells.receiver id x u is told)
+named_for pt id u q sane told (Owns (Goes i t is own now to)) =
+    let ij : id ≡ i = cc in
+    let f : Some u ≡ Some t = sym told ∙ ap pt.view.told ij ∙ now in
+    let g : u ≡ t = cc in
+    sym to ∙ sym (ap (λ (x : Told). x.receiver) g)
+named_for pt id u q sane told (Owns (Comes i t is own now move to)) = cc
+
+-- what a forward leads to is known there
+forward_known : (n : ℕ) (v : View) (m : ℕ) (p : Pid) (to c : ℕ) (k : Known) → k ≡ Forward to c → KnownIs n v m p k → v.known to p ≢ Unknown
+forward_known n v m p to c k e h = (subst (KnownIs n v m p) e h).1
+
+forwarded_own : (v : View) (o : Option Pid) → own_id (forwarded_for v o) ≡ own_id v
+forwarded_own v None = refl
+forwarded_own v (Some p) = refl
+
+-- behind the line that says so
+goes_to : (v : View) (a : Addresses) (id : MsgId) (u : Told) (to c : ℕ) (o : Option Told) → o ≡ Some u → v.known v.acting u.receiver ≡ Forward to c → (given a (forwards v a id o) (Receiver id)).at ≡ to
+goes_to v a id u to c o told at =
+    ap (λ (x : Option Told). (given a (forwards v a id x) (Receiver id)).at) told
+    ∙ ap (λ (b : Bool). (if b then place_known (v.known v.acting u.receiver) (v.moves u.receiver) (a (Receiver id)) else given a (tells_back v a id (is_told_back u.kind)) (Receiver id)).at) (id_eq-same id)
+    ∙ ap (λ (k : Known). (place_known k (v.moves u.receiver) (a (Receiver id))).at) at
+
+other_id : (v : View) (id : MsgId) (u : Told) → v.told id ≡ Some u → v.told (own_id v) ≡ None → id_eq id (own_id v) ≡ false
+other_id v id u told none = not_true (id_eq id (own_id v)) (λ e. let f : Some u ≡ None = sym told ∙ ap v.told (id_eq-is id (own_id v) e) ∙ none in cc)
+
+-- the update that follows
+back_need : (n : ℕ) (pt mid next : Point) (id : MsgId) (u : Told) (sender : Pid) → pt.view.told id ≡ Some u → is_told_back u.kind ≡ true → Sane pt
+    → ((m : ℕ) (q : Pid) → mid.view.known m q ≡ pt.view.known m q) → own_id mid.view ≡ own_id pt.view → mid.addresses ≡ given pt.addresses (forwards pt.view pt.addresses id (pt.view.told id)) → Same mid next
+    → Knows pt.view sender (pt.addresses (Sender id)) → IsReal n pt.view sender → NeedsOwn n next kind.Update sender (pt.addresses (Sender id)).at
+back_need n pt mid next id u sender told back sane known own addresses same knows real =
+    let v = pt.view in
+    let a = pt.addresses in
+    let grows : Grows v next.view = λ m q some e. some (sym (same.known m q ∙ known m q) ∙ e) in
+    let to : next.addresses (Receiver (own_id next.view)) ≡ a (Sender id) =
+    same.addresses (Receiver (own_id next.view)) ∙ ap (λ (i : MsgId). mid.addresses (Receiver i)) (same.own ∙ own) ∙ ap (λ (f : Addresses). f (Receiver (own_id v))) addresses
+    ∙ forwarded_back v a id u told (other_id v id u told (own_fresh pt sane)) back in
+    record {
+      knows = subst (Knows next.view sender) (sym to) (knows_grow v next.view sender (a (Sender id)).at grows knows);
+      from = λ e. cc;
+      at = ap (λ (p : Place). p.at) to;
+      real = real_grows n v next.view sender grows real;
+      own = refl;
+    }
+
+back_if : (n : ℕ) (pt : Point) (sender : Pid) (m : ℕ) (c : Bool) → (c ≡ true → NeedsOwn n pt kind.Update sender m) → AllNeed n pt (if c then Owns kind.Update sender m ∷ [] else [])
+back_if n pt sender m true h = (h refl, λ ls next is leads. tt)
+back_if n pt sender m false h = tt
+
+-- a message that comes to where its receiver went away goes on
+pub forwards_need : (n : ℕ) (pt : Point) (id : MsgId) (is : List MsgId) (u : Told) (sender : Pid) (to c : ℕ) → pt.view.inbox pt.view.acting ≡ id ∷ is → State None pt → Sane pt → Core n pt → pt.view.told id ≡ Some u → pt.view.known pt.view.acting u.receiver ≡ Forward to c
+    → is_fixed u.receiver ≡ false → (is_told_back u.kind ≡ true → Knows pt.view sender (pt.addresses (Sender id)) × IsReal n pt.view sender) → AllNeed n pt (forwards_on pt.addresses id u.kind sender to)
+forwards_need n pt id is u sender to c front state sane h told at free back =
+    let v = pt.view in
+    let a = pt.addresses in
+    let there : v.known to u.receiver ≢ Unknown = forward_known n v v.acting u.receiver to c (v.known v.acting u.receiver) at (h.known v.acting u.receiver) in
+    let needs : NeedsForward n pt id = record {
+      u = u;
+      told = told;
+      knows = λ q e. subst (λ (x : Known). Knows v q (place_known x (v.moves u.receiver) (a (Receiver id)))) (sym at) (subst (λ (p : Pid). KnowsAt v p to) (sym (named_for pt id u q sane told e)) (inr (free, there)));
+      topic = subst (λ (x : Known). AboutIs n v (forward_about u.receiver x)) (sym at) (inr (free, there));
+      outside = own_outside pt sane;
+      fresh = own_fresh pt sane;
+      gone = λ z. front_gone pt (line.Here id) id is state refl front (λ y. sym (first_off v id is front y)) z;
+    } in (
+      needs,
+      (λ ls mid is_ leads.
+          let (s, same) = said_next pt mid (line.Forwarded id to) ls is_ leads in
+          let first = moved pt (line.Forwarded id to) s in
+          subst (λ (p : Point). AllNeed n p (Again id to ∷ (if is_told_back u.kind then Owns kind.Update sender (a (Sender id)).at ∷ [] else []))) same (
+            goes_to v a id u to c (v.told id) told at,
+            (λ xs next is__ leads_.
+                let stays = again_same first next id to xs is__ leads_ in
+                back_if n next sender (a (Sender id)).at (is_told_back u.kind)
+                (λ yes_. let b = back yes_ in back_need n pt first next id u sender told yes_ sane (λ m q. forwarded_known (handled v id) (receiver_of (v.told id)) m q) (forwarded_own (handled v id) (receiver_of (v.told id))) refl stays b.0 b.1)),
+          )),
+    )
+
+-- of a kernel's own messages only a request to move is told back
+pub moves_back : (k : MessageKind) → is_own k ≡ true → is_told_back k ≡ true → k ≡ kind.Migrate
+moves_back kind.User e f = absurd (false≢true e)
+moves_back kind.Stop e f = absurd (false≢true e)
+moves_back kind.Resume e f = absurd (false≢true e)
+moves_back kind.Kill e f = absurd (false≢true e)
+moves_back kind.Read e f = absurd (false≢true e)
+moves_back kind.Write e f = absurd (false≢true e)
+moves_back kind.Block e f = absurd (false≢true f)
+moves_back kind.Written e f = absurd (false≢true f)
+moves_back kind.Gone e f = absurd (false≢true f)
+moves_back kind.Create e f = absurd (false≢true f)
+moves_back kind.Created e f = absurd (false≢true f)
+moves_back kind.NoRoom e f = absurd (false≢true f)
+moves_back kind.Migrate e f = refl
+moves_back kind.Update e f = absurd (false≢true f)
+moves_back kind.Ask e f = absurd (false≢true f)
+moves_back kind.Refuse e f = absurd (false≢true f)
+moves_back kind.PullState e f = absurd (false≢true f)
+moves_back kind.State e f = absurd (false≢true f)
+moves_back kind.PullBlock e f = absurd (false≢true f)
+moves_back kind.Memory e f = absurd (false≢true f)
+moves_back kind.AllTaken e f = absurd (false≢true f)
+moves_back kind.Restart e f = absurd (false≢true f)
+moves_back kind.Move e f = absurd (false≢true f)
+moves_back kind.Moved e f = absurd (false≢true f)
+moves_back kind.CallOff e f = absurd (false≢true f)
+moves_back kind.Bury e f = absurd (false≢true f)
+
+-- all that wait for a process go on
+follow_at : (v : View) (a : Addresses) (p : Pid) (to : ℕ) (ids : List MsgId) (i : MsgId) → v.known v.acting p ≡ Frozen to → 1 ≤ times i ids → (given a (all_follow v a p ids) (Receiver i)).at ≡ to
+follow_at v a p to [] i at least = absurd (omega (arith, least))
+follow_at v a p to (j ∷ js) i at least = elim (cases_Bool (id_eq j i)) [
+  | inl same ↦
+      ap (λ (b : Bool). (if b then place_known (v.known v.acting p) (v.moves p) (a (Receiver j)) else given a (all_follow v a p js) (Receiver i)).at) same ∙ ap (λ (k : Known). (place_known k (v.moves p) (a (Receiver j))).at) at
+  | inr apart ↦
+      let off : one_of i j ≡ 0 = ap (λ (b : Bool). if b then 1 else 0) (not_true (id_eq i j) (λ e. false≢true (sym apart ∙ ap (λ (x : MsgId). id_eq x i) (sym (id_eq-is i j e)) ∙ id_eq-same i))) in
+      ap (λ (b : Bool). (if b then place_known (v.known v.acting p) (v.moves p) (a (Receiver j)) else given a (all_follow v a p js) (Receiver i)).at) apart ∙ follow_at v a p to js i at (omega (arith, least, off))
+]
+
+agains_need : (n : ℕ) (start pt : Point) (to : ℕ) (ids : List MsgId) (ps : List Part) → ((i : MsgId) → 1 ≤ times i ids → (pt.addresses (Receiver i)).at ≡ to) → pt.view.acting ≡ start.view.acting → ((m : ℕ) (q : Pid) → pt.view.known m q ≡ start.view.known m q)
+    → ((q : Point) → q.view.acting ≡ start.view.acting → ((m : ℕ) (r : Pid) → q.view.known m r ≡ start.view.known m r) → AllNeed n q ps) → AllNeed n pt (sends_on to ids ++ ps)
+agains_need n start pt to [] ps at acting known rest = rest pt acting known
+agains_need n start pt to (i ∷ is) ps at acting known rest = (
+  at i (let e : one_of i i ≡ 1 = ap (λ (c : Bool). if c then 1 else 0) (id_eq-same i) in omega (arith, e)),
+  (λ ls next is_ leads.
+      let same = again_same pt next i to ls is_ leads in
+      agains_need n start next to is ps (λ j least. ap (λ (p : Place). p.at) (same.addresses (Receiver j)) ∙ at j (omega (arith, least))) (same.acting ∙ acting) (λ m q. same.known m q ∙ known m q) rest),
+)
+
+frozen_is : (a b : ℕ) → Frozen a ≡ Frozen b → a ≡ b
+frozen_is a b e = cc
+
+left_need : (n : ℕ) (start q : Point) (p : Pid) (to from : ℕ) → q.view.acting ≡ start.view.acting → ((m : ℕ) (r : Pid) → q.view.known m r ≡ start.view.known m r) → start.view.known start.view.acting p ≡ Frozen to → start.view.known to p ≢ Unknown → from < n
+    → AllNeed n q (Says (line.Migration stage.Left p) ∷ to_kernel kind.Restart from ∷ [])
+left_need n start q p to from acting known at there le = (
+  (λ d e f. there (
+      let is : Frozen to ≡ Frozen d = sym at ∙ sym (ap (λ (m : ℕ). start.view.known m p) acting) ∙ sym (known q.view.acting p) ∙ e in
+      ap (λ (m : ℕ). start.view.known m p) (frozen_is to d is) ∙ sym (known d p) ∙ f)),
+  (λ ls next is leads. loose_need n next (to_kernel kind.Restart from ∷ []) (to_restart n from le)),
+)
+
+sent_gone : (pt : Point) (p : Pid) (id : MsgId) (is : List MsgId) → State None pt → pt.view.inbox pt.view.acting ≡ id ∷ is → is_kernels id ≡ true → (i : MsgId) (z : Spot) (k : ℕ) → 1 ≤ times i (both_lists pt.view p) → standing (view_after pt.view (line.SentOn p k)) i z ≡ 0
+sent_gone pt p id is state front own i z k least =
+    let b = sent_way pt p k id is state front own in
+    let bag = letters b.own pt.kernel.bag in
+    nowhere (without_all (both_lists pt.view p) bag i) (standing (view_after pt.view (line.SentOn p k)) i) (without_at (both_lists pt.view p) bag i least) (b.stands.kept i) z
+  where
+    nowhere : (o : Option Pid) (f : Spot → ℕ) → o ≡ None → StandsAsBag o f → (z : Spot) → f z ≡ 0
+    nowhere None f e h z = h z
+    nowhere (Some x) f e h z = cc
+
+-- where all is taken of a process that leaves
+pub leaves_need : (n : ℕ) (pt : Point) (id : MsgId) (is : List MsgId) (p : Pid) (k : Known) → pt.view.inbox pt.view.acting ≡ id ∷ is → State None pt → Core n pt → is_kernels id ≡ true → pt.view.known pt.view.acting p ≡ k
+    → ((to : ℕ) → k ≡ Frozen to → pt.view.known to p ≢ Unknown) → is_fixed p ≡ false → ((i : MsgId) (q : Pid) → 1 ≤ times i (both_lists pt.view p) → Named pt.kernel pt.view (Receiver i) q → q ≡ p) → id.from.home < n
+    → NeedOf n pt (leaves id p (both_lists pt.view p) k)
+leaves_need n pt id is p Unknown front state h own at there free for le = tt
+leaves_need n pt id is p Here front state h own at there free for le = tt
+leaves_need n pt id is p (Frozen to) front state h own at there free for le =
+    let v = pt.view in
+    let a = pt.addresses in
+    let ids = both_lists v p in
+    let known : v.known to p ≢ Unknown = there to refl in
+    let needs : NeedsSent pt p = record {
+      knows = λ i q least e. subst (λ (x : Known). Knows v q (place_known x (v.moves p) (a (Receiver i)))) (sym at) (subst (λ (r : Pid). KnowsAt v r to) (sym (for i q least e)) (inr (free, known)));
+      gone = λ i z k least. sent_gone pt p id is state front own i z k least;
+    } in (
+      needs,
+      (λ ls next is_ leads.
+          let (s, same) = said_next pt next (line.SentOn p (length ids)) ls is_ leads in
+          let first = moved pt (line.SentOn p (length ids)) s in
+          subst (λ (q : Point). AllNeed n q (sends_on to ids ++ Says (line.Migration stage.Left p) ∷ to_kernel kind.Restart id.from.home ∷ [])) same
+          (agains_need n pt first to ids (Says (line.Migration stage.Left p) ∷ to_kernel kind.Restart id.from.home ∷ []) (λ i least. follow_at v a p to ids i at least) refl (λ m q. refl)
+          (λ q acting same_known. left_need n pt q p to id.from.home acting same_known at known le))),
+    )
+leaves_need n pt id is p (Incoming from) front state h own at there free for le = tt
+leaves_need n pt id is p (Forward to c) front state h own at there free for le = tt
+leaves_need n pt id is p Ended front state h own at there free for le = tt

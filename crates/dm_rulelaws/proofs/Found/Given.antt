@@ -1,0 +1,124 @@
+-- Lines that give addresses keep where messages stand: a message that goes on, messages that are sent on, and an update.
+use Rattle.std.proofs.Common.{◌≡◌, ◌⊎◌, ℕ, zero, suc, ◌<◌, ◌≤◌, Bool, true, false, is_some, List, [], ◌∷◌, ◌++◌, refl, ap, ◌∙◌, sym, subst, inl, inr, arith}
+use Rattle.std.specs.Prelude.{if◌then◌else◌}
+use Rattle.std.specs.declared.option.Option.{Option}
+use Rattle.std.specs.declared.option.Option.TheVariants.{None, Some}
+use Rattle.dm_link.specs.declared.Pid.{Pid}
+use Rattle.dm_link.specs.Names.{Place}
+use Rattle.dm_message.specs.declared.MsgId.{MsgId}
+use Rattle.dm_message.specs.Ids.{id_eq}
+use Rattle.dm_laws.proofs.Equal.{id_eq-is, id_eq-same}
+use Rattle.dm_line.specs.declared.line.Line.TheVariants as line
+use Rattle.dm_rule.specs.View.{View, Told, own_id, view_after, handled, forwarded_for, forward_about, receiver_of}
+use Rattle.dm_rule.specs.Addresses.{Addresses, Receiver, Sender, given, place_known, all_follow, tells_back, is_told_back, forwards, updated}
+use Rattle.dm_rule.specs.Point.{Point, moved}
+use Rattle.dm_rule.specs.Spots.{Spot, times, standing}
+use Rattle.dm_rule.proofs.Lines.{not_true}
+use Rattle.dm_rule.proofs.Once.{one_of}
+use Rattle.dm_rule.proofs.Trails.Places.{Named}
+use Rattle.dm_rulelaws.proofs.Found.Lists.{Places, places_line, places_handled, places_forwarded}
+use Rattle.dm_rulelaws.proofs.Found.Held.{HeldFor, held_as, held_line}
+use Rattle.dm_rulelaws.proofs.Found.Places.{AllAre, all_as, forwarded_all, sent_on_all, updated_all, updated_leaves}
+use Rattle.dm_rulelaws.proofs.Found.Core.{Knows, AboutIs, IsAt, Core, learns_nothing, knows_grow, own_grows, about_grows}
+use Rattle.dm_rulelaws.proofs.Found.Puts.{told_apart}
+
+-- a line that gives addresses, and says nothing of processes
+abbrev gives_at : Point → View → Addresses → Point
+gives_at pt w b = record { kernel = pt.kernel; view = w; addresses = b }
+
+given_core : (n : ℕ) (pt : Point) (w : View) (b : Addresses) → w.acting ≡ pt.view.acting → ((m : ℕ) (q : Pid) → w.known m q ≡ pt.view.known m q) → w.told ≡ pt.view.told → AboutIs n pt.view w.topic → AllAre (Knows pt.view) pt.kernel pt.view b
+    → Places (IsAt b pt.view) w → HeldFor w → Core n pt → Core n (gives_at pt w b)
+given_core n pt w b acting known told topic all places held h =
+    let learnt = learns_nothing n pt.view w acting known h.known in
+    record {
+      acting = subst (λ (k : ℕ). k < n) (sym acting) h.acting;
+      machines = h.machines;
+      all = λ g q e. knows_grow pt.view w q (b g).at learnt.grows (all_as (Knows pt.view) pt.kernel pt.view w b told all g q e);
+      tells = λ i u e. about_grows n pt.view w u.about learnt.grows (h.tells i u (sym (ap (λ (f : MsgId → Option Told). f i) told) ∙ e));
+      real = λ i u e own. own_grows n pt.view w u learnt.grows (h.real i u (sym (ap (λ (f : MsgId → Option Told). f i) told) ∙ e) own);
+      topic = about_grows n pt.view w w.topic learnt.grows topic;
+      known = learnt.known;
+      places = λ i z e. let k = places i z e in (k.0, ap (λ (f : MsgId → Option Told). is_some (f i)) told ∙ k.1);
+      held = held;
+      senders = h.senders;
+      fits = h.fits;
+      home = λ q some. learnt.grows q.home q (h.home q some);
+      pending = h.pending;
+    }
+
+-- a message that goes on
+back_off : (v : View) (a : Addresses) (id i : MsgId) (c : Bool) → id_eq (own_id v) i ≡ false → given a (tells_back v a id c) (Receiver i) ≡ a (Receiver i)
+back_off v a id i true e = ap (λ (c : Bool). if c then a (Sender id) else a (Receiver i)) e
+back_off v a id i false e = refl
+
+forwards_off : (v : View) (a : Addresses) (id i : MsgId) (u : Told) → id_eq id i ≡ false → id_eq (own_id v) i ≡ false → given a (forwards v a id (Some u)) (Receiver i) ≡ a (Receiver i)
+forwards_off v a id i u e f =
+    ap (λ (c : Bool). if c then place_known (v.known v.acting u.receiver) (v.moves u.receiver) (a (Receiver id)) else given a (tells_back v a id (is_told_back u.kind)) (Receiver i)) e ∙ back_off v a id i (is_told_back u.kind) f
+
+pub record NeedsForward (n : ℕ) (pt : Point) (id : MsgId) : Type 0 where
+  pub u : Told
+  pub told : pt.view.told id ≡ Some u
+  pub knows : (q : Pid) → Named pt.kernel pt.view (Receiver id) q → Knows pt.view q (place_known (pt.view.known pt.view.acting u.receiver) (pt.view.moves u.receiver) (pt.addresses (Receiver id)))
+  pub topic : AboutIs n pt.view (forward_about u.receiver (pt.view.known pt.view.acting u.receiver))
+  pub outside : pt.kernel.bag (own_id pt.view) ≡ None
+  pub fresh : pt.view.told (own_id pt.view) ≡ None
+  pub gone : (z : Spot) → standing (handled pt.view id) id z ≡ 0
+
+pub forwarded_core : (n : ℕ) (pt : Point) (id : MsgId) (m : ℕ) → NeedsForward n pt id → Core n pt → Core n (moved pt (line.Forwarded id m) pt.kernel)
+forwarded_core n pt id m need h =
+    let v = pt.view in
+    let a = pt.addresses in
+    let b = given a (forwards v a id (Some need.u)) in
+    let w = forwarded_for (handled v id) (Some need.u.receiver) in
+    let all = subst (λ (o : Option Told). AllAre (Knows v) pt.kernel v (given a (forwards v a id o))) need.told (forwarded_all (Knows v) pt.kernel v a id need.u need.told need.knows need.outside need.fresh h.all) in
+    let apart : Places (λ i k. (id_eq id i ≡ false) × IsAt a v i k) w =
+    places_forwarded (λ i k. (id_eq id i ≡ false) × IsAt a v i k) (handled v id) (Some need.u.receiver)
+    (λ i z e. (not_true (id_eq id i) (λ k. let f : standing (handled v id) i z ≡ 0 = ap (λ (j : MsgId). standing (handled v id) j z) (sym (id_eq-is id i k)) ∙ need.gone z in absurd (omega (arith, e, f))), places_handled (IsAt a v) v id h.places i z e)) in
+    subst (λ (o : Option Told). Core n (gives_at pt (forwarded_for (handled v id) (receiver_of o)) (given a (forwards v a id o)))) (sym need.told)
+    (given_core n pt w b refl (λ k q. refl) refl need.topic all
+    (λ i z e. let k = apart i z e in (ap (λ (p : Place). p.at) (forwards_off v a id i need.u k.0 (told_apart v (own_id v) i need.fresh k.1.1)) ∙ k.1.0, k.1.1)) (held_as v w refl refl h.held) h)
+
+-- messages that are sent on
+zero_cases : (n : ℕ) → (n ≡ 0) ⊎ (1 ≤ n)
+zero_cases zero = inl refl
+zero_cases (suc n) = inr (omega arith)
+
+one_not : (i j : MsgId) → one_of i j ≡ 0 → id_eq j i ≡ false
+one_not i j e = not_true (id_eq j i) (λ k. let f : one_of i j ≡ 1 = ap (λ (x : MsgId). one_of i x) (id_eq-is j i k) ∙ ap (λ (c : Bool). if c then 1 else 0) (id_eq-same i) in absurd (omega (arith, e, f)))
+
+follow_off : (v : View) (a : Addresses) (p : Pid) (i : MsgId) (ids : List MsgId) → times i ids ≡ 0 → given a (all_follow v a p ids) (Receiver i) ≡ a (Receiver i)
+follow_off v a p i [] e = refl
+follow_off v a p i (j ∷ js) e =
+    let first : one_of i j ≡ 0 = omega (arith, e) in
+    let rest : times i js ≡ 0 = omega (arith, e) in
+    ap (λ (c : Bool). if c then place_known (v.known v.acting p) (v.moves p) (a (Receiver j)) else given a (all_follow v a p js) (Receiver i)) (one_not i j first) ∙ follow_off v a p i js rest
+
+pub record NeedsSent (pt : Point) (p : Pid) : Type 0 where
+  pub knows : (i : MsgId) (q : Pid) → 1 ≤ times i (pt.view.queue pt.view.acting p ++ pt.view.held pt.view.acting p) → Named pt.kernel pt.view (Receiver i) q
+      → Knows pt.view q (place_known (pt.view.known pt.view.acting p) (pt.view.moves p) (pt.addresses (Receiver i)))
+  pub gone : (i : MsgId) (z : Spot) (k : ℕ) → 1 ≤ times i (pt.view.queue pt.view.acting p ++ pt.view.held pt.view.acting p) → standing (view_after pt.view (line.SentOn p k)) i z ≡ 0
+
+pub sent_core : (n : ℕ) (pt : Point) (p : Pid) (k : ℕ) → NeedsSent pt p → Core n pt → Core n (moved pt (line.SentOn p k) pt.kernel)
+sent_core n pt p k need h =
+    let v = pt.view in
+    let a = pt.addresses in
+    let ids = v.queue v.acting p ++ v.held v.acting p in
+    let b = given a (all_follow v a p ids) in
+    let w = view_after v (line.SentOn p k) in
+    given_core n pt w b refl (λ m q. refl) refl tt (sent_on_all (Knows v) pt.kernel v a p ids need.knows h.all)
+    (λ i z e. let x = places_line (IsAt a v) v (line.SentOn p k) tt h.places i z e in (
+      elim (zero_cases (times i ids)) [
+        | inl none ↦ ap (λ (q : Place). q.at) (follow_off v a p i ids none) ∙ x.0
+        | inr least ↦ absurd (let f = need.gone i z k least in omega (arith, e, f))
+      ],
+      x.1,
+    )) (held_line v (line.SentOn p k) refl h.held) h
+
+-- an update
+pub updated_core : (n : ℕ) (pt : Point) (id : MsgId) (k : ℕ) → Core n pt → Core n (moved pt (line.Updated id k) pt.kernel)
+updated_core n pt id k h =
+    let v = pt.view in
+    let a = pt.addresses in
+    given_core n pt (handled v id) (updated pt.kernel v a (v.told id)) refl (λ m q. refl) refl h.topic
+    (updated_all (Knows v) pt.kernel v a (v.told id) (λ u p m c e f. subst (AboutIs n v) f (h.tells id u e)) h.all)
+    (λ i z e. let x = places_handled (IsAt a v) v id h.places i z e in (ap (λ (q : Place). q.at) (updated_leaves pt.kernel v a (v.told id) i) ∙ x.0, x.1)) (held_as v (handled v id) refl refl h.held) h

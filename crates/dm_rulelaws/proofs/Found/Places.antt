@@ -1,0 +1,259 @@
+-- Lines that give addresses beside the kernel keep each where its process is known: a message that is forwarded, messages that
+-- are sent on, an update, and puts.
+use Rattle.std.proofs.Common.{◌≡◌, ◌⊎◌, ℕ, ◌≤◌, ◌&&◌, Bool, true, false, List, [], ◌∷◌, refl, ap, ◌∙◌, sym, subst, inl, inr, arith, nat_lt}
+use Rattle.std.specs.Prelude.{⊤, if◌then◌else◌}
+use Rattle.std.specs.declared.option.Option.{Option}
+use Rattle.std.specs.declared.option.Option.TheVariants.{None, Some}
+use Rattle.std.proofs.lemmas.Bool.{cases_Bool, false≢true}
+use Rattle.dm_link.specs.declared.Pid.{Pid}
+use Rattle.dm_link.specs.Names.{Place}
+use Rattle.dm_message.specs.declared.MsgId.{MsgId}
+use Rattle.dm_message.specs.Ids.{id_eq}
+use Rattle.dm_message.specs.declared.kind.MessageKind.{MessageKind}
+use Rattle.dm_message.specs.declared.kind.MessageKind.TheVariants as kind
+use Rattle.dm_onekernel.specs.Boot.{manager}
+use Rattle.dm_onekernel.specs.Kernel.{OneKernel}
+use Rattle.dm_laws.proofs.Equal.{pid_eq-is, id_eq-is, id_eq-same}
+use Rattle.dm_rule.specs.View as view
+use Rattle.dm_rule.specs.View.{View, Told, About, NothingElse, Target, Of, Known, is_kernels, own_id, after_put}
+use Rattle.dm_rule.specs.Addresses.{Addresses, Holder, Slot, Owner, Receiver, Sender, Enclosed, Child, Name, Answer, Gets, gets, given, holder_eq, place_known, all_follow, is_told_back, tells_back, forwards, place_told, belongs_to, leads_to, is_pid, is_behind, updated_to, updated, own_gives, first_gives}
+use Rattle.dm_rule.specs.Homes.{names}
+use Rattle.dm_rule.specs.Spots.{times}
+use Rattle.dm_rule.proofs.Once.{one_of}
+use Rattle.dm_rule.proofs.Lines.{parts}
+use Rattle.dm_rule.proofs.States.{put_told_off}
+use Rattle.dm_rule.proofs.Phases.Lines.{put_at}
+use Rattle.dm_rule.proofs.Trails.Places.{Goes, Comes, Named, Links, Owns, holder_is}
+use Rattle.dm_rule.proofs.Trails.Lines.{unnamed_receiver, unnamed_sender}
+use Rattle.dm_rule.proofs.Trails.Puts.{put_named, told_again, is_own}
+
+-- each address is one of these
+abbrev pub AllAre : (Pid → Place → Type 0) → OneKernel → View → Addresses → Type 0
+AllAre P s v a = (h : Holder) (q : Pid) → Named s v h q → P q (a h)
+
+-- what holders get is
+abbrev pub AllGet : (Pid → Place → Type 0) → OneKernel → View → List Gets → Type 0
+AllGet P s v [] = ⊤
+AllGet P s v (g ∷ gs) = ((q : Pid) → Named s v g.holder q → P q g.place) × AllGet P s v gs
+
+pub given_are : (P : Pid → Place → Type 0) (s : OneKernel) (v : View) (a : Addresses) (gs : List Gets) → AllAre P s v a → AllGet P s v gs → AllAre P s v (given a gs)
+given_are P s v a [] h all g q e = h g q e
+given_are P s v a (x ∷ xs) h all g q e = elim (cases_Bool (holder_eq x.holder g)) [
+  | inl same ↦
+      subst (P q) (sym (ap (λ (c : Bool). if c then x.place else given a xs g) same))
+      (all.0 q (subst (λ (k : Holder). Named s v k q) (sym (holder_is x.holder g same)) e))
+  | inr apart ↦ subst (P q) (sym (ap (λ (c : Bool). if c then x.place else given a xs g) apart)) (given_are P s v a xs h all.1 g q e)
+]
+
+-- what was told stays
+told_back : (s : OneKernel) (v w : View) (h : Holder) (q : Pid) → w.told ≡ v.told → Named s w h q → Named s v h q
+told_back s v w h q same (Links e) = Links e
+told_back s v w h q same (Owns (Goes i u is k told r)) = Owns (Goes i u is k (sym (ap (λ (f : MsgId → Option Told). f i) same) ∙ told) r)
+told_back s v w h q same (Owns (Comes i u is mine told k r)) = Owns (Comes i u is mine (sym (ap (λ (f : MsgId → Option Told). f i) same) ∙ told) k r)
+
+pub all_as : (P : Pid → Place → Type 0) (s : OneKernel) (v w : View) (a : Addresses) → w.told ≡ v.told → AllAre P s v a → AllAre P s w a
+all_as P s v w a same h g q e = h g q (told_back s v w g q same e)
+
+-- a message that is forwarded, and the update for its sender
+back_gets : (P : Pid → Place → Type 0) (s : OneKernel) (v : View) (a : Addresses) (id : MsgId) (b : Bool) → s.bag (own_id v) ≡ None → v.told (own_id v) ≡ None → AllGet P s v (tells_back v a id b)
+back_gets P s v a id true bag told = ((λ q e. absurd (unnamed_receiver s v (own_id v) q bag told e)), ((λ q e. absurd (unnamed_sender s v (own_id v) q bag told e)), tt))
+back_gets P s v a id false bag told = tt
+
+pub forwarded_all : (P : Pid → Place → Type 0) (s : OneKernel) (v : View) (a : Addresses) (id : MsgId) (u : Told) → v.told id ≡ Some u → ((q : Pid) → Named s v (Receiver id) q → P q (place_known (v.known v.acting u.receiver) (v.moves u.receiver) (a (Receiver id))))
+    → s.bag (own_id v) ≡ None → v.told (own_id v) ≡ None → AllAre P s v a → AllAre P s v (given a (forwards v a id (v.told id)))
+forwarded_all P s v a id u told to bag fresh h =
+    subst (λ (o : Option Told). AllAre P s v (given a (forwards v a id o))) (sym told) (given_are P s v a (forwards v a id (Some u)) h (to, back_gets P s v a id (is_told_back u.kind) bag fresh))
+
+-- the messages of a process are sent on
+follow_gets : (P : Pid → Place → Type 0) (s : OneKernel) (v : View) (a : Addresses) (p : Pid) (ids : List MsgId) → ((i : MsgId) (q : Pid) → 1 ≤ times i ids → Named s v (Receiver i) q → P q (place_known (v.known v.acting p) (v.moves p) (a (Receiver i))))
+    → AllGet P s v (all_follow v a p ids)
+follow_gets P s v a p [] to = tt
+follow_gets P s v a p (i ∷ is) to = ((λ q e. to i q first e), follow_gets P s v a p is (λ j q least. to j q (more j least)))
+  where
+    first : 1 ≤ times i (i ∷ is)
+    first = let e : one_of i i ≡ 1 = ap (λ (c : Bool). if c then 1 else 0) (id_eq-same i) in omega (arith, e)
+
+    more : (j : MsgId) → 1 ≤ times j is → 1 ≤ times j (i ∷ is)
+    more j least = omega (arith, least)
+
+pub sent_on_all : (P : Pid → Place → Type 0) (s : OneKernel) (v : View) (a : Addresses) (p : Pid) (ids : List MsgId)
+    → ((i : MsgId) (q : Pid) → 1 ≤ times i ids → Named s v (Receiver i) q → P q (place_known (v.known v.acting p) (v.moves p) (a (Receiver i)))) → AllAre P s v a → AllAre P s v (given a (all_follow v a p ids))
+sent_on_all P s v a p ids to h = given_are P s v a (all_follow v a p ids) h (follow_gets P s v a p ids to)
+
+-- an update
+pid_there : (p : Pid) (o : Option Pid) → is_pid p o ≡ true → o ≡ Some p
+pid_there p None e = absurd (false≢true e)
+pid_there p (Some q) e = ap Some (sym (pid_eq-is p q e))
+
+leads_names : (s : OneKernel) (h : Holder) (p : Pid) → leads_to s h ≡ Some p → names s h ≡ Some p
+leads_names s (Slot q k) p e = e
+leads_names s (Owner q) p e = e
+leads_names s (Receiver i) p e = cc
+leads_names s (Sender i) p e = cc
+leads_names s (Enclosed i k) p e = cc
+leads_names s (Child n) p e = e
+leads_names s (Name n) p e = e
+leads_names s (Answer n) p e = e
+
+leads_where : (s : OneKernel) (v : View) (h : Holder) (p q : Pid) → leads_to s h ≡ Some p → Named s v h q → p ≡ q
+leads_where s v h p q e (Links f) = let g : Some p ≡ Some q = sym (leads_names s h p e) ∙ f in cc
+leads_where s v h p q e (Owns (Goes i u is k told r)) = absurd (let f : None ≡ Some p = sym (ap (leads_to s) is) ∙ e in cc)
+leads_where s v h p q e (Owns (Comes i u is mine told k r)) = absurd (let f : None ≡ Some p = sym (ap (leads_to s) is) ∙ e in cc)
+
+behind_where : (s : OneKernel) (a : Addresses) (q p : Pid) (n : ℕ) (h : Holder) → is_behind s a q p n h ≡ true → leads_to s h ≡ Some p
+behind_where s a q p n h e =
+    let x = parts (belongs_to q h) (is_pid p (leads_to s h) && nat_lt (a h).moves n) e in
+    let y = parts (is_pid p (leads_to s h)) (nat_lt (a h).moves n) x.1 in
+    pid_there p (leads_to s h) y.0
+
+update_by : (P : Pid → Place → Type 0) (s : OneKernel) (v : View) (a : Addresses) (r p : Pid) (place : Place) → P p place → AllAre P s v a → AllAre P s v (updated_to s a (Some r) (Some (p, place)))
+update_by P s v a r p place on h g q e = elim (cases_Bool (is_behind s a r p place.moves g)) [
+  | inl yes_ ↦
+      subst (P q) (sym (ap (λ (c : Bool). if c then place else a g) yes_))
+      (subst (λ (x : Pid). P x place) (leads_where s v g p q (behind_where s a r p place.moves g yes_) e) on)
+  | inr not_ ↦ subst (P q) (sym (ap (λ (c : Bool). if c then place else a g) not_)) (h g q e)
+]
+
+update_about : (P : Pid → Place → Type 0) (s : OneKernel) (v : View) (a : Addresses) (r : Pid) (x : About) → ((p : Pid) (m c : ℕ) → x ≡ view.Place p m c → P p (record { at = m; moves = c })) → AllAre P s v a → AllAre P s v (updated_to s a (Some r) (place_told x))
+update_about P s v a r NothingElse on h = h
+update_about P s v a r (Target m) on h = h
+update_about P s v a r (Of p) on h = h
+update_about P s v a r (view.Place p m c) on h = update_by P s v a r p (record { at = m; moves = c }) (on p m c refl) h
+
+pub updated_all : (P : Pid → Place → Type 0) (s : OneKernel) (v : View) (a : Addresses) (o : Option Told) → ((u : Told) (p : Pid) (m c : ℕ) → o ≡ Some u → u.about ≡ view.Place p m c → P p (record { at = m; moves = c })) → AllAre P s v a → AllAre P s v (updated s v a o)
+updated_all P s v a None on h = h
+updated_all P s v a (Some u) on h = update_about P s v a u.receiver u.about (λ p m c e. on u p m c refl e) h
+
+-- an update gives no message another address
+update_leaves : (s : OneKernel) (a : Addresses) (r : Pid) (x : About) (i : MsgId) → updated_to s a (Some r) (place_told x) (Receiver i) ≡ a (Receiver i)
+update_leaves s a r NothingElse i = refl
+update_leaves s a r (Target m) i = refl
+update_leaves s a r (Of p) i = refl
+update_leaves s a r (view.Place p m c) i = refl
+
+pub updated_leaves : (s : OneKernel) (v : View) (a : Addresses) (o : Option Told) (i : MsgId) → updated s v a o (Receiver i) ≡ a (Receiver i)
+updated_leaves s v a None i = refl
+updated_leaves s v a (Some u) i = update_leaves s a u.receiver u.about i
+
+-- the first put of a kernel's own message
+two_get : (P : Pid → Place → Type 0) (s : OneKernel) (v : View) (id : MsgId) (to from : Place) → s.bag id ≡ None → v.told id ≡ None → AllGet P s v (gets (Receiver id) to ∷ gets (Sender id) from ∷ [])
+two_get P s v id to from bag told = ((λ q e. absurd (unnamed_receiver s v id q bag told e)), ((λ q e. absurd (unnamed_sender s v id q bag told e)), tt))
+
+own_gets : (P : Pid → Place → Type 0) (s : OneKernel) (v : View) (a : Addresses) (id : MsgId) (q : Pid) (k : MessageKind) → s.bag id ≡ None → v.told id ≡ None → AllGet P s v (own_gives s v a id q k)
+own_gets P s v a id q kind.User bag told = tt
+own_gets P s v a id q kind.Stop bag told = tt
+own_gets P s v a id q kind.Resume bag told = tt
+own_gets P s v a id q kind.Kill bag told = tt
+own_gets P s v a id q kind.Read bag told = tt
+own_gets P s v a id q kind.Write bag told = tt
+own_gets P s v a id q kind.Block bag told = tt
+own_gets P s v a id q kind.Written bag told = tt
+own_gets P s v a id q kind.Gone bag told = tt
+own_gets P s v a id q kind.Create bag told = tt
+own_gets P s v a id q kind.Created bag told = tt
+own_gets P s v a id q kind.NoRoom bag told = tt
+own_gets P s v a id q kind.Migrate bag told = two_get P s v id _ _ bag told
+own_gets P s v a id q kind.Update bag told = tt
+own_gets P s v a id q kind.Ask bag told = two_get P s v id _ _ bag told
+own_gets P s v a id q kind.Refuse bag told = two_get P s v id _ _ bag told
+own_gets P s v a id q kind.PullState bag told = two_get P s v id _ _ bag told
+own_gets P s v a id q kind.State bag told = two_get P s v id _ _ bag told
+own_gets P s v a id q kind.PullBlock bag told = two_get P s v id _ _ bag told
+own_gets P s v a id q kind.Memory bag told = two_get P s v id _ _ bag told
+own_gets P s v a id q kind.AllTaken bag told = two_get P s v id _ _ bag told
+own_gets P s v a id q kind.Restart bag told = two_get P s v id _ _ bag told
+own_gets P s v a id q kind.Move bag told = tt
+own_gets P s v a id q kind.Moved bag told = tt
+own_gets P s v a id q kind.CallOff bag told = two_get P s v id _ _ bag told
+own_gets P s v a id q kind.Bury bag told = two_get P s v id _ _ bag told
+
+pub put_all : (P : Pid → Place → Type 0) (s : OneKernel) (v : View) (a : Addresses) (x y : ℕ) (id : MsgId) (k : MessageKind) (q : Pid) → s.bag id ≡ None → v.told id ≡ None → P q (given a (own_gives s v a id q k) (Receiver id))
+    → (k ≡ kind.Migrate → P manager (given a (own_gives s v a id q k) (Sender id))) → AllAre P s v a → AllAre P s (after_put v x y id k q) (given a (first_gives (v.told id) (own_gives s v a id q k)))
+put_all P s v a x y id k q bag none to from h g r e =
+    subst (λ (o : Option Told). P r (given a (first_gives o (own_gives s v a id q k)) g)) (sym none)
+    (elim (put_named s v x y id k q g r none e) [
+      | inl old ↦ given_are P s v a (own_gives s v a id q k) h (own_gets P s v a id q k bag none) g r old
+      | inr new ↦ elim new [
+        | inl way ↦ subst (λ (i : Holder). P r (given a (own_gives s v a id q k) i)) (sym way.0) (subst (λ (p : Pid). P p (given a (own_gives s v a id q k) (Receiver id))) way.1 to)
+        | inr way ↦ subst (λ (i : Holder). P r (given a (own_gives s v a id q k) i)) (sym way.0) (subst (λ (p : Pid). P p (given a (own_gives s v a id q k) (Sender id))) way.2 (from way.1))
+      ]
+    ])
+
+-- a message of the bag
+plain_gives : (s : OneKernel) (v : View) (a : Addresses) (id : MsgId) (q : Pid) (k : MessageKind) → is_own k ≡ false → own_gives s v a id q k ≡ []
+plain_gives s v a id q kind.User e = refl
+plain_gives s v a id q kind.Stop e = refl
+plain_gives s v a id q kind.Resume e = refl
+plain_gives s v a id q kind.Kill e = refl
+plain_gives s v a id q kind.Read e = refl
+plain_gives s v a id q kind.Write e = refl
+plain_gives s v a id q kind.Block e = refl
+plain_gives s v a id q kind.Written e = refl
+plain_gives s v a id q kind.Gone e = refl
+plain_gives s v a id q kind.Create e = refl
+plain_gives s v a id q kind.Created e = refl
+plain_gives s v a id q kind.NoRoom e = refl
+plain_gives s v a id q kind.Migrate e = absurd (false≢true (sym e))
+plain_gives s v a id q kind.Update e = absurd (false≢true (sym e))
+plain_gives s v a id q kind.Ask e = absurd (false≢true (sym e))
+plain_gives s v a id q kind.Refuse e = absurd (false≢true (sym e))
+plain_gives s v a id q kind.PullState e = absurd (false≢true (sym e))
+plain_gives s v a id q kind.State e = absurd (false≢true (sym e))
+plain_gives s v a id q kind.PullBlock e = absurd (false≢true (sym e))
+plain_gives s v a id q kind.Memory e = absurd (false≢true (sym e))
+plain_gives s v a id q kind.AllTaken e = absurd (false≢true (sym e))
+plain_gives s v a id q kind.Restart e = absurd (false≢true (sym e))
+plain_gives s v a id q kind.Move e = refl
+plain_gives s v a id q kind.Moved e = refl
+plain_gives s v a id q kind.CallOff e = absurd (false≢true (sym e))
+plain_gives s v a id q kind.Bury e = absurd (false≢true (sym e))
+
+pub routed_gives : (s : OneKernel) (v : View) (a : Addresses) (id : MsgId) (k : MessageKind) (q : Pid) → is_own k ≡ false → (o : Option Told) (h : Holder) → given a (first_gives o (own_gives s v a id q k)) h ≡ a h
+routed_gives s v a id k q plain None h = ap (λ (gs : List Gets). given a gs h) (plain_gives s v a id q k plain)
+routed_gives s v a id k q plain (Some u) h = refl
+
+not_own : (k : MessageKind) → is_own k ≡ false → k ≡ kind.Migrate → ⊥
+not_own k plain e = false≢true (sym plain ∙ ap is_own e)
+
+routed_named : (s : OneKernel) (v : View) (x y : ℕ) (id : MsgId) (k : MessageKind) (q : Pid) (h : Holder) (r : Pid) → is_kernels id ≡ false → is_own k ≡ false → v.told id ≡ None → Named s (after_put v x y id k q) h r → Named s v h r
+routed_named s v x y id k q h r other plain none (Links e) = Links e
+routed_named s v x y id k q h r other plain none (Owns (Goes i u is own told to)) = elim (cases_Bool (id_eq id i)) [
+  | inl same ↦ absurd (false≢true (sym other ∙ ap is_kernels (id_eq-is id i same) ∙ own))
+  | inr apart ↦ Owns (Goes i u is own (sym (put_told_off v x y id i k q apart) ∙ told) to)
+]
+routed_named s v x y id k q h r other plain none (Owns (Comes i u is mine told move to)) = elim (put_named s v x y id k q h r none (Owns (Comes i u is mine told move to))) [
+  | inl old ↦ old
+  | inr new ↦ elim new [
+    | inl way ↦ absurd (let f : Receiver id ≡ Sender i = sym way.0 ∙ is in cc)
+    | inr way ↦ absurd (not_own k plain way.1)
+  ]
+]
+
+pub put_routed : (P : Pid → Place → Type 0) (s : OneKernel) (v : View) (a : Addresses) (x y : ℕ) (id : MsgId) (k : MessageKind) (q : Pid) → is_kernels id ≡ false → is_own k ≡ false → v.told id ≡ None → AllAre P s v a
+    → AllAre P s (after_put v x y id k q) (given a (first_gives (v.told id) (own_gives s v a id q k)))
+put_routed P s v a x y id k q other plain none h g r e = subst (P r) (sym (routed_gives s v a id k q plain (v.told id) g)) (h g r (routed_named s v x y id k q g r other plain none e))
+
+-- a message that was put before
+pub put_again : (P : Pid → Place → Type 0) (s : OneKernel) (v : View) (a : Addresses) (x y : ℕ) (id : MsgId) (k : MessageKind) (q : Pid) (u : Told) → v.told id ≡ Some u → AllAre P s v a → AllAre P s (after_put v x y id k q) (given a (first_gives (v.told id) (own_gives s v a id q k)))
+put_again P s v a x y id k q u told h g r e =
+    subst (λ (o : Option Told). P r (given a (first_gives o (own_gives s v a id q k)) g)) (sym told) (h g r (again_back s v x y id k q u told g r e))
+  where
+    again_back : (s : OneKernel) (v : View) (x y : ℕ) (id : MsgId) (k : MessageKind) (q : Pid) (u : Told) → v.told id ≡ Some u → (h : Holder) (r : Pid) → Named s (after_put v x y id k q) h r → Named s v h r
+    again_back s v x y id k q u told h r (Links e) = Links e
+    again_back s v x y id k q u told h r (Owns (Goes i t is own now to)) = Owns (Goes i t is own (sym (told_again v x y id k q u told i) ∙ now) to)
+    again_back s v x y id k q u told h r (Owns (Comes i t is mine now move to)) = Owns (Comes i t is mine (sym (told_again v x y id k q u told i) ∙ now) move to)
+
+-- what is told behind a put: what was told before, or this
+pub put_tells : (v : View) (x y : ℕ) (id : MsgId) (k : MessageKind) (q : Pid) (i : MsgId) (u : Told) → (after_put v x y id k q).told i ≡ Some u
+    → (v.told i ≡ Some u) ⊎ ((id ≡ i) × (v.told id ≡ None) × (record { kind = k; receiver = q; about = v.topic } ≡ u))
+put_tells v x y id k q i u e = elim (cases_Bool (id_eq id i)) [
+  | inl same ↦
+      let is : id ≡ i = id_eq-is id i same in
+      tells_by (v.told id) refl is (sym (put_at v x y id k q) ∙ ap (after_put v x y id k q).told is ∙ e)
+  | inr apart ↦ inl (sym (put_told_off v x y id i k q apart) ∙ e)
+]
+  where
+    tells_by : (o : Option Told) → v.told id ≡ o → id ≡ i → Some (view.first_told o (record { kind = k; receiver = q; about = v.topic })) ≡ Some u
+        → (v.told i ≡ Some u) ⊎ ((id ≡ i) × (v.told id ≡ None) × (record { kind = k; receiver = q; about = v.topic } ≡ u))
+    tells_by None was is f = inr (is, was, (let g : record { kind = k; receiver = q; about = v.topic } ≡ u = cc in g))
+    tells_by (Some t) was is f = inl (ap v.told (sym is) ∙ was ∙ f)

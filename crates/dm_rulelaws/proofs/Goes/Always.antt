@@ -1,0 +1,179 @@
+-- Wherever all of it holds, each directive has its group.
+use Rattle.std.proofs.Common.{◌≡◌, ◌≢◌, ℕ, ◌+◌, ◌≤◌, ◌==◌, ◌&&◌, ◌||◌, Bool, true, false, not, List, [], ◌∷◌, refl, ap, ◌∙◌, sym, is_some, inl, inr, arith}
+use Rattle.std.specs.Prelude.{⊤, if◌then◌else◌, slice_get}
+use Rattle.std.specs.declared.option.Option.{Option}
+use Rattle.std.specs.declared.option.Option.TheVariants.{None, Some}
+use Rattle.std.proofs.lemmas.Bool.{false≢true}
+use Rattle.dm_link.specs.declared.Pid.{Pid}
+use Rattle.dm_link.specs.Names.{pid_eq}
+use Rattle.dm_message.specs.declared.MsgId.{MsgId}
+use Rattle.dm_message.specs.Plain.{PlainMessage}
+use Rattle.dm_onekernel.specs.declared.boot.Boot.{Boot}
+use Rattle.dm_onekernel.specs.Boot.{IsValid, switchboard, manager}
+use Rattle.dm_laws.proofs.Equal.{id_eq-same}
+use Rattle.dm_schedule.specs.declared.Step.{Step}
+use Rattle.dm_schedule.specs.declared.Step.TheVariants as directive
+use Rattle.dm_line.specs.declared.line.Line.TheVariants as line
+use Rattle.dm_rule.specs.Addresses.{Addresses, child_from, child_number}
+use Rattle.dm_rule.specs.Migrating.{migrates_child, migrates}
+use Rattle.dm_rule.specs.Point.{Point, moved}
+use Rattle.dm_rule.specs.Parts.{Part, Says, Spelled}
+use Rattle.dm_rule.specs.Rule as rule
+use Rattle.dm_rule.specs.Rule.{group_of}
+use Rattle.dm_rule.specs.Spots.{Spot, Queue, Held, Inbox, Untaken, times, standing, StandsOutside}
+use Rattle.dm_rule.specs.View.{View, Told, Target, is_kernels}
+use Rattle.dm_rule.specs.View as view
+use Rattle.dm_rule.specs.Laws.{IsStep}
+use Rattle.dm_rule.proofs.Groups.{arrives_net, resends_net, stands_right}
+use Rattle.dm_rule.proofs.Standing.{StandsAsBag-elsewhere}
+use Rattle.dm_rulelaws.proofs.Runs.{Run}
+use Rattle.dm_rulelaws.proofs.Own.Told.{OwnTold, own_sort}
+use Rattle.dm_rulelaws.proofs.Own.Fits.{OwnsFit, NoOwns, FirstOwns}
+use Rattle.dm_rulelaws.specs.Fits.{Each, has_bytes, is_server}
+use Rattle.dm_rulelaws.specs.Found.{is_fixed}
+use Rattle.dm_onekernel.specs.Kernel.{Life, OneKernel}
+use Rattle.dm_message.specs.declared.kind.MessageKind.TheVariants as kind
+use Rattle.dm_laws.proofs.Equal.{pid_eq-is}
+use Rattle.std.proofs.lemmas.Bool.{cases_Bool}
+use Rattle.std.proofs.lemmas.Bool.Decides.{nat_tests}
+use Rattle.dm_rulelaws.proofs.Goes.Parts.{ArePlain, Can, Shape, Goes, goes, can_plain, can_net}
+use Rattle.dm_rulelaws.proofs.Goes.Serves.{can_turn}
+use Rattle.dm_rulelaws.proofs.Goes.Turns.{queue_drops}
+use Rattle.dm_rulelaws.proofs.Goes.Front.{begun, begun_sane, Calm, CanTurn, Front}
+use Rattle.dm_rulelaws.proofs.Goes.Servers.{can_handle}
+use Rattle.dm_rulelaws.proofs.Goes.Own.{FrontOwn, can_hear}
+
+-- the message at the front of an inbox
+abbrev is_box : Spot → Bool
+is_box (Inbox m) = true
+is_box (Queue m p) = false
+is_box (Held m p) = false
+is_box (Untaken a b) = false
+
+queue_apart : (m n : ℕ) (p : Pid) → Queue n p ≢ Inbox m
+queue_apart m n p e = false≢true (ap is_box e)
+
+pub stands_first : (v : View) (m : ℕ) (i : MsgId) (is : List MsgId) → v.inbox m ≡ i ∷ is → 1 ≤ standing v i (Inbox m)
+stands_first v m i is box =
+    let a : times i (v.inbox m) ≡ times i (i ∷ is) = ap (times i) box in
+    let c : times i (i ∷ is) ≡ 1 + times i is = ap (λ (c : Bool). (if c then 1 else 0) + times i is) (id_eq-same i) in
+    omega (arith, a, c)
+
+told_of : (o : Option Told) → is_some o ≡ true → (t : Told) × (o ≡ Some t)
+told_of None e = cc
+told_of (Some t) e = (t, refl)
+
+-- it is in the bag
+pub front : (b : Boot) (m : ℕ) (o : Point) (i : MsgId) (is : List MsgId) (x : PlainMessage) → o.view.inbox m ≡ i ∷ is → o.kernel.bag i ≡ Some x → Run b o → Front b m o i x
+front b m o i is x box there h =
+    let first = stands_first o.view m i is box in
+    let kept = stands_right o i h.based.phased.state (Some x) there in
+    let (t, told) = told_of (o.view.told i) (h.found.told i (Inbox m) first) in
+    record {
+      rest = is;
+      box = box;
+      there = there;
+      told = t;
+      told_is = told;
+      first = first;
+      unqueued = λ n p. StandsAsBag-elsewhere (Some x) (standing o.view i) (Inbox m) (Queue n p) first (queue_apart m n p) kept;
+      drops = λ q. queue_drops b m o q h.based;
+      run = h;
+    }
+
+-- or it is a kernel's own
+own_by : (c : Bool) (f : Spot → ℕ) (z : Spot) → 1 ≤ f z → StandsOutside c f → c ≡ true
+own_by true f z least h = refl
+own_by false f z least h = absurd (let e : f z ≡ 0 = h z in omega (arith, least, e))
+
+pub front_own : (b : Boot) (m : ℕ) (o : Point) (i : MsgId) (is : List MsgId) → o.view.inbox m ≡ i ∷ is → o.kernel.bag i ≡ None → Run b o → OwnTold o → FrontOwn b m o i
+front_own b m o i is box none h own =
+    let first = stands_first o.view m i is box in
+    let (t, told) = told_of (o.view.told i) (h.found.told i (Inbox m) first) in
+    record { told = t; told_is = told; mine = own_by (is_kernels i) (standing o.view i) (Inbox m) first (stands_right o i h.based.phased.state None none); first = first; run = h; own = own }
+
+can_front : (b : Boot) (m : ℕ) (o : Point) (i : MsgId) (is : List MsgId) (x : Option PlainMessage) → o.kernel.bag i ≡ x → o.view.inbox m ≡ i ∷ is → Run b o → OwnTold o → CanTurn m o (rule.comes_to b o m i (o.kernel.bag i))
+can_front b m o i is (Some x) there box h own = can_handle b m o i x (front b m o i is x box there h) own
+can_front b m o i is None none box h own = can_hear b m o i is box (front_own b m o i is box none h own) none
+
+can_turn_by : (b : Boot) (m : ℕ) (o : Point) (box : List MsgId) → o.view.inbox m ≡ box → Run b o → OwnTold o → CanTurn m o (rule.turns b o m box)
+can_turn_by b m o [] is h own = can_turn (Calm m o) b m o (begun o m) refl (λ q. refl) (λ q. queue_drops b m o q h.based) (λ c. c.ring) refl (begun_sane o m h.based.phased.sane)
+can_turn_by b m o (i ∷ is) box h own = can_front b m o i is (o.kernel.bag i) refl box h own
+
+-- a process is to move
+child_plain : (v : View) (a : Addresses) (p : Pid) (n : Option ℕ) → ArePlain v (migrates_child a p n)
+child_plain v a p None = (refl, tt)
+child_plain v a p (Some n) = (tt, tt)
+
+migrates_if : (v : View) (p : Pid) (c d : Bool) (ps : List Part) → ArePlain v ps → ArePlain v (if c then Says (line.Pinned p) ∷ [] else if d then Says (line.Pinned p) ∷ [] else ps)
+migrates_if v p true d ps h = (refl, tt)
+migrates_if v p false true ps h = (refl, tt)
+migrates_if v p false false ps h = h
+
+migrates_plain : (v : View) (pt : Point) (p : Pid) → ArePlain v (migrates pt p)
+migrates_plain v pt p = migrates_if v p (pid_eq p switchboard) (pid_eq p manager) (migrates_child pt.addresses p (child_number pt.kernel p)) (child_plain v pt.addresses p (child_number pt.kernel p))
+
+-- the manager's children are processes
+child_made : (s : OneKernel) (n k : ℕ) (p : Pid) (qs : List Pid) → child_from n p qs ≡ Some k → Each (λ (q : Pid). has_bytes 0 (s.processes q) ≡ true) qs → has_bytes 0 (s.processes p) ≡ true
+child_made s n k p [] e h = cc
+child_made s n k p (q ∷ qs) e h = elim (cases_Bool (pid_eq p q)) [
+  | inl same ↦ ap (λ (r : Pid). has_bytes 0 (s.processes r)) (pid_eq-is p q same) ∙ h.0
+  | inr off ↦ child_made s (n + 1) k p qs (sym (ap (λ (c : Bool). if c then Some n else child_from (n + 1) p qs) off) ∙ e) h.1
+]
+
+some_life : (o : Option Life) → has_bytes 0 o ≡ true → is_some o ≡ true
+some_life None e = cc
+some_life (Some x) e = refl
+
+child_num : (b : Boot) (pt : Point) (p : Pid) (n : ℕ) → child_number pt.kernel p ≡ Some n → Run b pt → (p.num == 0) ≡ false
+child_num b pt p n is h =
+    let there = some_life (pt.kernel.processes p) (child_made pt.kernel 1 n p pt.kernel.manager.children is h.based.fits.children) in
+    let k = h.based.phased.sane.sound.made.least p there in
+    grind (arith, nat_tests)
+
+target_sort : (p : Pid) (m : ℕ) → is_fixed p ≡ false → own_sort kind.Migrate p (Target m) ≡ true
+target_sort p m e = ap (λ (c : Bool). not c && true) e
+
+child_own : (b : Boot) (pt : Point) (p : Pid) (m : ℕ) (n : Option ℕ) → child_number pt.kernel p ≡ n → is_server p ≡ false → Run b pt → OwnsFit (moved pt (line.Head (directive.Migrate p m)) pt.kernel).view (migrates_child pt.addresses p n)
+child_own b pt p m None is server h = NoOwns (tt, tt)
+child_own b pt p m (Some n) is server h = FirstOwns (target_sort p m (ap (λ (c : Bool). c || is_server p) (child_num b pt p n is h) ∙ server), tt)
+
+migrates_by : (b : Boot) (pt : Point) (p : Pid) (m : ℕ) (c d : Bool) → pid_eq p switchboard ≡ c → pid_eq p manager ≡ d → Run b pt
+    → OwnsFit (moved pt (line.Head (directive.Migrate p m)) pt.kernel).view (if c then Says (line.Pinned p) ∷ [] else if d then Says (line.Pinned p) ∷ [] else migrates_child pt.addresses p (child_number pt.kernel p))
+migrates_by b pt p m true d one two h = NoOwns (tt, tt)
+migrates_by b pt p m false true one two h = NoOwns (tt, tt)
+migrates_by b pt p m false false one two h = child_own b pt p m (child_number pt.kernel p) refl (ap (λ (c : Bool). c || pid_eq p manager) one ∙ two) h
+
+-- what a group asks for to keep the order of messages
+abbrev pub CalmFor : Point → Step → Type 0
+CalmFor pt (directive.Turn m) = Calm m pt
+CalmFor pt (directive.Tick m) = ⊤
+CalmFor pt (directive.Deliver a c k) = ⊤
+CalmFor pt (directive.Migrate p m) = ⊥
+
+-- a group, whether it receives, and its kernels' own messages
+pub record Group (b : Boot) (pt : Point) (d : Step) : Type 0 where
+  pub goes : Goes (CalmFor pt d) b pt d
+  pub shape : Shape (view.actor d) (moved pt (line.Head d) pt.kernel) goes.parts
+  pub owns : OwnsFit (moved pt (line.Head d) pt.kernel).view goes.parts
+
+group_by : (b : Boot) (pt : Point) (d : Step) → Can (CalmFor pt d) (view.actor d) (moved pt (line.Head d) pt.kernel) (rule.outcome b pt d) → Group b pt d
+group_by b pt d c = record { goes = goes (CalmFor pt d) b pt d c.ps c.is c.does; shape = c.shape; owns = c.owns }
+
+pub group_on : (b : Boot) (pt : Point) (d : Step) → Run b pt → OwnTold pt → Group b pt d
+group_on b pt (directive.Turn m) h own = group_by b pt (directive.Turn m) (can_turn_by b m pt (pt.view.inbox m) refl h own)
+group_on b pt (directive.Tick m) h own =
+    let q = moved pt (line.Head (directive.Tick m)) pt.kernel in
+    let ps = Says (line.Resent m (rule.outstanding pt.view m pt.kernel.machines)) ∷ rule.resends pt.view m pt.kernel.machines in
+    group_by b pt (directive.Tick m) (can_net ⊤ m q ps (tt, resends_net pt.view m pt.kernel.machines))
+group_on b pt (directive.Deliver a c k) h own =
+    let q = moved pt (line.Head (directive.Deliver a c k)) pt.kernel in
+    let there = slice_get (pt.view.pair a c).wire k in
+    group_by b pt (directive.Deliver a c k) (can_net ⊤ c q (rule.arrives a c (pt.view.pair a c) (pt.view.pair c a) there) (arrives_net a c (pt.view.pair a c) (pt.view.pair c a) there))
+group_on b pt (directive.Migrate p m) h own =
+    let q = moved pt (line.Head (directive.Migrate p m)) pt.kernel in
+    group_by b pt (directive.Migrate p m) (can_plain ⊥ 0 q (migrates pt p) (λ c. c) (migrates_plain q.view pt p) (migrates_by b pt p m (pid_eq p switchboard) (pid_eq p manager) refl refl h))
+
+-- each directive has its group
+pub goes_on : (b : Boot) (pt : Point) (e : Step) → IsValid b → Run b pt → OwnTold pt → IsStep pt.kernel.machines e → (w : Spelled) × (group_of b pt e ≡ Some w)
+goes_on b pt e valid h own fit = let g = (group_on b pt e h own).goes in (g.w, g.is)

@@ -1,0 +1,172 @@
+-- The message at the front of the inbox: what it is for whom.
+use Rattle.std.proofs.Common.{◌≡◌, ℕ, ◌+◌, ◌≤◌, ◌==◌, ◌||◌, Bool, true, false, List, ◌∷◌, length, refl, ap, ◌∙◌, sym, subst, is_some, arith}
+use Rattle.std.specs.declared.option.Option.{Option}
+use Rattle.std.specs.declared.option.Option.TheVariants.{None, Some}
+use Rattle.std.proofs.lemmas.Bool.Decides.{nat_tests}
+use Rattle.dm_link.specs.declared.Pid.{Pid}
+use Rattle.dm_link.specs.Names.{pid_eq}
+use Rattle.dm_message.specs.declared.MsgId.{MsgId}
+use Rattle.dm_message.specs.Ids.{id_eq}
+use Rattle.dm_message.specs.Kinds.{plain_kind}
+use Rattle.dm_message.specs.Plain as what
+use Rattle.dm_message.specs.Plain.{PlainMessage, PlainWhat}
+use Rattle.dm_onekernel.specs.declared.boot.Boot.{Boot}
+use Rattle.dm_onekernel.specs.Boot.{switchboard, manager}
+use Rattle.dm_onekernel.specs.Kernel.{Life, OneKernel, with_sent}
+use Rattle.dm_onekernel.specs.Pieces.{answer_id, answer_to}
+use Rattle.dm_laws.proofs.Entered.{Made}
+use Rattle.dm_laws.proofs.Equal.{id_eq-same, pid_eq-same}
+use Rattle.dm_laws.proofs.Movers.{sent_at}
+use Rattle.dm_schedule.specs.declared.Step.TheVariants as directive
+use Rattle.dm_line.specs.declared.line.Line.TheVariants as line
+use Rattle.dm_rule.specs.Point.{Point, moved}
+use Rattle.dm_rule.specs.Rule as rule
+use Rattle.dm_rule.specs.Spots.{Inbox, times, standing}
+use Rattle.dm_rule.specs.View.{View, Told}
+use Rattle.dm_rule.specs.View as view
+use Rattle.dm_rule.proofs.Telling.{Sane}
+use Rattle.dm_rulelaws.specs.Fits.{has_bytes, is_server, awaits, WhatFits}
+use Rattle.dm_rulelaws.specs.Found.{is_fixed}
+use Rattle.dm_rulelaws.proofs.Runs.{Run}
+use Rattle.dm_rulelaws.proofs.Goes.Parts.{Does, does_nothing, does_route, sane_by, Can}
+use Rattle.dm_rule.specs.Homes.{are_home}
+use Rattle.dm_rule.specs.Parts.{Part}
+use Rattle.dm_rule.proofs.Homes.Labels.{is_still}
+use Rattle.dm_rulelaws.proofs.Order.Moves.{Last}
+use Rattle.dm_rulelaws.proofs.Goes.Turns.{Droppable}
+
+-- behind the head of a turn
+abbrev pub begun : Point → ℕ → Point
+begun o m = moved o (line.Head (directive.Turn m)) o.kernel
+
+-- nothing has moved: on this machine nothing moves now, what it has is at home here, and no message is a kernel's own
+pub record Calm (m : ℕ) (o : Point) : Type 0 where
+  pub known : (p : Pid) → is_still (o.view.known m p) ≡ true
+  pub ring : are_home m (o.view.ring m) ≡ true
+  pub front : (i : MsgId) (is : List MsgId) (x : PlainMessage) → o.view.inbox m ≡ i ∷ is → o.kernel.bag i ≡ Some x → x.to.home ≡ m
+  pub none : (i : MsgId) (is : List MsgId) → o.view.inbox m ≡ i ∷ is → o.kernel.bag i ≡ None → ⊥
+
+-- a turn in a run where nothing moves
+abbrev pub CanTurn : ℕ → Point → Option (List Part) → Type 0
+CanTurn m o ps = Can (Calm m o) m (begun o m) ps
+
+pub begun_sane : (o : Point) (m : ℕ) → Sane o → Sane (begun o m)
+begun_sane o m s = sane_by o (line.Head (directive.Turn m)) o.kernel refl refl s
+
+pub record Front (b : Boot) (m : ℕ) (o : Point) (i : MsgId) (x : PlainMessage) : Type 0 where
+  pub rest : List MsgId
+  pub box : o.view.inbox m ≡ i ∷ rest
+  pub there : o.kernel.bag i ≡ Some x
+  pub told : Told
+  pub told_is : o.view.told i ≡ Some told
+  pub first : 1 ≤ standing o.view i (Inbox m)
+  pub unqueued : (n : ℕ) (p : Pid) → times i (o.view.queue n p) ≡ 0
+  pub drops : (q : Pid) → Droppable o.kernel q (o.view.queue m q)
+  pub run : Run b o
+
+pub sane_of : (b : Boot) (m : ℕ) (o : Point) (i : MsgId) (x : PlainMessage) → Front b m o i x → Sane o
+sane_of b m o i x f = f.run.based.phased.sane
+
+pub made_of : (b : Boot) (m : ℕ) (o : Point) (i : MsgId) (x : PlainMessage) → Front b m o i x → Made o.kernel
+made_of b m o i x f = f.run.based.phased.sane.sound.made
+
+pub name_of : (b : Boot) (m : ℕ) (o : Point) (i : MsgId) (x : PlainMessage) → Front b m o i x → x.id ≡ i
+name_of b m o i x f = f.run.based.phased.sane.sound.entered.named i x f.there
+
+pub fits_of : (b : Boot) (m : ℕ) (o : Point) (i : MsgId) (x : PlainMessage) (w : PlainWhat) → x.what ≡ w → Front b m o i x → WhatFits o.kernel i x w
+fits_of b m o i x w is f = subst (WhatFits o.kernel i x) is (f.run.based.fits.messages i x f.there)
+
+-- what was told of it
+pub told_kind : (b : Boot) (m : ℕ) (o : Point) (i : MsgId) (x : PlainMessage) (f : Front b m o i x) → f.told.kind ≡ plain_kind x.what
+told_kind b m o i x f = (sane_of b m o i x f).tells.kind i x f.told f.there f.told_is
+
+pub told_receiver : (b : Boot) (m : ℕ) (o : Point) (i : MsgId) (x : PlainMessage) (f : Front b m o i x) → f.told.receiver ≡ x.to
+told_receiver b m o i x f = (sane_of b m o i x f).tells.receiver i x f.told f.there f.told_is
+
+-- a kernel or a server is at home here
+pub home_of : (b : Boot) (m : ℕ) (o : Point) (i : MsgId) (x : PlainMessage) → is_fixed x.to ≡ true → Front b m o i x → x.to.home ≡ m
+home_of b m o i x fixed f =
+    let to = told_receiver b m o i x f in
+    sym (ap (λ (q : Pid). q.home) to) ∙ sym (f.run.found.fixed i (Inbox m) f.told f.first f.told_is (ap is_fixed to ∙ fixed))
+
+-- what the view does with a served message of this kind
+pub served_is : (b : Boot) (m : ℕ) (o : Point) (i : MsgId) (x : PlainMessage) (v : View) (w : PlainWhat) → x.what ≡ w → Front b m o i x → view.served_told v (o.view.told i) ≡ view.kills (plain_kind w) v (Some x.to)
+served_is b m o i x v w is f =
+    ap (view.served_told v) f.told_is ∙ ap (λ c. view.kills c v (Some f.told.receiver)) (told_kind b m o i x f ∙ ap plain_kind is) ∙ ap (λ p. view.kills (plain_kind w) v (Some p)) (told_receiver b m o i x f)
+
+-- processes are numbered from 3
+some_of : (n : ℕ) (l : Option Life) → has_bytes n l ≡ true → is_some l ≡ true
+some_of n None e = cc
+some_of n (Some x) e = refl
+
+awaits_some : (l : Option Life) (n : ℕ) (w : PlainWhat) → awaits l n w ≡ true → is_some l ≡ true
+awaits_some None n w e = cc
+awaits_some (Some x) n w e = refl
+
+record IsProcess (s : OneKernel) (p : Pid) : Type 0 where
+  number : (p.num == 0) ≡ false
+  board : pid_eq p switchboard ≡ false
+  manager_ : pid_eq p manager ≡ false
+
+made_is : (s : OneKernel) (p : Pid) → is_some (s.processes p) ≡ true → Made s → IsProcess s p
+made_is s p there h =
+    let k = h.least p there in
+    record { number = grind (arith, nat_tests); board = grind (arith, nat_tests); manager_ = grind (arith, nat_tests) }
+
+-- what a message of this kind is for, if it isn't for a process that was made
+abbrev pub ForOthers : PlainMessage → PlainWhat → Type 0
+ForOthers x (what.User code channel body links) = is_server x.to ≡ true
+ForOthers x (what.Create image links) = x.to.num ≡ 0
+ForOthers x (what.Created child) = x.to ≡ manager
+ForOthers x what.NoRoom = x.to ≡ manager
+ForOthers x w = ⊥
+
+pub data ForWhom (s : OneKernel) (x : PlainMessage) (w : PlainWhat) : Type 0 where
+  ForProcess : (made : is_some (s.processes x.to) ≡ true) → ForWhom s x w
+  ForOther : (other : ForOthers x w) → ForWhom s x w
+
+user_for : (s : OneKernel) (x : PlainMessage) (w : PlainWhat) (c : Bool) → is_server x.to ≡ c → (c || has_bytes 0 (s.processes x.to)) ≡ true → (is_server x.to ≡ true → ForOthers x w) → ForWhom s x w
+user_for s x w true e h f = ForOther (f e)
+user_for s x w false e h f = ForProcess (some_of 0 (s.processes x.to) h)
+
+pub for_whom : (s : OneKernel) (i : MsgId) (x : PlainMessage) (w : PlainWhat) → WhatFits s i x w → ForWhom s x w
+for_whom s i x (what.User code channel body links) h = user_for s x (what.User code channel body links) (is_server x.to) refl h.0 (λ e. e)
+for_whom s i x what.Stop h = ForProcess (some_of 0 (s.processes x.to) h)
+for_whom s i x what.Resume h = ForProcess (some_of 0 (s.processes x.to) h)
+for_whom s i x what.Kill h = ForProcess (some_of 0 (s.processes x.to) h)
+for_whom s i x (what.Read base len) h = ForProcess (some_of (base + len) (s.processes x.to) h.0)
+for_whom s i x (what.Write base bytes) h = ForProcess (some_of (base + length bytes) (s.processes x.to) h.0)
+for_whom s i x (what.Block bytes) h = ForProcess (ap (λ p. is_some (s.processes p)) h.0 ∙ awaits_some (s.processes i.from) i.n (what.Block bytes) h.1)
+for_whom s i x what.Written h = ForProcess (ap (λ p. is_some (s.processes p)) h.0 ∙ awaits_some (s.processes i.from) i.n what.Written h.1)
+for_whom s i x what.Gone h = ForProcess (ap (λ p. is_some (s.processes p)) h.0 ∙ awaits_some (s.processes i.from) i.n what.Gone h.1)
+for_whom s i x (what.Create image links) h = let (num, rest, numbered, sender, request, is, fits) = h in ForOther num
+for_whom s i x (what.Created child) h = let (to, answer, is, made) = h in ForOther to
+for_whom s i x what.NoRoom h = let (to, answer, is) = h in ForOther to
+for_whom s i x (what.Move a) h = absurd h
+for_whom s i x (what.Moved a) h = absurd h
+
+-- a message for a kernel, for the switchboard, for the manager
+pub process_not_kernel : (s : OneKernel) (p : Pid) → is_some (s.processes p) ≡ true → (p.num == 0) ≡ true → Made s → false ≡ true
+process_not_kernel s p there e h = sym (made_is s p there h).number ∙ e
+
+pub process_not_board : (s : OneKernel) (p : Pid) → is_some (s.processes p) ≡ true → pid_eq p switchboard ≡ true → Made s → false ≡ true
+process_not_board s p there e h = sym (made_is s p there h).board ∙ e
+
+pub process_not_manager : (s : OneKernel) (p : Pid) → is_some (s.processes p) ≡ true → pid_eq p manager ≡ true → Made s → false ≡ true
+process_not_manager s p there e h = sym (made_is s p there h).manager_ ∙ e
+
+pub is_manager : (p : Pid) → p ≡ manager → pid_eq p manager ≡ true
+is_manager p e = ap (λ q. pid_eq q manager) e ∙ pid_eq-same manager
+
+-- an answer stands in the bag under its request's name
+pub answer_there : (u : OneKernel) (i : MsgId) (x : PlainMessage) (w : PlainWhat) → x.id ≡ i → (with_sent u (Some (answer_to x w))).bag (answer_id i) ≡ Some (answer_to x w)
+answer_there u i x w name = sent_at u (answer_to x w) (answer_id i) (ap (λ (j : MsgId). id_eq (answer_id j) (answer_id i)) name ∙ id_eq-same (answer_id i))
+
+-- a server's message, if there is one
+pub does_routes : (C : Type 0) (pt : Point) (k : Option PlainMessage) → ((x : PlainMessage) → k ≡ Some x → pt.kernel.bag x.id ≡ Some x) → ((x : PlainMessage) → k ≡ Some x → C → Sane pt → Last pt.kernel pt.view x.id) → Does C pt (rule.routes k)
+does_routes C pt None there last = does_nothing C pt
+does_routes C pt (Some x) there last = does_route C pt x.id x (there x refl) (λ c s user. last x refl c s)
+
+pub sent_there : (u : OneKernel) (k : Option PlainMessage) (x : PlainMessage) → k ≡ Some x → (with_sent u k).bag x.id ≡ Some x
+sent_there u None x e = cc
+sent_there u (Some y) x e = let f : y ≡ x = cc in subst (λ (z : PlainMessage). (with_sent u (Some y)).bag z.id ≡ Some z) f (sent_at u y y.id (id_eq-same y.id))

@@ -1,0 +1,129 @@
+-- What is queued for a process can go with it.
+use Rattle.std.proofs.Common.{◌≡◌, ℕ, ◌+◌, ◌≤◌, Bool, true, false, List, [], ◌∷◌, refl, ap, ◌∙◌, sym, subst, arith}
+use Rattle.std.specs.Prelude.{⊤, if◌then◌else◌}
+use Rattle.std.specs.declared.option.Option.{Option}
+use Rattle.std.specs.declared.option.Option.TheVariants.{None, Some}
+use Rattle.dm_link.specs.declared.Pid.{Pid}
+use Rattle.dm_message.specs.declared.MsgId.{MsgId}
+use Rattle.dm_message.specs.Ids.{id_eq}
+use Rattle.dm_message.specs.Plain as what
+use Rattle.dm_message.specs.Plain.{PlainMessage, PlainWhat}
+use Rattle.dm_onekernel.specs.declared.boot.Boot.{Boot}
+use Rattle.dm_onekernel.specs.declared.label.Label.TheVariants as label
+use Rattle.dm_onekernel.specs.declared.label.Why.{Why}
+use Rattle.dm_onekernel.specs.Options.{bind, when}
+use Rattle.dm_onekernel.specs.Kernel.{Life, Ended, OneKernel}
+use Rattle.dm_onekernel.specs.Service.{without_message, is_dropped}
+use Rattle.dm_onekernel.specs.Step as kernel
+use Rattle.dm_laws.proofs.Equal.{id_eq-is, id_eq-same}
+use Rattle.dm_laws.proofs.Movers.{out_off}
+use Rattle.dm_line.specs.declared.line.Line.TheVariants as line
+use Rattle.dm_rule.specs.Point.{Point, moved}
+use Rattle.dm_rule.specs.Rule as rule
+use Rattle.dm_rule.specs.Spots.{Spot, Queue, times, standing, StandsNowhere, StandsOutside, StandsRight}
+use Rattle.dm_rule.specs.View.{is_kernels}
+use Rattle.dm_rule.proofs.Groups.{stands_right}
+use Rattle.dm_rule.proofs.Letters.{kernels_fresh}
+use Rattle.dm_rule.proofs.Lines.{not_true}
+use Rattle.dm_rule.proofs.Standing.{StandsAsBag-one}
+use Rattle.dm_rulelaws.proofs.Queued.{is_user, IsQueued}
+use Rattle.dm_rulelaws.proofs.Runs.{Based}
+use Rattle.dm_rulelaws.proofs.Goes.Parts.{said, no_receive, Does, does_nothing, does_label}
+use Rattle.dm_rulelaws.proofs.Own.Fits.{HaveNoOwn}
+
+-- a user message of the bag for a process
+pub record IsFor (s : OneKernel) (p : Pid) (i : MsgId) : Type 0 where
+  pub x : PlainMessage
+  pub there : s.bag i ≡ Some x
+  pub to : x.to ≡ p
+  pub user : is_user x.what ≡ true
+
+-- each of these is one, and stands once among them
+abbrev pub Droppable : OneKernel → Pid → List MsgId → Type 0
+Droppable s p [] = ⊤
+Droppable s p (i ∷ is) = IsFor s p i × (times i is ≡ 0) × Droppable s p is
+
+pub times_self : (i : MsgId) (is : List MsgId) → 1 ≤ times i (i ∷ is)
+times_self i is = let e : times i (i ∷ is) ≡ 1 + times i is = ap (λ (c : Bool). (if c then 1 else 0) + times i is) (id_eq-same i) in omega (arith, e)
+
+pub times_more : (i j : MsgId) (is : List MsgId) → times i is ≤ times i (j ∷ is)
+times_more i j is = omega arith
+
+pub droppable_on : (s t : OneKernel) (p : Pid) (ids : List MsgId) → ((i : MsgId) → 1 ≤ times i ids → t.bag i ≡ s.bag i) → Droppable s p ids → Droppable t p ids
+droppable_on s t p [] same h = tt
+droppable_on s t p (i ∷ is) same h = (
+  record { x = h.0.x; there = same i (times_self i is) ∙ h.0.there; to = h.0.to; user = h.0.user },
+  h.1,
+  droppable_on s t p is (λ j least. same j (let m = times_more j i is in omega (arith, least, m))) h.2,
+)
+
+pub droppable_of : (s : OneKernel) (p : Pid) (ids : List MsgId) → ((i : MsgId) → 1 ≤ times i ids → IsFor s p i × (times i ids ≤ 1)) → Droppable s p ids
+droppable_of s p [] h = tt
+droppable_of s p (j ∷ js) h = (
+  (h j (times_self j js)).0,
+  (let k = (h j (times_self j js)).1 in let e : times j (j ∷ js) ≡ 1 + times j js = ap (λ (c : Bool). (if c then 1 else 0) + times j js) (id_eq-same j) in omega (arith, k, e)),
+  droppable_of s p js (λ i least. let m = times_more i j js in let k = h i (omega (arith, least, m)) in let few = k.1 in (k.0, omega (arith, few, m))),
+)
+
+-- what stands in a queue is in the bag
+right_there : (i : MsgId) (o : Option PlainMessage) (f : Spot → ℕ) (z : Spot) → 1 ≤ f z → is_kernels i ≡ false → StandsRight i o f → (x : PlainMessage) × (o ≡ Some x) × (f z ≡ 1)
+right_there i None f z least off h = absurd (let k : StandsNowhere f = subst (λ (c : Bool). StandsOutside c f) off h in let e : f z ≡ 0 = k z in omega (arith, least, e))
+right_there i (Some x) f z least off h = (x, refl, StandsAsBag-one (Some x) f z least h)
+
+for_is : (s : OneKernel) (p : Pid) (i : MsgId) (n : ℕ) (x : PlainMessage) → s.bag i ≡ Some x → IsQueued n p (s.bag i) → IsFor s p i
+for_is s p i n x there q = let k = q.is x there in record { x = x; there = there; to = k.0; user = k.1 }
+
+-- what is queued for a process can go with it
+pub queue_drops : (b : Boot) (m : ℕ) (pt : Point) (p : Pid) → Based b pt → Droppable pt.kernel p (pt.view.queue m p)
+queue_drops b m pt p h = droppable_of pt.kernel p (pt.view.queue m p) (λ i least.
+    let q = h.queued m p i least in
+    let entered = q.entered in
+    let state = h.phased.state in
+    let off : is_kernels i ≡ false = not_true (is_kernels i) (λ e. let z = kernels_fresh state.r state.e pt.kernel i state.sound e in omega (arith, entered, z)) in
+    let (x, there, one) = right_there i (pt.kernel.bag i) (standing pt.view i) (Queue m p) least off (stands_right pt i state (pt.kernel.bag i) refl) in
+    (for_is pt.kernel p i (state.e i) x there q, (omega (arith, one))))
+
+user_dropped : (w : PlainWhat) → is_user w ≡ true → is_dropped w ≡ true
+user_dropped (what.User code channel body links) e = refl
+user_dropped what.Stop e = cc
+user_dropped what.Resume e = cc
+user_dropped what.Kill e = cc
+user_dropped (what.Read z1 z2) e = cc
+user_dropped (what.Write z1 z2) e = cc
+user_dropped (what.Block z1) e = cc
+user_dropped what.Written e = cc
+user_dropped what.Gone e = cc
+user_dropped (what.Create z1 z2) e = cc
+user_dropped (what.Created z1) e = cc
+user_dropped what.NoRoom e = cc
+user_dropped (what.Move z1) e = cc
+user_dropped (what.Moved z1) e = cc
+
+pub dropped_is : (s : OneKernel) (i : MsgId) (x : PlainMessage) (y : Why) → s.bag i ≡ Some x → s.processes x.to ≡ Some (Ended y) → is_dropped x.what ≡ true → kernel.step s (label.Dropped i) ≡ Some (without_message s i)
+dropped_is s i x y there ended drops =
+    ap (λ (o : Option PlainMessage). bind o (λ (m : PlainMessage). bind (kernel.ended (s.processes m.to)) (kernel.drops s i m))) there
+    ∙ ap (λ (o : Option Life). bind (kernel.ended o) (kernel.drops s i x)) ended
+    ∙ ap (λ (c : Bool). when c (without_message s i)) drops
+
+pub does_drops : (C : Type 0) (p : Pid) (y : Why) (ids : List MsgId) (pt : Point) → pt.kernel.processes p ≡ Some (Ended y) → Droppable pt.kernel p ids → Does C pt (rule.drops ids)
+does_drops C p y [] pt ended h = does_nothing C pt
+does_drops C p y (i ∷ is) pt ended h =
+    let s = pt.kernel in
+    let x = h.0.x in
+    let step = dropped_is s i x y h.0.there (ap s.processes h.0.to ∙ ended) (user_dropped x.what h.0.user) in
+    does_label C pt (label.Dropped i) (without_message s i) (rule.drops is) step
+    (does_drops C p y is (moved pt (line.Label (label.Dropped i)) (without_message s i)) ended
+    (droppable_on s (without_message s i) p is (λ j least. out_off s i j (apart j least (id_eq i j) refl)) h.2))
+  where
+    apart : (j : MsgId) → 1 ≤ times j is → (c : Bool) → id_eq i j ≡ c → id_eq i j ≡ false
+    apart j least false e = e
+    apart j least true e = absurd (let k : times j is ≡ 0 = sym (ap (λ v. times v is) (id_eq-is i j e)) ∙ h.1 in omega (arith, least, k))
+
+-- none of it is received, or a kernel's own
+pub drops_quiet : (ids : List MsgId) → no_receive (said (rule.drops ids)) ≡ true
+drops_quiet [] = refl
+drops_quiet (i ∷ is) = drops_quiet is
+
+pub drops_own : (ids : List MsgId) → HaveNoOwn (rule.drops ids)
+drops_own [] = tt
+drops_own (i ∷ is) = (tt, drops_own is)

@@ -1,0 +1,181 @@
+-- A route, a delivery and a queue keep the order in which messages were sent.
+use Rattle.std.proofs.Common.{◌≡◌, ℕ, zero, suc, ◌+◌, ◌==◌, Bool, true, false, List, [], ◌∷◌, ◌++◌, drop, refl, ap, ◌∙◌, sym, subst, is_some, inl, inr, arith}
+use Rattle.std.specs.Prelude.{if◌then◌else◌}
+use Rattle.std.specs.declared.option.Option.TheVariants.{Some}
+use Rattle.std.proofs.lemmas.Bool.{cases_Bool}
+use Rattle.std.proofs.lemmas.Bool.Decides.{nat_tests}
+use Rattle.dm_link.specs.declared.Pid.{Pid}
+use Rattle.dm_message.specs.declared.MsgId.{MsgId}
+use Rattle.dm_message.specs.declared.kind.MessageKind.{MessageKind}
+use Rattle.dm_message.specs.Ids.{id_eq, id_of}
+use Rattle.dm_message.specs.Plain.{PlainMessage}
+use Rattle.dm_onekernel.specs.Kernel.{OneKernel}
+use Rattle.dm_laws.proofs.Entered.{counts}
+use Rattle.dm_laws.proofs.Equal.{id_eq-same}
+use Rattle.dm_line.specs.Sets.{at_machine, at_pair, at_id}
+use Rattle.dm_rule.specs.Spots.{untaken}
+use Rattle.dm_rule.specs.View.{View, Pair, Told, after_label, after_put, after_taken, handled}
+use Rattle.dm_rule.specs.View as view
+use Rattle.dm_rulelaws.specs.Fits.{Each}
+use Rattle.dm_rulelaws.proofs.Queued.{is_user}
+use Rattle.dm_rulelaws.proofs.Order.Lists.{context, Each-both, thins_same, drop_end}
+use Rattle.std.proofs.Common.{◌⊎◌}
+use Rattle.dm_message.specs.Kinds.{plain_kind}
+use Rattle.dm_rule.proofs.Lines.{pair_keeps}
+use Rattle.dm_rulelaws.proofs.Order.Lines.{Which, is_one, is_told, awaiting, Sourced, AllTold, Ord, ThinFor, ord_view, thin_same, box_same, told_on}
+use Rattle.dm_rulelaws.proofs.Order.Moves.{append-assoc, append-none, Last, One, one_is, order_last, order_not, pair_at, pair_off, pair_on, pair_else, box_on, box_off, order_as}
+
+-- pairs whose messages stay
+pub thin_pair : (q : Which) (v : View) (a c : ℕ) (p : Pair) → untaken p ≡ untaken (v.pair a c) → ThinFor q v (view.with_pair v a c p)
+thin_pair q v a c p same = thin_same q v (view.with_pair v a c p) refl (box_same v q.to.home) (λ x. pair_keeps v.pair a c p same x q.to.home) (λ j. refl)
+
+-- routes
+told_put : (v : View) (j : MsgId) (t : Told) (i : MsgId) → is_told v i ≡ true → is_some (at_id v.told j (Some t) i) ≡ true
+told_put v j t i e = elim (cases_Bool (id_eq j i)) [
+  | inl same ↦ ap (λ (c : Bool). is_some (if c then Some t else v.told i)) same
+  | inr apart ↦ ap (λ (c : Bool). is_some (if c then Some t else v.told i)) apart ∙ e
+]
+
+told_now : (v : View) (j : MsgId) (t : Told) → is_some (at_id v.told j (Some t) j) ≡ true
+told_now v j t = ap (λ (c : Bool). is_some (if c then Some t else v.told j)) (id_eq-same j)
+
+abbrev after : View → ℕ → MsgId → MessageKind → Pid → View
+after v c j k p = after_put v v.acting c j k p
+
+abbrev new_told : View → MsgId → MessageKind → Pid → Told
+new_told v j k p = view.first_told (v.told j) (record { kind = k; receiver = p; about = v.topic })
+
+put_elsewhere : (q : Which) (v : View) (c : ℕ) (j : MsgId) (k : MessageKind) (p : Pid) → (c == q.to.home) ≡ false → ThinFor q v (after v c j k p)
+put_elsewhere q v c j k p off = record {
+  queue = thins_same (v.queue q.to.home q.to) (v.queue q.to.home q.to) refl;
+  inbox = thins_same ((after v c j k p).inbox q.to.home) (v.inbox q.to.home) (boxed (v.acting == c));
+  away = λ x. pair_off v.pair v.acting c x q.to.home (view.routed_on v.acting c (v.pair v.acting c) j) off;
+  told = λ i e. told_put v j (new_told v j k p) i e;
+}
+  where
+    boxed : (d : Bool) → (if d then at_machine v.inbox c (v.inbox c ++ j ∷ []) else v.inbox) q.to.home ≡ v.inbox q.to.home
+    boxed true = box_off v.inbox c q.to.home (v.inbox c ++ j ∷ []) off
+    boxed false = refl
+
+drop_put : (n : ℕ) (xs : List MsgId) (j : MsgId) → drop n xs ≡ [] → drop (suc n) (xs ++ j ∷ []) ≡ []
+drop_put zero [] j e = refl
+drop_put zero (x ∷ xs) j e = cc
+drop_put (suc n) [] j e = refl
+drop_put (suc n) (x ∷ xs) j e = drop_put n xs j e
+
+-- to itself
+put_home : (q : Which) (s : OneKernel) (v : View) (j : MsgId) (x : PlainMessage) (k : MessageKind) (p : Pid) → ((i : MsgId) (y : PlainMessage) → s.bag i ≡ Some y → counts s i ≡ true) → (is_one s q j ≡ true → Last s v j) → (v.acting == q.to.home) ≡ true → Ord q s v → Ord q s (after v q.to.home j k p)
+put_home q s v j x k p bagged last home h =
+    let m = q.to.home in
+    let a = v.acting in
+    let w = after v m j k p in
+    let am : a ≡ m = grind (arith, nat_tests) in
+    let g = is_one s q in
+    let Q = v.queue m q.to in
+    let I = v.inbox m in
+    let U = untaken (v.pair q.from.home m) in
+    let box : w.inbox m ≡ I ++ j ∷ [] = ap (λ (c : Bool). (if c then at_machine v.inbox m (v.inbox m ++ j ∷ []) else v.inbox) m) home ∙ box_on v.inbox m (I ++ j ∷ []) in
+    let none : untaken (v.pair a m) ≡ [] = ap (λ n. untaken (v.pair n m)) am ∙ h.loop in
+    let routed : untaken (view.routed_on a m (v.pair a m) j) ≡ [] =
+    ap (λ (c : Bool). drop (if c then (v.pair a m).taken + 1 else (v.pair a m).taken) ((v.pair a m).ids ++ j ∷ [])) home ∙ ap (λ n. drop n ((v.pair a m).ids ++ j ∷ [])) (let e : (v.pair a m).taken + 1 ≡ suc (v.pair a m).taken = omega arith in e) ∙ drop_put (v.pair a m).taken (v.pair a m).ids j none in
+    let away : (y : ℕ) → untaken (w.pair y m) ≡ untaken (v.pair y m) = pair_keeps_at a m (view.routed_on a m (v.pair a m) j) routed none in
+    let told : (i : MsgId) → is_told v i ≡ true → is_told w i ≡ true = (λ i e. told_put v j (new_told v j k p) i e) in
+    let list : awaiting q w ≡ Q ++ ((I ++ j ∷ []) ++ U) = ap (λ xs. Q ++ (xs ++ untaken (w.pair q.from.home m))) box ∙ ap (λ xs. Q ++ ((I ++ j ∷ []) ++ xs)) (away q.from.home) in
+    record {
+      order = order_as g q.floor (Q ++ ((I ++ j ∷ []) ++ U)) (awaiting q w) list (elim (cases_Bool (g j)) [
+        | inl mine ↦
+            let o = one_is s q j mine in
+            let l = last mine in
+            let from : q.from.home ≡ m = ap (λ (r : Pid). r.home) (sym o.from) ∙ l.home ∙ am in
+            let empty : U ≡ [] = ap (λ n. untaken (v.pair n m)) from ∙ h.loop in
+            order_as g q.floor (awaiting q v ++ j ∷ []) (Q ++ ((I ++ j ∷ []) ++ U))
+            (ap (λ xs. Q ++ ((I ++ j ∷ []) ++ xs)) empty ∙ ap (λ xs. Q ++ xs) (append-none (I ++ j ∷ [])) ∙ sym (append-assoc Q I (j ∷ [])) ∙ ap (λ xs. (Q ++ xs) ++ j ∷ []) (sym (append-none I)) ∙ ap (λ xs. (Q ++ (I ++ xs)) ++ j ∷ []) (sym empty))
+            (order_last q s v j bagged h mine l)
+        | inr other ↦
+            order_as g q.floor ((Q ++ I) ++ j ∷ U) (Q ++ ((I ++ j ∷ []) ++ U)) (ap (λ xs. Q ++ xs) (append-assoc I (j ∷ []) U) ∙ sym (append-assoc Q I (j ∷ U)))
+            (order_not g q.floor (Q ++ I) U j other (order_as g q.floor (awaiting q v) ((Q ++ I) ++ U) (append-assoc Q I U) h.order))
+      ]);
+      floor = h.floor;
+      last_told = λ n e. told (id_of q.from n) (h.last_told n e);
+      queue_told = told_on v w Q told h.queue_told;
+      inbox_told = subst (AllTold w) (sym box) (Each-both (λ (i : MsgId). is_told w i ≡ true) I (j ∷ []) (told_on v w I told h.inbox_told) (told_now v j (new_told v j k p), tt));
+      away_told = λ y. subst (AllTold w) (sym (away y)) (told_on v w (untaken (v.pair y m)) told (h.away_told y));
+      sourced = λ y. subst (Each (Sourced s y)) (sym (away y)) (h.sourced y);
+      loop = away m ∙ h.loop;
+    }
+  where
+    pair_keeps_at : (a m : ℕ) (p : Pair) → untaken p ≡ [] → untaken (v.pair a m) ≡ [] → (y : ℕ) → untaken (at_pair v.pair a m p y m) ≡ untaken (v.pair y m)
+    pair_keeps_at a m p e f y = pair_keeps v.pair a m p (e ∙ sym f) y m
+
+-- to another machine
+put_away : (q : Which) (s : OneKernel) (v : View) (j : MsgId) (x : PlainMessage) (k : MessageKind) (p : Pid) → s.bag j ≡ Some x → ((i : MsgId) (y : PlainMessage) → s.bag i ≡ Some y → counts s i ≡ true) → (is_user x.what ≡ true → Last s v j) → (v.acting == q.to.home) ≡ false
+    → Ord q s v → Ord q s (after v q.to.home j k p)
+put_away q s v j x k p there bagged last away h =
+    let m = q.to.home in
+    let a = v.acting in
+    let w = after v m j k p in
+    let g = is_one s q in
+    let Q = v.queue m q.to in
+    let I = v.inbox m in
+    let pr = view.routed_on a m (v.pair a m) j in
+    let old = untaken (v.pair a m) in
+    let box : w.inbox m ≡ I = ap (λ (c : Bool). (if c then at_machine v.inbox m (v.inbox m ++ j ∷ []) else v.inbox) m) away in
+    let now : untaken pr ≡ drop (v.pair a m).taken ((v.pair a m).ids ++ j ∷ []) = ap (λ (c : Bool). drop (if c then (v.pair a m).taken + 1 else (v.pair a m).taken) ((v.pair a m).ids ++ j ∷ [])) away in
+    let ends : (untaken pr ≡ old ++ j ∷ []) ⊎ (untaken pr ≡ []) = elim (drop_end (v.pair a m).taken (v.pair a m).ids j) [
+      | inl e ↦ inl (now ∙ e)
+      | inr e ↦ inr (now ∙ e)
+    ] in
+    let told : (i : MsgId) → is_told v i ≡ true → is_told w i ≡ true = (λ i e. told_put v j (new_told v j k p) i e) in
+    let source : Sourced s a j = (λ y e user. (let f : Some x ≡ Some y = sym there ∙ e in let xy : x ≡ y = cc in (last (ap (λ (z : PlainMessage). is_user z.what) xy ∙ user)).home)) in
+    record {
+      order = elim (cases_Bool (a == q.from.home)) [
+        | inr other ↦
+            order_as g q.floor (awaiting q v) (awaiting q w) (ap (λ xs. Q ++ (xs ++ untaken (w.pair q.from.home m))) box ∙ ap (λ xs. Q ++ (I ++ xs)) (pair_else v.pair a m q.from.home m pr other)) h.order
+        | inl same ↦
+            let is : a ≡ q.from.home = grind (arith, nat_tests) in
+            let list : awaiting q w ≡ Q ++ (I ++ untaken pr) = ap (λ xs. Q ++ (xs ++ untaken (w.pair q.from.home m))) box ∙ ap (λ n. Q ++ (I ++ untaken (w.pair n m))) (sym is) ∙ ap (λ xs. Q ++ (I ++ xs)) (pair_on v.pair a m pr) in
+            let was : awaiting q v ≡ Q ++ (I ++ old) = ap (λ n. Q ++ (I ++ untaken (v.pair n m))) (sym is) in
+            order_as g q.floor (Q ++ (I ++ untaken pr)) (awaiting q w) list (elim ends [
+              | inr none ↦
+                  order_as g q.floor (Q ++ (I ++ [])) (Q ++ (I ++ untaken pr)) (ap (λ xs. Q ++ (I ++ xs)) none)
+                  (context g q.floor Q (I ++ old) (I ++ []) (λ d e. context g d I old [] (λ d e. refl) e) (order_as g q.floor (awaiting q v) (Q ++ (I ++ old)) (sym was) h.order))
+              | inl more ↦
+                  order_as g q.floor (awaiting q v ++ j ∷ []) (Q ++ (I ++ untaken pr))
+                  (ap (λ xs. Q ++ (I ++ xs)) more ∙ ap (λ xs. Q ++ xs) (sym (append-assoc I old (j ∷ []))) ∙ sym (append-assoc Q (I ++ old) (j ∷ [])) ∙ ap (λ xs. xs ++ j ∷ []) (sym was))
+                  (elim (cases_Bool (g j)) [
+                    | inl mine ↦ order_last q s v j bagged h mine (last (user_of (one_is s q j mine)))
+                    | inr not_ ↦ order_not g q.floor (awaiting q v) [] j not_ (order_as g q.floor (awaiting q v) (awaiting q v ++ []) (append-none (awaiting q v)) h.order)
+                  ])
+            ])
+      ];
+      floor = h.floor;
+      last_told = λ n e. told (id_of q.from n) (h.last_told n e);
+      queue_told = told_on v w Q told h.queue_told;
+      inbox_told = subst (AllTold w) (sym box) (told_on v w I told h.inbox_told);
+      away_told = λ y. pair_at v.pair a m y m pr (AllTold w) (λ ay mm. elim ends [
+        | inl more ↦ subst (AllTold w) (sym more) (Each-both (λ (i : MsgId). is_told w i ≡ true) old (j ∷ []) (told_on v w old told (h.away_told a)) (told_now v j (new_told v j k p), tt))
+        | inr none ↦ subst (AllTold w) (sym none) tt
+      ]) (told_on v w (untaken (v.pair y m)) told (h.away_told y));
+      sourced = λ y. pair_at v.pair a m y m pr (Each (Sourced s y)) (λ ay mm. elim ends [
+        | inl more ↦ subst (Each (Sourced s y)) (sym more) (subst (λ n. Each (Sourced s n) (old ++ j ∷ [])) ay (Each-both (Sourced s a) old (j ∷ []) (h.sourced a) (source, tt)))
+        | inr none ↦ subst (Each (Sourced s y)) (sym none) tt
+      ]) (h.sourced y);
+      loop = pair_else v.pair a m m m pr away ∙ h.loop;
+    }
+  where
+    user_of : One s q j → is_user x.what ≡ true
+    user_of o = let f : Some o.x ≡ Some x = sym o.there ∙ there in let ox : o.x ≡ x = cc in sym (ap (λ (z : PlainMessage). is_user z.what) ox) ∙ o.user
+
+pub ord_put : (q : Which) (s : OneKernel) (v : View) (c : ℕ) (j : MsgId) (x : PlainMessage) → s.bag j ≡ Some x → ((i : MsgId) (y : PlainMessage) → s.bag i ≡ Some y → counts s i ≡ true) → (is_user x.what ≡ true → Last s v j) → Ord q s v → Ord q s (after_put v v.acting c j (plain_kind x.what) x.to)
+ord_put q s v c j x there bagged last h = elim (cases_Bool (c == q.to.home)) [
+  | inr off ↦ ord_view q s v (after v c j (plain_kind x.what) x.to) (put_elsewhere q v c j (plain_kind x.what) x.to off) h
+  | inl same ↦
+      let is : c ≡ q.to.home = grind (arith, nat_tests) in
+      subst (λ n. Ord q s (after v n j (plain_kind x.what) x.to)) (sym is) (elim (cases_Bool (v.acting == q.to.home)) [
+        | inl home ↦ put_home q s v j x (plain_kind x.what) x.to bagged (λ mine. last (user_of (one_is s q j mine))) home h
+        | inr away ↦ put_away q s v j x (plain_kind x.what) x.to there bagged last away h
+      ])
+]
+  where
+    user_of : One s q j → is_user x.what ≡ true
+    user_of o = let f : Some o.x ≡ Some x = sym o.there ∙ there in let ox : o.x ≡ x = cc in sym (ap (λ (z : PlainMessage). is_user z.what) ox) ∙ o.user

@@ -1,0 +1,5 @@
+-- Lemmas of the family Own, by file.
+pub mod Told
+pub mod Fits
+pub mod Senders
+pub mod Groups

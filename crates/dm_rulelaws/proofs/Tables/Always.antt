@@ -1,0 +1,117 @@
+-- Wherever the rule leads, each living process has as many link slots as the boot file's format gives.
+use Rattle.std.proofs.Common.{◌≡◌, ℕ, ◌≤◌, ◌==◌, ◌+◌, ◌&&◌, Bool, true, nat_le, nat_lt, List, [], ◌∷◌, ◌++◌, length, map, refl, ap, ◌∙◌, sym, subst, inl, inr, arith}
+use Rattle.std.specs.Prelude.{if◌then◌else◌, slice_get, option_map}
+use Rattle.std.specs.declared.option.Option.{Option}
+use Rattle.std.specs.declared.option.Option.TheVariants.{None, Some}
+use Rattle.std.proofs.lemmas.Bool.{cases_Bool}
+use Rattle.std.proofs.lemmas.Bool.Decides.{nat_tests}
+use Rattle.std.proofs.lemmas.List.{length-map}
+use Rattle.dm_link.specs.declared.Pid.{Pid}
+use Rattle.dm_link.specs.Names.{pid_eq}
+use Rattle.dm_link.specs.Plain.{plain_link}
+use Rattle.dm_onekernel.specs.declared.boot.BootImage.{BootImage}
+use Rattle.dm_onekernel.specs.declared.boot.BootProcess.{BootProcess}
+use Rattle.dm_onekernel.specs.declared.boot.Boot.{Boot}
+use Rattle.dm_onekernel.specs.declared.label.Label.{Label}
+use Rattle.dm_onekernel.specs.declared.label.Label.TheVariants as label
+use Rattle.dm_onekernel.specs.Boot.{IsValid, starting_at, processes_are_valid, process_is_valid, links_are_valid, slots_of}
+use Rattle.dm_onekernel.specs.PlainProcess.{PlainProcess}
+use Rattle.dm_onekernel.specs.Kernel.{Alive, OneKernel}
+use Rattle.dm_onekernel.specs.Start.{start, begun, first_life, life_at}
+use Rattle.dm_onekernel.specs.Step as kernel
+use Rattle.dm_onekernel.specs.Step.{replay}
+use Rattle.dm_laws.proofs.Steps.{bind-is}
+use Rattle.dm_schedule.specs.declared.Step.{Step}
+use Rattle.dm_rule.specs.Point.{Point, first_point, labels}
+use Rattle.dm_rule.specs.Parts.{Spelled}
+use Rattle.dm_rule.specs.Rule.{group_of}
+use Rattle.dm_rule.specs.Laws.{Leads}
+use Rattle.dm_rulelaws.specs.Fits.{Each}
+use Rattle.dm_rulelaws.proofs.Fits.Rises.{both}
+use Rattle.dm_rulelaws.proofs.RunLabels.{group_replay}
+use Rattle.dm_rulelaws.proofs.Based.Constants.{constant_group}
+use Rattle.dm_rulelaws.proofs.Tables.{Tables}
+use Rattle.dm_rulelaws.proofs.Tables.Steps as steps
+use Rattle.dm_rulelaws.proofs.Tables.Servers as servers
+use Rattle.dm_rulelaws.proofs.Tables.Servers.{slots_with_length}
+
+-- each step
+pub tables_step : (s t : OneKernel) (e : Label) → kernel.step s e ≡ Some t → Tables s → Tables t
+tables_step s t (label.Ran p k) is h = steps.ran_tables s t p k is h
+tables_step s t (label.Call p n c) is h = steps.call_step s t p n c is h
+tables_step s t (label.Send p id) is h = steps.send_step s t p id is h
+tables_step s t (label.Wait p) is h = steps.wait_step s t p is h
+tables_step s t (label.Out p w) is h = steps.out_step s t p w is h
+tables_step s t (label.End p y) is h = steps.end_step s t p y is h
+tables_step s t (label.Receive p id) is h = steps.receive_step s t p id is h
+tables_step s t (label.Refuse p id c) is h = steps.refuse_step s t p id c is h
+tables_step s t (label.Dropped id) is h = steps.dropped_step s t id is h
+tables_step s t (label.Served id) is h = steps.served_step s t id is h
+tables_step s t (label.Gone id) is h = steps.gone_step s t id is h
+tables_step s t (label.Took id) is h = servers.took_step s t id is h
+tables_step s t (label.Created id child) is h = servers.created_step s t id child is h
+tables_step s t (label.NoSpace id a b) is h = servers.no_space_step s t id a b is h
+
+-- where a run begins
+abbrev ShortList : Boot → BootProcess → Type 0
+ShortList b p = nat_le (length p.links) (slots_of b.format) ≡ true
+
+short_is : (b : Boot) (others : ℕ) (p : BootProcess) → process_is_valid b others p ≡ true → ShortList b p
+short_is b others p h =
+    let last = nat_le (length p.links) (slots_of b.format) && links_are_valid b p.links in
+    let one = both (nat_lt p.pid.home (length b.machines)) ((p.pid.num == 3 + others) && (nat_lt p.image (length b.images) && last)) h in
+    let second = both (p.pid.num == 3 + others) (nat_lt p.image (length b.images) && last) one.1 in
+    let three = both (nat_lt p.image (length b.images)) last second.1 in
+    (both (nat_le (length p.links) (slots_of b.format)) (links_are_valid b p.links) three.1).0
+
+shorts_are : (b : Boot) (earlier ps : List BootProcess) → processes_are_valid b earlier ps ≡ true → Each (ShortList b) ps
+shorts_are b earlier [] h = tt
+shorts_are b earlier (p ∷ ps) h =
+    let k = both (process_is_valid b (starting_at p.pid.home earlier) p) (processes_are_valid b (earlier ++ p ∷ []) ps) h in
+    (short_is b (starting_at p.pid.home earlier) p k.0, shorts_are b (earlier ++ p ∷ []) ps k.1)
+
+first_length : (b : Boot) (p : BootProcess) (x : PlainProcess) (o : Option BootImage) → ShortList b p → option_map (λ (image : BootImage). Alive (begun b.format image (map plain_link p.links))) o ≡ Some (Alive x) → length x.links ≡ slots_of b.format
+first_length b p x None short e = cc
+first_length b p x (Some image) short e =
+    let f : begun b.format image (map plain_link p.links) ≡ x = cc in
+    let same : length (map plain_link p.links) ≡ length p.links = length-map p.links plain_link in
+    let le : length p.links ≤ slots_of b.format = grind (arith, nat_tests) in
+    subst (λ (y : PlainProcess). length y.links ≡ slots_of b.format) f (slots_with_length (slots_of b.format) (map plain_link p.links) (omega (arith, same, le)))
+
+lives_lengths : (b : Boot) (ps : List BootProcess) (q : Pid) (x : PlainProcess) → Each (ShortList b) ps → life_at b ps q ≡ Some (Alive x) → length x.links ≡ slots_of b.format
+lives_lengths b [] q x shorts e = cc
+lives_lengths b (p ∷ ps) q x shorts e = elim (cases_Bool (pid_eq p.pid q)) [
+  | inl same ↦ first_length b p x (slice_get b.images p.image) shorts.0 (sym (ap (λ (c : Bool). if c then first_life b p else life_at b ps q) same) ∙ e)
+  | inr apart ↦ lives_lengths b ps q x shorts.1 (sym (ap (λ (c : Bool). if c then first_life b p else life_at b ps q) apart) ∙ e)
+]
+
+pub tables_start : (b : Boot) → IsValid b → Tables (start b)
+tables_start b valid = record {
+  slots = λ p x e. lives_lengths b b.processes p x (shorts_are b [] b.processes valid.processes) e;
+  messages = λ i m e. absurd (let f : None ≡ Some m = e in cc);
+}
+
+-- wherever a run comes
+tables_replay : (ls : List Label) (s t : OneKernel) → replay s ls ≡ Some t → Tables s → Tables t
+tables_replay [] s t is h = let f : s ≡ t = cc in subst Tables f h
+tables_replay (l ∷ ls) s t is h =
+    let (u, first, rest) = bind-is (kernel.step s l) (λ (v : OneKernel). replay v ls) t is in
+    tables_replay ls u t rest (tables_step s u l first h)
+
+pub tables_group : (b : Boot) (pt : Point) (d : Step) (w : Spelled) → group_of b pt d ≡ Some w → Tables pt.kernel → Tables w.point.kernel
+tables_group b pt d w is h = tables_replay (labels w.lines) pt.kernel w.point.kernel (group_replay b pt d w is) h
+
+tables_on : (b : Boot) (es : List Step) (pt end : Point) → Leads b pt es end → Tables pt.kernel → Tables end.kernel
+tables_on b [] pt end leads h = subst (λ (v : Point). Tables v.kernel) leads h
+tables_on b (d ∷ ds) pt end (w, fit, is, more) h = tables_on b ds w.point end more (tables_group b pt d w is h)
+
+pub tables_always : (b : Boot) (es : List Step) (pt : Point) → IsValid b → Leads b (first_point b) es pt → Tables pt.kernel
+tables_always b es pt valid leads = tables_on b es (first_point b) pt leads (tables_start b valid)
+
+-- the format stays
+format_on : (b : Boot) (es : List Step) (pt end : Point) → Leads b pt es end → pt.kernel.format ≡ b.format → end.kernel.format ≡ b.format
+format_on b [] pt end leads h = subst (λ (v : Point). v.kernel.format ≡ b.format) leads h
+format_on b (d ∷ ds) pt end (w, fit, is, more) h = format_on b ds w.point end more ((constant_group b pt d w is).format ∙ h)
+
+pub format_always : (b : Boot) (es : List Step) (pt : Point) → IsValid b → Leads b (first_point b) es pt → pt.kernel.format ≡ b.format
+format_always b es pt valid leads = format_on b es (first_point b) pt leads refl
