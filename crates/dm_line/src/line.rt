@@ -116,4 +116,3 @@ pub enum Stage {
     Left,
     Restarted,
 }
-

@@ -5,13 +5,13 @@ ghost use Rattle.dm_process.specs.Lawful.{IsLawfulProcess};
 ghost use Rattle.dm_migrate.specs.Arrival.{IsNextChunk, IsNextPiece, after_block, after_chunk, expected, pull, restarted, revived, with_block, with_chunk, with_held, with_piece};
 
 use crate::leaving::CHUNK;
-use dm_statebytes::{Shell, unpack};
 use dm_link::Pid;
 use dm_lists::Queue;
 use dm_memory::NoMemory;
 use dm_message::{Asker, Message, What};
 use dm_process::Process;
 use dm_processor::Memory;
+use dm_statebytes::{Shell, unpack};
 use std::alloc::Global;
 use std::marker::Model;
 
@@ -48,11 +48,28 @@ impl Model for Arriving {
 
     ghost Value = { Arrival };
 
-    ghost view = { λ a. come_of (record { pid = a.pid; moves = a.moves; asker = a.asker; cap = a.cap; state = a.state.items; memory = a.memory; wanted
-        = a.wanted; held = a.held.items }) };
+    ghost view = { λ a. come_of (record {
+      pid = a.pid;
+      moves = a.moves;
+      asker = a.asker;
+      cap = a.cap;
+      state = a.state.items;
+      memory = a.memory;
+      wanted
+          = a.wanted;
+      held = a.held.items;
+    }) };
 
-    ghost invariant = { λ a. IsComing (record { pid = a.pid; moves = a.moves; asker = a.asker; cap = a.cap; state = a.state.items; memory = a.memory;
-        wanted = a.wanted; held = a.held.items }) };
+    ghost invariant = { λ a. IsComing (record {
+      pid = a.pid;
+      moves = a.moves;
+      asker = a.asker;
+      cap = a.cap;
+      state = a.state.items;
+      memory = a.memory;
+      wanted = a.wanted;
+      held = a.held.items;
+    }) };
 }
 
 /// Makes room for a process that is to come, with nothing of it yet.

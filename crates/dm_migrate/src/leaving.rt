@@ -10,12 +10,12 @@ ghost use Rattle.dm_migrate.specs.Departure.{CanMove, all_sent_on, ask_of, froze
 ghost use Rattle.dm_migrate.specs.Pieces.{HasBlock, HasChunk, block_of, chunk_bytes, chunk_of, state_of};
 
 use arrayvec::ArrayVec;
-use dm_statebytes::pack;
 use dm_link::Placeless;
 use dm_lists::Queue;
 use dm_memory::NoMemory;
 use dm_message::{Asker, Message, What};
 use dm_process::Process;
+use dm_statebytes::pack;
 use std::alloc::Global;
 use std::marker::Model;
 

@@ -84,7 +84,7 @@ numbers_are_refused_so = refl
 
 pub in_order :
     directives_of (codes "turn 00" ++ 13 ∷ 10 ∷ 10 ∷ 9 ∷ codes " tick" ++ 9 ∷ codes "1 " ++ 10 ∷ codes "# turn 1" ++ 10 ∷ codes "round" ++ 10 ∷ codes "deliver 1 0 7" ++ 10 ∷ codes "spin 65536" ++ 10 ∷ codes "migrate 00.03 01") 2
-      ≡ Accepted (directive.One (step.Turn 0) ∷ directive.One (step.Tick 1) ∷ directive.Round ∷ directive.One (step.Deliver 1 0 7)
-          ∷ directive.Spin 65536 ∷ directive.One (step.Migrate (record { home = 0; num = 3 }) 1) ∷ [])
+    ≡ Accepted (directive.One (step.Turn 0) ∷ directive.One (step.Tick 1) ∷ directive.Round ∷ directive.One (step.Deliver 1 0 7)
+    ∷ directive.Spin 65536 ∷ directive.One (step.Migrate (record { home = 0; num = 3 }) 1) ∷ [])
 unfolding directives_of lines_from line_directive directive_of keyword_of lines words number_of process_of
 in_order = refl
