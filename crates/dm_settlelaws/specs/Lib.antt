@@ -1,0 +1,4 @@
+pub mod Left
+pub mod Rests
+pub mod Passes
+pub mod Laws
