@@ -115,6 +115,7 @@ come_of p p' k s l is e c =
   where
     at_mark : Pair → ℕ → Option Sent → List Sent
     at_mark p k o = marked_at p.wire k o
+
     marked_as : Pair → ℕ → Sent → List Sent
     marked_as p k s = marked_at p.wire k (Some s)
 
