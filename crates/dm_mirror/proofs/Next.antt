@@ -56,7 +56,7 @@ delivery_same machines f g (p ∷ ps) same fit =
     ∙ ap (here_or_later p ps (g p.from p.to)) (delivery_same machines f g ps same (All-tail (IsTwo machines) p ps fit))
 
 -- a round's machines, and its pairs
-abbrev IsBelow : ℕ → ℕ → Type 0
+abbrev pub IsBelow : ℕ → ℕ → Type 0
 IsBelow machines m = m < machines
 
 below_fits : (n machines : ℕ) → n ≤ machines → All (IsBelow machines) (below n)
@@ -79,10 +79,10 @@ pairs_fit machines [] bs h fit = All-nil (IsTwo machines)
 pairs_fit machines (a ∷ as_) bs h fit =
     All-append (IsTwo machines) (pairs_with a bs) (pairs_of as_ bs) (with_fit machines a bs (All-head (IsBelow machines) a as_ h) fit) (pairs_fit machines as_ bs (All-tail (IsBelow machines) a as_ h) fit)
 
-all_below : (machines : ℕ) → All (IsBelow machines) (below machines)
+pub all_below : (machines : ℕ) → All (IsBelow machines) (below machines)
 all_below machines = below_fits machines machines (omega arith)
 
-all_pairs : (machines : ℕ) → All (IsTwo machines) (pairs_of (below machines) (below machines))
+pub all_pairs : (machines : ℕ) → All (IsTwo machines) (pairs_of (below machines) (below machines))
 all_pairs machines = pairs_fit machines (below machines) (below machines) (all_below machines) (all_below machines)
 
 -- two ways to see whether a machine has mail that agree on the machines that there are

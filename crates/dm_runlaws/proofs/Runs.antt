@@ -1,6 +1,6 @@
 -- From wherever a run stands it comes to its end: rounds within a directive, machines and pairs within a round, and the packets of a pair
 -- that were never delivered, of which a delivery leaves one fewer, since what it puts on wires goes the other way.
-use Rattle.std.proofs.Common.{◌≡◌, ℕ, zero, suc, ◌≤◌, true, is_some, List, [], ◌∷◌, ◌++◌, length, refl, ap, ◌∙◌, sym, subst, arith}
+use Rattle.std.proofs.Common.{◌≡◌, ◌⊎◌, inl, inr, ℕ, zero, suc, ◌≤◌, Bool, true, is_some, List, [], ◌∷◌, ◌++◌, length, refl, ap, ◌∙◌, sym, subst, arith}
 use Rattle.std.specs.List.{All}
 use Rattle.std.specs.declared.option.Option.{Option}
 use Rattle.std.specs.declared.option.Option.TheVariants.{None, Some}
@@ -13,11 +13,13 @@ use Rattle.dm_schedule.specs.declared.Step.TheVariants as step
 use Rattle.dm_schedule.specs.declared.Directive.{Directive}
 use Rattle.dm_schedule.specs.declared.Directive.TheVariants as directive
 use Rattle.dm_line.specs.declared.line.Line.{Line}
-use Rattle.dm_line.specs.Todo.{Two, Todo, Next, below, pairs_of, here_or_later, next_delivery, next_turn, in_round, or, next_round, following}
+use Rattle.dm_line.specs.declared.pass.Pass.TheVariants.{Round}
+use Rattle.dm_line.specs.Todo.{Two, Todo, Next, below, pairs_of, here_or_later, next_delivery, next_turn, takes_turn, in_pass, or, next_pass, following}
 use Rattle.dm_rule.specs.Good.{next_step, undelivered, IsKept, IsRun}
 use Rattle.dm_rule.specs.Laws.{IsStep, Leads}
 use Rattle.dm_rule.specs.Parts.{Spelled}
 use Rattle.dm_rule.specs.Point.{Point, first_point}
+use Rattle.dm_rule.specs.Quiet.{has_mail, is_quiet}
 use Rattle.dm_rule.specs.Rule.{group_of}
 use Rattle.dm_rule.specs.Worn.{worn_in}
 use Rattle.dm_rule.proofs.Groups.{stands_once_always}
@@ -27,7 +29,7 @@ use Rattle.dm_mirror.specs.Todo.{IsTwo, IsDirective}
 use Rattle.dm_mirror.proofs.Going.{leads_last}
 use Rattle.dm_mirror.proofs.Machines.{machines_group, some_machine}
 use Rattle.dm_mirror.proofs.Next.{IsBelow, all_below, all_pairs}
-use Rattle.dm_runlaws.specs.Through.{HasEnded, Over, Wears}
+use Rattle.dm_runlaws.specs.Through.{IsNoSettle, HasEnded, Over, Wears}
 use Rattle.dm_runlaws.proofs.Wires.{Counts, lines_count}
 use Rattle.dm_runlaws.proofs.Delivers.{waits, fewer_wait}
 
@@ -47,10 +49,10 @@ pub record Stood (b : Boot) (pt : Point) : Type 0 where
   pub machines : pt.kernel.machines ≡ length b.machines
 
 abbrev follows : Boot → Point → Todo → Option Next
-follows b pt t = following (length b.machines) (undelivered pt.view) t
+follows b pt t = following (length b.machines) (undelivered pt.view) (has_mail pt.view) (is_quiet (length b.machines) pt.view) t
 
 abbrev todo : List Two → List ℕ → ℕ → List Directive → Todo
-todo ps ms k ds = record { pairs = ps; machines = ms; rounds = k; directives = ds }
+todo ps ms k ds = record { pairs = ps; machines = ms; pass = Round k; directives = ds }
 
 -- so many rounds, and then directives
 abbrev pub between : ℕ → List Directive → Todo
@@ -116,13 +118,17 @@ turns_out b (m ∷ ms) k ds valid fit rest pt s =
     (λ w is next. turns_out b ms k ds valid (All-tail (IsBelow (length b.machines)) m ms fit) rest w.point next)
 
 -- whatever pairs there were
-turn_same : (ps qs : List Two) (all ms : List ℕ) (k : ℕ) (ds : List Directive) → next_turn (todo ps all k ds) ms ≡ next_turn (todo qs all k ds) ms
-turn_same ps qs all [] k ds = refl
-turn_same ps qs all (m ∷ ms) k ds = refl
+turn_same : (mail : ℕ → Bool) (ps qs : List Two) (all ms : List ℕ) (k : ℕ) (ds : List Directive) → next_turn (takes_turn (Round k) mail) (todo ps all k ds) ms ≡ next_turn (takes_turn (Round k) mail) (todo qs all k ds) ms
+turn_same mail ps qs all [] k ds = refl
+turn_same mail ps qs all (m ∷ ms) k ds = refl
 
-in_same : (ps qs : List Two) (ms : List ℕ) (k : ℕ) (ds : List Directive) (o : Option (Step × List Two)) → in_round (todo ps ms k ds) o ≡ in_round (todo qs ms k ds) o
-in_same ps qs ms k ds (Some d) = refl
-in_same ps qs ms k ds None = turn_same ps qs ms ms k ds
+in_same : (mail : ℕ → Bool) (ps qs : List Two) (ms : List ℕ) (k : ℕ) (ds : List Directive) (o : Option (Step × List Two)) → in_pass mail (todo ps ms k ds) o ≡ in_pass mail (todo qs ms k ds) o
+in_same mail ps qs ms k ds (Some d) = refl
+in_same mail ps qs ms k ds None = turn_same mail ps qs ms ms k ds
+
+-- what follows the rounds that are left, and then the directives, as the lines say
+abbrev after : Boot → Point → ℕ → List Directive → Option Next
+after b pt k ds = next_pass (length b.machines) (undelivered pt.view) (has_mail pt.view) (is_quiet (length b.machines) pt.view) (Round k) ds
 
 -- the packets of a pair
 abbrev first_on : Point → Two → Option ℕ
@@ -134,17 +140,15 @@ waits_on pt p = waits pt.view p.from p.to
 pair_step : (b : Boot) (p : Two) (ps : List Two) (ms : List ℕ) (k : ℕ) (ds : List Directive) (pt : Point) (o : Option ℕ) → IsValid b → IsTwo (length b.machines) p → Stood b pt → first_on pt p ≡ o → From b pt (todo ps ms k ds)
     → ((q : Point) → Stood b q → suc (waits_on q p) ≡ waits_on pt p → From b q (todo (p ∷ ps) ms k ds)) → From b pt (todo (p ∷ ps) ms k ds)
 pair_step b p ps ms k ds pt None valid fit s first rest again =
-    let n = length b.machines in
     let later = next_delivery (undelivered pt.view) ps in
     let e : follows b pt (todo (p ∷ ps) ms k ds) ≡ follows b pt (todo ps ms k ds) =
-    ap (λ (o : Option ℕ). or (in_round (todo (p ∷ ps) ms k ds) (here_or_later p ps o later)) (next_round n (undelivered pt.view) k ds)) first
-    ∙ ap (λ (o : Option Next). or o (next_round n (undelivered pt.view) k ds)) (in_same (p ∷ ps) ps ms k ds later) in
+    ap (λ (o : Option ℕ). or (in_pass (has_mail pt.view) (todo (p ∷ ps) ms k ds) (here_or_later p ps o later)) (after b pt k ds)) first
+    ∙ ap (λ (o : Option Next). or o (after b pt k ds)) (in_same (has_mail pt.view) (p ∷ ps) ps ms k ds later) in
     same b pt (todo (p ∷ ps) ms k ds) (todo ps ms k ds) s e rest
 pair_step b p ps ms k ds pt (Some j) valid fit s first rest again =
-    let n = length b.machines in
     let later = next_delivery (undelivered pt.view) ps in
     let e : follows b pt (todo (p ∷ ps) ms k ds) ≡ Some (record { step = step.Deliver p.from p.to j; left = todo (p ∷ ps) ms k ds }) =
-    ap (λ (o : Option ℕ). or (in_round (todo (p ∷ ps) ms k ds) (here_or_later p ps o later)) (next_round n (undelivered pt.view) k ds)) first in
+    ap (λ (o : Option ℕ). or (in_pass (has_mail pt.view) (todo (p ∷ ps) ms k ds) (here_or_later p ps o later)) (after b pt k ds)) first in
     goes b pt (todo (p ∷ ps) ms k ds) (record { step = step.Deliver p.from p.to j; left = todo (p ∷ ps) ms k ds }) valid s e (fit.from, fit.to, fit.apart)
     (λ w is next. again w.point next (fewer_wait b pt p.from p.to j w fit.apart first is))
 
@@ -167,16 +171,16 @@ some_below (suc n) h = first_of_all (below n) n
     first_of_all [] x = (x, [], refl)
     first_of_all (y ∷ ys) x = (y, ys ++ x ∷ [], refl)
 
-round_goes : (ps : List Two) (ms : List ℕ) (m : ℕ) (rest : List ℕ) (k : ℕ) (ds : List Directive) (o : Option (Step × List Two)) (r : Option Next) → ms ≡ m ∷ rest → or (in_round (todo ps ms k ds) o) r ≡ in_round (todo ps ms k ds) o
-round_goes ps ms m rest k ds (Some d) r e = refl
-round_goes ps ms m rest k ds None r e = subst (λ (xs : List ℕ). or (in_round (todo ps xs k ds) None) r ≡ in_round (todo ps xs k ds) None) (sym e) refl
+round_goes : (mail : ℕ → Bool) (ps : List Two) (ms : List ℕ) (m : ℕ) (rest : List ℕ) (k : ℕ) (ds : List Directive) (o : Option (Step × List Two)) (r : Option Next) → ms ≡ m ∷ rest → or (in_pass mail (todo ps ms k ds) o) r ≡ in_pass mail (todo ps ms k ds) o
+round_goes mail ps ms m rest k ds (Some d) r e = refl
+round_goes mail ps ms m rest k ds None r e = subst (λ (xs : List ℕ). or (in_pass mail (todo ps xs k ds) None) r ≡ in_pass mail (todo ps xs k ds) None) (sym e) refl
 
 round_out : (b : Boot) (k : ℕ) (ds : List Directive) → IsValid b → ((q : Point) → Stood b q → From b q (between k ds)) → (pt : Point) → Stood b pt → From b pt (between (suc k) ds)
 round_out b k ds valid rest pt s =
     let n = length b.machines in
     let ps = pairs_of (below n) (below n) in
     let (m, ms, some) = some_below n (some_machine b valid) in
-    let e : follows b pt (between (suc k) ds) ≡ follows b pt (todo ps (below n) k ds) = sym (round_goes ps (below n) m ms k ds (next_delivery (undelivered pt.view) ps) (next_round n (undelivered pt.view) k ds) some) in
+    let e : follows b pt (between (suc k) ds) ≡ follows b pt (todo ps (below n) k ds) = sym (round_goes (has_mail pt.view) ps (below n) m ms k ds (next_delivery (undelivered pt.view) ps) (after b pt k ds) some) in
     same b pt (between (suc k) ds) (todo ps (below n) k ds) s e (packets_out b ps (below n) k ds valid (all_pairs n) (turns_out b (below n) k ds valid (all_below n) rest) pt s)
 
 rounds_out : (b : Boot) (k : ℕ) (ds : List Directive) → IsValid b → ((q : Point) → Stood b q → From b q (between 0 ds)) → (pt : Point) → Stood b pt → From b pt (between k ds)
@@ -184,18 +188,36 @@ rounds_out b zero ds valid rest pt s = rest pt s
 rounds_out b (suc k) ds valid rest pt s = round_out b k ds valid (rounds_out b k ds valid rest) pt s
 
 -- the rounds of a spin
-spin_same : (machines : ℕ) (first : ℕ → ℕ → Option ℕ) (n : ℕ) (ds : List Directive) → next_round machines first 0 (directive.Spin n ∷ ds) ≡ next_round machines first n ds
-spin_same machines first zero ds = refl
-spin_same machines first (suc n) ds = refl
+spin_same : (b : Boot) (pt : Point) (n : ℕ) (ds : List Directive) → after b pt 0 (directive.Spin n ∷ ds) ≡ after b pt n ds
+spin_same b pt zero ds = refl
+spin_same b pt (suc n) ds = refl
+
+-- a settle comes to its end, wherever a run stands, and what is behind it to its own
+abbrev pub SettlesOut : Boot → Type 0
+SettlesOut b = (ds : List Directive) → ((q : Point) → Stood b q → From b q (between 0 ds)) → (pt : Point) → Stood b pt → From b pt (between 0 (directive.Settle ∷ ds))
+
+-- so does each directive, if a settle does, or where there is none
+abbrev pub Settled : Boot → Directive → Type 0
+Settled b d = IsNoSettle d ⊎ SettlesOut b
+
+settle_out : (b : Boot) → Settled b directive.Settle → SettlesOut b
+settle_out b s = elim s [
+  | inl none ↦ absurd none
+  | inr out ↦ out
+]
 
 -- all directives
-pub all_out : (b : Boot) (ds : List Directive) → IsValid b → All (IsDirective (length b.machines)) ds → (pt : Point) → Stood b pt → From b pt (between 0 ds)
-all_out b [] valid fit pt s = over b pt (between 0 []) s refl
-all_out b (directive.One e ∷ ds) valid fit pt s =
+pub all_out : (b : Boot) (ds : List Directive) → IsValid b → All (IsDirective (length b.machines)) ds → All (Settled b) ds → (pt : Point) → Stood b pt → From b pt (between 0 ds)
+all_out b [] valid fit settled pt s = over b pt (between 0 []) s refl
+all_out b (directive.One e ∷ ds) valid fit settled pt s =
     goes b pt (between 0 (directive.One e ∷ ds)) (record { step = e; left = between 0 ds }) valid s refl (All-head (IsDirective (length b.machines)) (directive.One e) ds fit)
-    (λ w is next. all_out b ds valid (All-tail (IsDirective (length b.machines)) (directive.One e) ds fit) w.point next)
-all_out b (directive.Round ∷ ds) valid fit pt s =
-    same b pt (between 0 (directive.Round ∷ ds)) (between 1 ds) s refl (rounds_out b 1 ds valid (all_out b ds valid (All-tail (IsDirective (length b.machines)) directive.Round ds fit)) pt s)
-all_out b (directive.Spin n ∷ ds) valid fit pt s =
-    same b pt (between 0 (directive.Spin n ∷ ds)) (between n ds) s (spin_same (length b.machines) (undelivered pt.view) n ds)
-    (rounds_out b n ds valid (all_out b ds valid (All-tail (IsDirective (length b.machines)) (directive.Spin n) ds fit)) pt s)
+    (λ w is next. all_out b ds valid (All-tail (IsDirective (length b.machines)) (directive.One e) ds fit) (All-tail (Settled b) (directive.One e) ds settled) w.point next)
+all_out b (directive.Round ∷ ds) valid fit settled pt s =
+    let rest = all_out b ds valid (All-tail (IsDirective (length b.machines)) directive.Round ds fit) (All-tail (Settled b) directive.Round ds settled) in
+    same b pt (between 0 (directive.Round ∷ ds)) (between 1 ds) s refl (rounds_out b 1 ds valid rest pt s)
+all_out b (directive.Spin n ∷ ds) valid fit settled pt s =
+    let rest = all_out b ds valid (All-tail (IsDirective (length b.machines)) (directive.Spin n) ds fit) (All-tail (Settled b) (directive.Spin n) ds settled) in
+    same b pt (between 0 (directive.Spin n ∷ ds)) (between n ds) s (spin_same b pt n ds) (rounds_out b n ds valid rest pt s)
+all_out b (directive.Settle ∷ ds) valid fit settled pt s =
+    let rest = all_out b ds valid (All-tail (IsDirective (length b.machines)) directive.Settle ds fit) (All-tail (Settled b) directive.Settle ds settled) in
+    settle_out b (All-head (Settled b) directive.Settle ds settled) ds rest pt s

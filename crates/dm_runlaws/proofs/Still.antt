@@ -1,6 +1,6 @@
 -- Where no directive moves a process, neither does any elementary one of it.
-use Rattle.std.proofs.Common.{◌≡◌, ℕ, zero, suc, List, [], ◌∷◌, ◌++◌, length, refl, ap, ◌∙◌, sym, subst}
-use Rattle.std.specs.Prelude.{⊤}
+use Rattle.std.proofs.Common.{◌≡◌, ℕ, zero, suc, Bool, true, false, List, [], ◌∷◌, ◌++◌, length, refl, ap, ◌∙◌, sym, subst}
+use Rattle.std.specs.Prelude.{⊤, if◌then◌else◌}
 use Rattle.std.specs.declared.option.Option.{Option}
 use Rattle.std.specs.declared.option.Option.TheVariants.{None, Some}
 use Rattle.std.proofs.lemmas.List.Elements.{All-nil}
@@ -9,10 +9,14 @@ use Rattle.dm_schedule.specs.declared.Step.{Step}
 use Rattle.dm_schedule.specs.declared.Directive.{Directive}
 use Rattle.dm_schedule.specs.declared.Directive.TheVariants as directive
 use Rattle.dm_line.specs.declared.line.Line.{Line}
-use Rattle.dm_line.specs.Todo.{Two, Todo, Next, all_of, below, pairs_of, here_or_later, next_delivery, round_begun, next_turn, in_round, or, begin_round, next_round, following}
+use Rattle.dm_schedule.specs.declared.Step.TheVariants as step
+use Rattle.dm_line.specs.declared.pass.Pass.{Pass}
+use Rattle.dm_line.specs.declared.pass.Pass.TheVariants as pass
+use Rattle.dm_line.specs.Todo.{Two, Todo, Next, next, all_of, below, pairs_of, here_or_later, next_delivery, pass_begun, takes_turn, next_turn, in_pass, or, begin_pass, settles, next_directive, next_pass, is_over, following}
 use Rattle.dm_rule.specs.Good.{next_step, undelivered, IsRun}
 use Rattle.dm_rule.specs.Laws.{IsStep, IsStill, AreStill}
 use Rattle.dm_rule.specs.Point.{Point, first_point}
+use Rattle.dm_rule.specs.Quiet.{has_mail, is_quiet}
 use Rattle.dm_rulelaws.specs.Order.{LeadsBy}
 use Rattle.dm_rulelaws.proofs.RunsAlways.{receives_in_order}
 use Rattle.dm_mirror.specs.Todo.{IsTwo, IsTodo}
@@ -38,35 +42,56 @@ delivery_still : (first : ℕ → ℕ → Option ℕ) (ps : List Two) → FirstS
 delivery_still first [] = tt
 delivery_still first (p ∷ ps) = here_still p ps (first p.from p.to) (next_delivery first ps) (delivery_still first ps)
 
-turn_still : (t : Todo) (ms : List ℕ) → MoveNothing t.directives → NextStill (next_turn t ms)
-turn_still t [] h = tt
-turn_still t (m ∷ ms) h = (tt, h)
+turn_or_later : (t : Todo) (m : ℕ) (ms : List ℕ) (b : Bool) (o : Option Next) → MoveNothing t.directives → NextStill o → NextStill (if b then next (step.Turn m) (record t { pairs = []; machines = ms }) else o)
+turn_or_later t m ms true o h later = (tt, h)
+turn_or_later t m ms false o h later = later
 
-round_still : (t : Todo) (d : Option (Step × List Two)) → MoveNothing t.directives → FirstStill d → NextStill (in_round t d)
-round_still t None h k = turn_still t t.machines h
-round_still t (Some d) h k = (k, h)
+turn_still : (takes : ℕ → Bool) (t : Todo) (ms : List ℕ) → MoveNothing t.directives → NextStill (next_turn takes t ms)
+turn_still takes t [] h = tt
+turn_still takes t (m ∷ ms) h = turn_or_later t m ms (takes m) (next_turn takes t ms) h (turn_still takes t ms h)
 
-begun_still : (machines : ℕ) (first : ℕ → ℕ → Option ℕ) (rounds : ℕ) (ds : List Directive) → MoveNothing ds → NextStill (begin_round machines first rounds ds)
-begun_still machines first rounds ds h =
-    round_still (round_begun machines rounds ds) (next_delivery first (pairs_of (below machines) (below machines))) h (delivery_still first (pairs_of (below machines) (below machines)))
+pass_still : (mail : ℕ → Bool) (t : Todo) (d : Option (Step × List Two)) → MoveNothing t.directives → FirstStill d → NextStill (in_pass mail t d)
+pass_still mail t None h k = turn_still (takes_turn t.pass mail) t t.machines h
+pass_still mail t (Some d) h k = (k, h)
 
-later_still : (machines : ℕ) (first : ℕ → ℕ → Option ℕ) (rounds : ℕ) (ds : List Directive) → MoveNothing ds → NextStill (next_round machines first rounds ds)
-later_still machines first zero [] h = tt
-later_still machines first zero (directive.One s ∷ ds) h = h
-later_still machines first zero (directive.Round ∷ ds) h = begun_still machines first 0 ds h.1
-later_still machines first zero (directive.Spin zero ∷ ds) h = later_still machines first zero ds h.1
-later_still machines first zero (directive.Spin (suc n) ∷ ds) h = begun_still machines first n ds h.1
-later_still machines first (suc k) ds h = begun_still machines first k ds h
+begun_still : (machines : ℕ) (first : ℕ → ℕ → Option ℕ) (mail : ℕ → Bool) (p : Pass) (ds : List Directive) → MoveNothing ds → NextStill (begin_pass machines first mail p ds)
+begun_still machines first mail p ds h =
+    pass_still mail (pass_begun machines p ds) (next_delivery first (pairs_of (below machines) (below machines))) h (delivery_still first (pairs_of (below machines) (below machines)))
 
 or_still : (x y : Option Next) → NextStill x → NextStill y → NextStill (or x y)
 or_still None y h k = k
 or_still (Some n) y h k = h
 
-next_still : (machines : ℕ) (first : ℕ → ℕ → Option ℕ) (t : Todo) (n : Next) → MoveNothing t.directives → following machines first t ≡ Some n → NextStill (Some n)
-next_still machines first t n h is =
+settles_still : (quiet : Bool) (x y : Option Next) → NextStill x → NextStill y → NextStill (settles quiet x y)
+settles_still true x y h k = k
+settles_still false x y h k = or_still x y h k
+
+directive_still : (machines : ℕ) (first : ℕ → ℕ → Option ℕ) (mail : ℕ → Bool) (quiet : Bool) (ds : List Directive) → MoveNothing ds → NextStill (next_directive machines first mail quiet ds)
+directive_still machines first mail quiet [] h = tt
+directive_still machines first mail quiet (directive.One s ∷ ds) h = h
+directive_still machines first mail quiet (directive.Round ∷ ds) h = begun_still machines first mail (pass.Round 0) ds h.1
+directive_still machines first mail quiet (directive.Spin zero ∷ ds) h = directive_still machines first mail quiet ds h.1
+directive_still machines first mail quiet (directive.Spin (suc n) ∷ ds) h = begun_still machines first mail (pass.Round n) ds h.1
+directive_still machines first mail quiet (directive.Settle ∷ ds) h =
+    settles_still quiet (begin_pass machines first mail pass.Settle ds) (next_directive machines first mail quiet ds) (begun_still machines first mail pass.Settle ds h.1) (directive_still machines first mail quiet ds h.1)
+
+later_still : (machines : ℕ) (first : ℕ → ℕ → Option ℕ) (mail : ℕ → Bool) (quiet : Bool) (p : Pass) (ds : List Directive) → MoveNothing ds → NextStill (next_pass machines first mail quiet p ds)
+later_still machines first mail quiet (pass.Round zero) ds h = directive_still machines first mail quiet ds h
+later_still machines first mail quiet (pass.Round (suc k)) ds h = begun_still machines first mail (pass.Round k) ds h
+later_still machines first mail quiet pass.Settle ds h =
+    settles_still quiet (begin_pass machines first mail pass.Settle ds) (next_directive machines first mail quiet ds) (begun_still machines first mail pass.Settle ds h) (directive_still machines first mail quiet ds h)
+
+unless_still : (over : Bool) (o : Option Next) → NextStill o → NextStill (if over then None else o)
+unless_still true o h = tt
+unless_still false o h = h
+
+next_still : (machines : ℕ) (first : ℕ → ℕ → Option ℕ) (mail : ℕ → Bool) (quiet : Bool) (t : Todo) (n : Next) → MoveNothing t.directives → following machines first mail quiet t ≡ Some n → NextStill (Some n)
+next_still machines first mail quiet t n h is =
+    let here = in_pass mail t (next_delivery first t.pairs) in
     subst NextStill is
-    (or_still (in_round t (next_delivery first t.pairs)) (next_round machines first t.rounds t.directives) (round_still t (next_delivery first t.pairs) h (delivery_still first t.pairs))
-    (later_still machines first t.rounds t.directives h))
+    (or_still (if is_over t.pass quiet then None else here) (next_pass machines first mail quiet t.pass t.directives)
+    (unless_still (is_over t.pass quiet) here (pass_still mail t (next_delivery first t.pairs) h (delivery_still first t.pairs)))
+    (later_still machines first mail quiet t.pass t.directives h))
 
 -- a run
 record LeadsStill (b : Boot) (pt end : Point) (ls : List Line) : Type 0 where
@@ -76,9 +101,9 @@ record LeadsStill (b : Boot) (pt end : Point) (ls : List Line) : Type 0 where
 
 run_still : (b : Boot) (gs : List (List Line)) (pt end : Point) (t left : Todo) → pt.kernel.machines ≡ length b.machines → IsTodo (length b.machines) t → MoveNothing t.directives → IsRun b pt t gs end left → LeadsStill b pt end (joined gs)
 run_still b [] pt end t left machines todo none run = record { steps = []; still = tt; leads = (refl, run.0) }
-run_still b (g ∷ gs) pt end t left machines todo none (n, w, next, is, said, kept, rest) =
-    let fits = next_fits (length b.machines) (undelivered pt.view) t n todo (sym (ap (λ (k : ℕ). next_step k pt.view t) machines) ∙ next) in
-    let still = next_still pt.kernel.machines (undelivered pt.view) t n none next in
+run_still b (g ∷ gs) pt end t left machines todo none (n, w, due, is, said, kept, rest) =
+    let fits = next_fits (length b.machines) (undelivered pt.view) (has_mail pt.view) (is_quiet (length b.machines) pt.view) t n todo (sym (ap (λ (k : ℕ). next_step k pt.view t) machines) ∙ due) in
+    let still = next_still pt.kernel.machines (undelivered pt.view) (has_mail pt.view) (is_quiet pt.kernel.machines pt.view) t n none due in
     let more = run_still b gs w.point end n.left left (machines_group b pt n.step w is ∙ machines) fits.left still.1 rest in
     record {
       steps = n.step ∷ more.steps;

@@ -22,6 +22,7 @@ abbrev pub MovesNothing : Directive → Type 0
 MovesNothing (directive.One s) = IsStill s
 MovesNothing directive.Round = ⊤
 MovesNothing (directive.Spin n) = ⊤
+MovesNothing directive.Settle = ⊤
 
 abbrev pub MoveNothing : List Directive → Type 0
 MoveNothing [] = ⊤
