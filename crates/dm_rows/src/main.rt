@@ -7,7 +7,7 @@ mod row;
 mod run;
 
 use anyhow::{Context, Result};
-use others::{read_files, say_errors, step_flat, write_out};
+use others::{fail_in_turn, read_files, say_errors, step_flat, write_out};
 use row::Row;
 use run::{Ending, Run};
 use std::fs;
@@ -17,6 +17,7 @@ fn main(rt: HostRuntime) -> Result<()> {
     let rows = fs::read_to_string(&rt, "rows")?;
     let good = do_runs(&rt, &runs)?;
     show_rows(&rt, &rows, good.as_slice())?;
+    fail_in_turn(&rt)?;
     read_files(&rt)?;
     write_out(&rt)?;
     step_flat(&rt)?;
