@@ -3,3 +3,6 @@ pub mod RestsPairs
 pub mod RestsParts
 pub mod RestsComes
 pub mod RestsAlways
+pub mod PassHas
+pub mod EndsQuiet
+pub mod EndsAtRest

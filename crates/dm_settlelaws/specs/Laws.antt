@@ -1,11 +1,42 @@
 -- What holds of a settle wherever the rule leads.
-use Rattle.std.specs.Prelude.{◌≡◌, ◌≢◌, ℕ, List}
+use Rattle.std.specs.Prelude.{◌≡◌, ◌≢◌, ℕ, true, List}
+use Rattle.std.specs.List.{All}
+use Rattle.std.specs.declared.option.Option.TheVariants.{None}
 use Rattle.dm_onekernel.specs.declared.boot.Boot.{Boot}
+use Rattle.dm_onekernel.specs.Boot.{IsValid}
+use Rattle.dm_schedule.specs.declared.Directive.{Directive}
 use Rattle.dm_schedule.specs.declared.Step.{Step}
+use Rattle.dm_line.specs.declared.end_line.EndLine.{EndLine}
+use Rattle.dm_line.specs.declared.line.Line.{Line}
+use Rattle.dm_line.specs.declared.pass.Pass.TheVariants.{Settle}
+use Rattle.dm_line.specs.Todo.{Todo, all_of}
+use Rattle.dm_rule.specs.Ends.{end_lines}
+use Rattle.dm_rule.specs.Good.{IsRun, next_step}
 use Rattle.dm_rule.specs.Laws.{Leads}
 use Rattle.dm_rule.specs.Point.{Point, first_point}
+use Rattle.dm_rule.specs.Quiet.{IsQuiet}
+use Rattle.dm_settlelaws.specs.Passes.{SettleGoes, ends_settled, is_at_rest}
 use Rattle.dm_settlelaws.specs.Rests.{PairRests}
 
 -- wherever the rule leads, each machine has done its part on each pair
 abbrev pub PairsRestAlways : Type 0
 PairsRestAlways = (b : Boot) (es : List Step) (pt : Point) (a c : ℕ) → Leads b (first_point b) es pt → a ≢ c → PairRests (pt.view.pair a c) (pt.view.pair c a)
+
+-- wherever the rule leads, a settle, wherever it stands, is over where nothing is on its way, and goes on where something is
+pub record Settles (pt : Point) (t : Todo) : Type 0 where
+  pub over : IsQuiet pt.kernel.machines pt.view → next_step pt.kernel.machines pt.view t ≡ next_step pt.kernel.machines pt.view (all_of t.directives)
+  pub goes : (IsQuiet pt.kernel.machines pt.view → ⊥) → SettleGoes pt.kernel.machines pt.view t
+
+abbrev pub SettlesAlways : Type 0
+SettlesAlways = (b : Boot) (es : List Step) (pt : Point) (t : Todo) → IsValid b → Leads b (first_point b) es pt → t.pass ≡ Settle → Settles pt t
+
+-- where all directives of a run are done, the last of them a settle, nothing is on its way
+abbrev pub EndsQuiet : Type 0
+EndsQuiet =
+    (b : Boot) (es : List Step) (ds : List Directive) (gs : List (List Line)) (end : Point) (left : Todo) → IsValid b → Leads b (first_point b) es end → IsRun b (first_point b) (all_of ds) gs end left
+    → next_step end.kernel.machines end.view left ≡ None → ends_settled ds ≡ true → IsQuiet end.kernel.machines end.view
+
+-- and where nothing is, the lines of the end say so: no inbox and no stream has a message, none is held back, and each process is
+-- where it is
+abbrev pub EndsAtRest : Type 0
+EndsAtRest = (b : Boot) (es : List Step) (pt : Point) → IsValid b → Leads b (first_point b) es pt → IsQuiet pt.kernel.machines pt.view → All (λ (l : EndLine). is_at_rest l ≡ true) (end_lines pt)

@@ -1,9 +1,14 @@
--- What a pass of a settle has to do.
-use Rattle.std.specs.Prelude.{◌≡◌, ◌≢◌, ℕ, ◌<◌, true, List}
+-- What a pass of a settle has to do, and where a settle is over.
+use Rattle.std.specs.Prelude.{◌≡◌, ◌≢◌, ◌⊎◌, ⊤, ℕ, ◌<◌, Bool, true, false, List, [], ◌∷◌}
 use Rattle.std.specs.declared.option.Option.TheVariants.{Some}
 use Rattle.dm_schedule.specs.declared.Directive.{Directive}
+use Rattle.dm_schedule.specs.declared.Directive.TheVariants as directive
 use Rattle.dm_schedule.specs.declared.Step.{Step}
 use Rattle.dm_schedule.specs.declared.Step.TheVariants as step
+use Rattle.dm_line.specs.declared.end_line.EndLine.{EndLine}
+use Rattle.dm_line.specs.declared.end_line.EndLine.TheVariants as end
+use Rattle.dm_line.specs.declared.end_line.Standing.{Standing}
+use Rattle.dm_line.specs.declared.end_line.Standing.TheVariants as standing
 use Rattle.dm_line.specs.declared.pass.Pass.TheVariants.{Settle}
 use Rattle.dm_line.specs.Todo.{Next, Todo}
 use Rattle.dm_rule.specs.Good.{next_step, undelivered}
@@ -11,16 +16,51 @@ use Rattle.dm_rule.specs.Quiet.{has_mail}
 use Rattle.dm_rule.specs.View.{View}
 
 -- a packet that was never delivered comes, the first of its pair, or a machine that has mail takes its turn
-abbrev pub IsSettleStep : ℕ → View → Step → Type 0
-IsSettleStep n v (step.Turn m) = (m < n) × (has_mail v m ≡ true)
-IsSettleStep n v (step.Deliver a c k) = (a < n) × (c < n) × (a ≢ c) × (undelivered v a c ≡ Some k)
-IsSettleStep n v (step.Tick m) = ⊥
-IsSettleStep n v (step.Migrate p m) = ⊥
+abbrev pub IsSettleStep : View → Step → Type 0
+IsSettleStep v (step.Turn m) = has_mail v m ≡ true
+IsSettleStep v (step.Deliver a c k) = undelivered v a c ≡ Some k
+IsSettleStep v (step.Tick m) = ⊥
+IsSettleStep v (step.Migrate p m) = ⊥
 
--- the settle goes on with such a step, and what is behind it stays behind it
+-- a settle goes on with such a step, and what is behind it stays behind it
 pub record SettleGoes (n : ℕ) (v : View) (t : Todo) : Type 0 where
   pub next : Next
   pub is : next_step n v t ≡ Some next
-  pub step : IsSettleStep n v next.step
+  pub step : IsSettleStep v next.step
   pub pass : next.left.pass ≡ Settle
   pub behind : next.left.directives ≡ t.directives
+
+-- the last directive is a settle
+abbrev pub is_settle : Directive → Bool
+is_settle (directive.One s) = false
+is_settle directive.Round = false
+is_settle (directive.Spin n) = false
+is_settle directive.Settle = true
+
+abbrev pub ends_settled : List Directive → Bool
+ends_settled [] = false
+ends_settled (d ∷ []) = is_settle d
+ends_settled (d ∷ e ∷ ds) = ends_settled (e ∷ ds)
+
+-- a line of the end that says of nothing that it is on its way, and of no process that it leaves or comes
+abbrev pub stands_here : Standing → Bool
+stands_here standing.Here = true
+stands_here standing.Leaving = false
+stands_here standing.Arriving = false
+
+abbrev pub is_at_rest : EndLine → Bool
+is_at_rest end.Final = true
+is_at_rest (end.Ended p y) = true
+is_at_rest (end.Process p m s d stopped sent) = stands_here s
+is_at_rest (end.Registers p r pc) = true
+is_at_rest (end.Memory p k bytes) = true
+is_at_rest (end.Link p slot l) = true
+is_at_rest (end.Server p sent) = true
+is_at_rest (end.Name name l) = true
+is_at_rest (end.Child n p m) = true
+is_at_rest (end.Pending i) = true
+is_at_rest (end.Queue p is) = true
+is_at_rest (end.Holding m p is) = false
+is_at_rest (end.Inbox m is) = false
+is_at_rest (end.Stream a c is) = false
+is_at_rest (end.Groups n) = true

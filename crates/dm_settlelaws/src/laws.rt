@@ -1,9 +1,27 @@
 //! What holds of a settle wherever the rule leads, whoever ran by it.
-ghost use Rattle.dm_settlelaws.specs.Laws.{PairsRestAlways};
+ghost use Rattle.dm_settlelaws.specs.Laws.{EndsAtRest, EndsQuiet, PairsRestAlways, SettlesAlways};
 
 /// Wherever the rule leads from a boot file, on each ordered pair of machines what may go out has gone, each number that went out
 /// has a packet, a data packet that came was taken or is kept, the next number isn't kept, the count of what was taken was
 /// acknowledged once it isn't 0, and an acknowledgement that came was heard.
 pub fn pairs_rest_always()
     ensures { PairsRestAlways }
+{}
+
+/// Wherever the rule leads from a boot file, a settle, however far its pass has come, is over where nothing is on its way, and
+/// what is behind it follows. Where something is, it goes on, with a packet that was never delivered or with the turn of a machine
+/// that has mail: so no machine needs to send anything again.
+pub fn settles_always()
+    ensures { SettlesAlways }
+{}
+
+/// Wherever the rule leads from a boot file and all directives are done, the last of them a settle, nothing is on its way.
+pub fn ends_quiet()
+    ensures { EndsQuiet }
+{}
+
+/// Wherever the rule leads from a boot file, where nothing is on its way the lines of the end say so: no inbox and no stream has a
+/// message, none is held back, and each process that lives is on one machine, and neither leaves nor comes.
+pub fn ends_at_rest()
+    ensures { EndsAtRest }
 {}

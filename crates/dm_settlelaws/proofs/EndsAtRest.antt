@@ -1,0 +1,199 @@
+-- Where nothing is on its way, the lines of the end say so.
+use Rattle.std.proofs.Common.{◌≡◌, ℕ, zero, suc, ◌+◌, Bool, true, false, List, [], ◌∷◌, ◌++◌, take, drop, length, refl, ap, ◌∙◌, sym, subst}
+use Rattle.std.specs.Prelude.{◌/◌, ◌*◌}
+use Rattle.std.specs.List.{All}
+use Rattle.std.specs.declared.option.Option.{Option}
+use Rattle.std.specs.declared.option.Option.TheVariants.{None, Some}
+use Rattle.std.proofs.lemmas.Bool.{false≢true}
+use Rattle.std.proofs.lemmas.List.Elements.{All-nil, All-cons, All-append}
+use Rattle.dm_link.specs.declared.Pid.{Pid}
+use Rattle.dm_link.specs.Names.{pid_of}
+use Rattle.dm_link.specs.Plain.{PlainLink}
+use Rattle.dm_message.specs.declared.MsgId.{MsgId}
+use Rattle.dm_message.specs.Ids.{id_of}
+use Rattle.dm_onekernel.specs.declared.boot.Boot.{Boot}
+use Rattle.dm_onekernel.specs.Boot.{IsValid, first_number, manager, switchboard}
+use Rattle.dm_onekernel.specs.PlainProcess.{PlainProcess}
+use Rattle.dm_onekernel.specs.Kernel.{Life, Alive, NamedLink, Pending}
+use Rattle.dm_onekernel.specs.Kernel as kernel
+use Rattle.dm_schedule.specs.declared.Step.{Step}
+use Rattle.dm_line.specs.declared.end_line.EndLine.{EndLine}
+use Rattle.dm_line.specs.declared.end_line.EndLine.TheVariants as end
+use Rattle.dm_line.specs.declared.end_line.Standing.{Standing}
+use Rattle.dm_line.specs.declared.end_line.Standing.TheVariants as standing
+use Rattle.dm_line.specs.Ends.{block_line, each_machine, home_with, list_line, memory_lines, trimmed}
+use Rattle.dm_line.specs.Todo.{or}
+use Rattle.dm_rule.specs.Addresses.{Addresses, Child, Name, Slot}
+use Rattle.dm_rule.specs.Ends.{Stood, alive_lines, awaits, child_lines, doing_of, each_process, end_lines, first_with, has, holding_lines, homes_with, inbox_lines, leading, link_lines, name_lines, pending_lines, process_lines, queue_at, queue_lines, server_lines, slot_line, state_lines, stood, stood_at, stream_lines}
+use Rattle.dm_rule.specs.Laws.{Leads}
+use Rattle.dm_rule.specs.Point.{Point, first_point}
+use Rattle.dm_rule.specs.Quiet.{IsQuiet}
+use Rattle.dm_rule.specs.Spots.{untaken}
+use Rattle.dm_rule.specs.View.{Known, View}
+use Rattle.dm_rule.specs.View as view
+use Rattle.dm_movelaws.specs.AtRest.{AtRest, is_moving}
+use Rattle.dm_movelaws.proofs.AtRestAlways.{at_rest_always}
+use Rattle.dm_settlelaws.specs.Laws.{EndsAtRest}
+use Rattle.dm_settlelaws.specs.Passes.{is_at_rest, stands_here}
+
+abbrev Rests : EndLine → Type 0
+Rests l = is_at_rest l ≡ true
+
+abbrev AllRest : List EndLine → Type 0
+AllRest ls = All Rests ls
+
+none : AllRest []
+none = All-nil Rests
+
+more : (l : EndLine) (ls : List EndLine) → Rests l → AllRest ls → AllRest (l ∷ ls)
+more l ls h k = All-cons Rests l ls h k
+
+both : (xs ys : List EndLine) → AllRest xs → AllRest ys → AllRest (xs ++ ys)
+both xs ys h k = All-append Rests xs ys h k
+
+machines_rest : (f : ℕ → List EndLine) (n : ℕ) → ((m : ℕ) → AllRest (f m)) → AllRest (each_machine f n)
+machines_rest f zero h = none
+machines_rest f (suc n) h = both (each_machine f n) (f n) (machines_rest f n h) (h n)
+
+home_rest : (f : Pid → List EndLine) (home n : ℕ) → ((p : Pid) → AllRest (f p)) → AllRest (home_with f home n)
+home_rest f home zero h = none
+home_rest f home (suc n) h = both (home_with f home n) (f (pid_of home (first_number + n))) (home_rest f home n h) (h (pid_of home (first_number + n)))
+
+homes_rest : (pt : Point) (f : Pid → List EndLine) (n : ℕ) → ((p : Pid) → AllRest (f p)) → AllRest (homes_with pt f n)
+homes_rest pt f zero h = none
+homes_rest pt f (suc home) h = both (homes_with pt f home) (home_with f home (pt.kernel.made home)) (homes_rest pt f home h) (home_rest f home (pt.kernel.made home) h)
+
+-- a list that is empty has no line
+empty_rests : (f : List MsgId → EndLine) (is : List MsgId) → is ≡ [] → AllRest (list_line f is)
+empty_rests f is e = subst (λ (xs : List MsgId). AllRest (list_line f xs)) (sym e) none
+
+-- processes
+block_rests : (p : Pid) (k : ℕ) (xs : List ℕ) → AllRest (block_line p k xs)
+block_rests p k [] = none
+block_rests p k (x ∷ xs) = more (end.Memory p k (record { items = x ∷ xs })) [] refl none
+
+memory_rests : (p : Pid) (bytes : List ℕ) (n : ℕ) → AllRest (memory_lines p bytes n)
+memory_rests p bytes zero = none
+memory_rests p bytes (suc k) = both (memory_lines p bytes k) (block_line p k (trimmed (take 256 (drop (256 * k) bytes)))) (memory_rests p bytes k) (block_rests p k (trimmed (take 256 (drop (256 * k) bytes))))
+
+slot_rests : (a : Addresses) (p : Pid) (k : ℕ) (o : Option PlainLink) → AllRest (slot_line a p k o)
+slot_rests a p k None = none
+slot_rests a p k (Some l) = more (end.Link p k (leading l (a (Slot p k)))) [] refl none
+
+links_rest : (a : Addresses) (p : Pid) (k : ℕ) (ls : List (Option PlainLink)) → AllRest (link_lines a p k ls)
+links_rest a p k [] = none
+links_rest a p k (l ∷ ls) = both (slot_line a p k l) (link_lines a p (k + 1) ls) (slot_rests a p k l) (links_rest a p (k + 1) ls)
+
+state_rests : (a : Addresses) (p : Pid) (x : PlainProcess) → AllRest (state_lines a p x)
+state_rests a p x =
+    let memory = memory_lines p x.memory (length x.memory / 256) in
+    both (end.Registers p x.regs.r x.regs.pc ∷ memory) (link_lines a p 0 x.links) (more (end.Registers p x.regs.r x.regs.pc) memory refl (memory_rests p x.memory (length x.memory / 256))) (links_rest a p 0 x.links)
+
+-- no machine waits for a process, so each stands where it is
+abbrev StandsHere : Option Stood → Type 0
+StandsHere o = (s : Stood) → o ≡ Some s → stands_here s.standing ≡ true
+
+had_here : (k : Known) (m : ℕ) → is_moving k ≡ false → StandsHere (stood_at m (has k))
+had_here view.Unknown m e s is = cc
+had_here view.Here m e s is =
+    let k : Stood = record { at = m; standing = standing.Here } in
+    let f : k ≡ s = cc in
+    subst (λ (x : Stood). stands_here x.standing ≡ true) f refl
+had_here (view.Frozen to) m e s is = absurd (false≢true (sym e))
+had_here (view.Incoming from) m e s is = cc
+had_here (view.Forward at moves) m e s is = cc
+had_here view.Ended m e s is = cc
+
+awaited_here : (k : Known) (m : ℕ) → is_moving k ≡ false → StandsHere (stood_at m (awaits k))
+awaited_here view.Unknown m e s is = cc
+awaited_here view.Here m e s is = cc
+awaited_here (view.Frozen to) m e s is = cc
+awaited_here (view.Incoming from) m e s is = absurd (false≢true (sym e))
+awaited_here (view.Forward at moves) m e s is = cc
+awaited_here view.Ended m e s is = cc
+
+or_here : (x y : Option Stood) → StandsHere x → StandsHere y → StandsHere (or x y)
+or_here None y h k s e = k s e
+or_here (Some x) y h k s e = h s e
+
+first_here : (f : Known → Option Standing) (v : View) (p : Pid) (n : ℕ) → ((m : ℕ) → StandsHere (stood_at m (f (v.known m p)))) → StandsHere (first_with f v p n)
+first_here f v p zero h s e = cc
+first_here f v p (suc n) h s e = or_here (first_with f v p n) (stood_at n (f (v.known n p))) (first_here f v p n h) (h n) s e
+
+stood_here : (pt : Point) (p : Pid) → AtRest pt → StandsHere (stood pt.view p pt.kernel.machines)
+stood_here pt p rest =
+    or_here (first_with has pt.view p pt.kernel.machines) (first_with awaits pt.view p pt.kernel.machines)
+    (first_here has pt.view p pt.kernel.machines (λ m. had_here (pt.view.known m p) m (rest.still m p)))
+    (first_here awaits pt.view p pt.kernel.machines (λ m. awaited_here (pt.view.known m p) m (rest.still m p)))
+
+alive_rests : (a : Addresses) (p : Pid) (x : PlainProcess) (o : Option Stood) → StandsHere o → AllRest (alive_lines a p x o)
+alive_rests a p x None h = none
+alive_rests a p x (Some s) h = more (end.Process p s.at s.standing (doing_of x.status) x.stopped x.sent) (state_lines a p x) (h s refl) (state_rests a p x)
+
+process_rests : (pt : Point) (p : Pid) (o : Option Life) → AtRest pt → AllRest (process_lines pt p o)
+process_rests pt p None rest = none
+process_rests pt p (Some (Alive x)) rest = alive_rests pt.addresses p x (stood pt.view p pt.kernel.machines) (stood_here pt p rest)
+process_rests pt p (Some (kernel.Ended because)) rest = more (end.Ended p because) [] refl none
+
+-- servers
+names_rest : (a : Addresses) (n : ℕ) (ks : List NamedLink) → AllRest (name_lines a n ks)
+names_rest a n [] = none
+names_rest a n (k ∷ ks) = more (end.Name (record { items = k.name }) (leading k.link (a (Name n)))) (name_lines a (n + 1) ks) refl (names_rest a (n + 1) ks)
+
+children_rest : (a : Addresses) (n : ℕ) (ps : List Pid) → AllRest (child_lines a n ps)
+children_rest a n [] = none
+children_rest a n (p ∷ ps) = more (end.Child n p (a (Child n)).at) (child_lines a (n + 1) ps) refl (children_rest a (n + 1) ps)
+
+pending_rest : (rs : List Pending) → AllRest (pending_lines rs)
+pending_rest [] = none
+pending_rest (r ∷ rs) = more (end.Pending (id_of manager r.n)) (pending_lines rs) refl (pending_rest rs)
+
+server_rest : (pt : Point) → AllRest (server_lines pt)
+server_rest pt =
+    let names = name_lines pt.addresses 0 pt.kernel.switchboard.names in
+    let children = child_lines pt.addresses 1 pt.kernel.manager.children in
+    let pending = pending_lines pt.kernel.manager.pending in
+    let first = end.Server switchboard pt.kernel.switchboard.sent in
+    let second = end.Server manager pt.kernel.manager.sent in
+    both ((first ∷ second ∷ names) ++ children) pending
+    (both (first ∷ second ∷ names) children (more first (second ∷ names) refl (more second names refl (names_rest pt.addresses 0 pt.kernel.switchboard.names))) (children_rest pt.addresses 1 pt.kernel.manager.children))
+    (pending_rest pt.kernel.manager.pending)
+
+-- queues
+list_rests : (f : List MsgId → EndLine) (is : List MsgId) → ((js : List MsgId) → Rests (f js)) → AllRest (list_line f is)
+list_rests f [] h = none
+list_rests f (i ∷ is) h = more (f (i ∷ is)) [] (h (i ∷ is)) none
+
+queue_rests : (v : View) (p : Pid) (o : Option Stood) → AllRest (queue_at v p o)
+queue_rests v p None = none
+queue_rests v p (Some s) = list_rests (end.Queue p) (v.queue s.at p) (λ js. refl)
+
+pub ends_rest : (pt : Point) → AtRest pt → AllRest (end_lines pt)
+ends_rest pt rest =
+    let n = pt.kernel.machines in
+    let processes = each_process pt (λ p. process_lines pt p (pt.kernel.processes p)) in
+    let groups = end.Groups pt.view.groups ∷ [] in
+    let servers = server_lines pt in
+    let queues = queue_lines pt in
+    let held = holding_lines pt in
+    let inboxes = inbox_lines pt in
+    let streams = stream_lines pt in
+    let start = end.Final ∷ processes in
+    both (start ++ servers ++ queues ++ held ++ inboxes ++ streams) groups
+    (both (start ++ servers ++ queues ++ held ++ inboxes) streams
+    (both (start ++ servers ++ queues ++ held) inboxes
+    (both (start ++ servers ++ queues) held
+    (both (start ++ servers) queues
+    (both start servers
+    (more end.Final processes refl (homes_rest pt (λ p. process_lines pt p (pt.kernel.processes p)) n (λ p. process_rests pt p (pt.kernel.processes p) rest)))
+    (server_rest pt))
+    (homes_rest pt (λ p. queue_at pt.view p (first_with has pt.view p n)) n (λ p. queue_rests pt.view p (first_with has pt.view p n))))
+    (machines_rest (λ m. each_process pt (λ p. list_line (end.Holding m p) (pt.view.held m p))) n
+    (λ m. homes_rest pt (λ p. list_line (end.Holding m p) (pt.view.held m p)) n (λ p. empty_rests (end.Holding m p) (pt.view.held m p) (rest.held m p)))))
+    (machines_rest (λ m. list_line (end.Inbox m) (pt.view.inbox m)) n (λ m. empty_rests (end.Inbox m) (pt.view.inbox m) (rest.inbox m))))
+    (machines_rest (λ a. each_machine (λ c. list_line (end.Stream a c) (untaken (pt.view.pair a c))) n) n
+    (λ a. machines_rest (λ c. list_line (end.Stream a c) (untaken (pt.view.pair a c))) n (λ c. empty_rests (end.Stream a c) (untaken (pt.view.pair a c)) (rest.untaken a c)))))
+    (more (end.Groups pt.view.groups) [] refl none)
+
+pub ends_at_rest : EndsAtRest
+ends_at_rest b es pt valid leads quiet = ends_rest pt (at_rest_always b es pt valid leads quiet)

@@ -1,0 +1,253 @@
+-- Where not all is quiet a pass of a settle has something to do.
+use Rattle.std.proofs.Common.{◌≡◌, ◌≢◌, ◌⊎◌, ℕ, zero, suc, ◌+◌, ◌<◌, ◌≤◌, ◌==◌, not, Bool, true, false, List, [], ◌∷◌, ◌++◌, length, nat_le, nat_lt, refl, ap, ◌∙◌, sym, subst, inl, inr, arith}
+use Rattle.std.specs.Prelude.{if◌then◌else◌}
+use Rattle.std.specs.declared.option.Option.{Option}
+use Rattle.std.specs.declared.option.Option.TheVariants.{None, Some}
+use Rattle.std.proofs.lemmas.Bool.{cases_Bool, false≢true}
+use Rattle.std.proofs.lemmas.Bool.Decides.{leb_tells, nat_tests}
+use Rattle.dm_message.specs.declared.MsgId.{MsgId}
+use Rattle.dm_onekernel.specs.declared.boot.Boot.{Boot}
+use Rattle.dm_onekernel.specs.Boot.{IsValid}
+use Rattle.dm_schedule.specs.declared.Directive.{Directive}
+use Rattle.dm_schedule.specs.declared.Step.{Step}
+use Rattle.dm_schedule.specs.declared.Step.TheVariants as step
+use Rattle.dm_line.specs.declared.line.Load.TheVariants as load
+use Rattle.dm_line.specs.declared.pass.Pass.{Pass}
+use Rattle.dm_line.specs.declared.pass.Pass.TheVariants.{Round, Settle}
+use Rattle.dm_line.specs.Todo.{Next, Todo, Two, all_of, begin_pass, below, here_or_later, in_pass, is_over, next, next_delivery, next_directive, next_pass, next_turn, or, pairs_of, pairs_with, pass_begun, settles, takes_turn}
+use Rattle.dm_rule.specs.Good.{first_undelivered, next_step, undelivered}
+use Rattle.dm_rule.specs.Laws.{Leads}
+use Rattle.dm_rule.specs.Pairs.{PairStands}
+use Rattle.dm_rule.specs.Point.{Point, first_point}
+use Rattle.dm_rule.specs.Quiet.{IsQuiet, has_mail, is_quiet}
+use Rattle.dm_rule.specs.View.{Pair, View}
+use Rattle.dm_rule.proofs.Pairs.{pairs_stand_always}
+use Rattle.dm_rule.proofs.QuietTests.{passes_quiet, quiet_passes}
+use Rattle.dm_rulelaws.proofs.BasedAlways.{based_always}
+use Rattle.dm_settlelaws.specs.Laws.{Settles, SettlesAlways}
+use Rattle.dm_settlelaws.specs.Passes.{IsSettleStep, SettleGoes}
+use Rattle.dm_settlelaws.specs.Rests.{HasCome, HasPacket, PairRests}
+use Rattle.dm_settlelaws.proofs.RestsAlways.{pairs_rest_always}
+use Rattle.dm_settlelaws.proofs.Wires.{all_come}
+
+-- what a pass of a settle finds is a step of one
+pub record Found (v : View) (t : Todo) (n : Next) : Type 0 where
+  pub step : IsSettleStep v n.step
+  pub pass : n.left.pass ≡ t.pass
+  pub behind : n.left.directives ≡ t.directives
+
+abbrev FoundBy : View → Todo → Option Next → Type 0
+FoundBy v t o = (n : Next) → o ≡ Some n → Found v t n
+
+abbrev IsDelivery : View → Option (Step × List Two) → Type 0
+IsDelivery v o = (d : Step × List Two) → o ≡ Some d → IsSettleStep v d.0
+
+here_delivery : (v : View) (p : Two) (ps : List Two) (o : Option ℕ) (later : Option (Step × List Two)) → undelivered v p.from p.to ≡ o → IsDelivery v later → IsDelivery v (here_or_later p ps o later)
+here_delivery v p ps None later is h d e = h d e
+here_delivery v p ps (Some k) later is h d e = let f : step.Deliver p.from p.to k ≡ d.0 = cc in subst (IsSettleStep v) f is
+
+pub delivery_found : (v : View) (ps : List Two) → IsDelivery v (next_delivery (undelivered v) ps)
+delivery_found v [] d e = cc
+delivery_found v (p ∷ ps) d e = here_delivery v p ps (undelivered v p.from p.to) (next_delivery (undelivered v) ps) refl (delivery_found v ps) d e
+
+turn_or : (v : View) (t : Todo) (m : ℕ) (ms : List ℕ) (b : Bool) (o : Option Next) → has_mail v m ≡ b → FoundBy v t o → FoundBy v t (if b then next (step.Turn m) (record t { pairs = []; machines = ms }) else o)
+turn_or v t m ms false o is h n e = h n e
+turn_or v t m ms true o is h n e =
+    let k : Next = record { step = step.Turn m; left = record t { pairs = []; machines = ms } } in
+    let f : k ≡ n = cc in
+    subst (Found v t) f (record { step = is; pass = refl; behind = refl })
+
+turn_found : (v : View) (t : Todo) (ms : List ℕ) → FoundBy v t (next_turn (has_mail v) t ms)
+turn_found v t [] n e = cc
+turn_found v t (m ∷ ms) n e = turn_or v t m ms (has_mail v m) (next_turn (has_mail v) t ms) refl (turn_found v t ms) n e
+
+in_found : (v : View) (t : Todo) (o : Option (Step × List Two)) → t.pass ≡ Settle → IsDelivery v o → FoundBy v t (in_pass (has_mail v) t o)
+in_found v t None is h n e =
+    turn_found v t t.machines n (ap (λ (p : Pass). next_turn (takes_turn p (has_mail v)) t t.machines) (sym is) ∙ e)
+in_found v t (Some d) is h n e =
+    let k : Next = record { step = d.0; left = record t { pairs = d.1 } } in
+    let f : k ≡ n = cc in
+    subst (Found v t) f (record { step = h d refl; pass = refl; behind = refl })
+
+-- a list has a machine
+abbrev Has : ℕ → List ℕ → Type 0
+Has m [] = ⊥
+Has m (x ∷ xs) = (x ≡ m) ⊎ Has m xs
+
+has_left : (m : ℕ) (xs ys : List ℕ) → Has m xs → Has m (xs ++ ys)
+has_left m [] ys h = absurd h
+has_left m (x ∷ xs) ys (inl e) = inl e
+has_left m (x ∷ xs) ys (inr h) = inr (has_left m xs ys h)
+
+has_end : (m : ℕ) (xs : List ℕ) → Has m (xs ++ m ∷ [])
+has_end m [] = inl refl
+has_end m (x ∷ xs) = inr (has_end m xs)
+
+has_below : (m n : ℕ) → m < n → Has m (below n)
+has_below m zero h = absurd (omega (arith, h))
+has_below m (suc n) h = elim (leb_tells (suc m) n) [
+  | inl e ↦ has_left m (below n) (n ∷ []) (has_below m n e.1)
+  | inr e ↦ let last : n ≡ m = (let x = e.1 in omega (arith, h, x)) in subst (λ (k : ℕ). Has k (below n ++ n ∷ [])) last (has_end n (below n))
+]
+
+-- no delivery of some pairs
+none_here : (p : Two) (ps : List Two) (o : Option ℕ) (later : Option (Step × List Two)) → here_or_later p ps o later ≡ None → (o ≡ None) × (later ≡ None)
+none_here p ps None later e = (refl, e)
+none_here p ps (Some k) later e = cc
+
+none_two : (first : ℕ → ℕ → Option ℕ) (ps qs : List Two) → next_delivery first (ps ++ qs) ≡ None → (next_delivery first ps ≡ None) × (next_delivery first qs ≡ None)
+none_two first [] qs e = (refl, e)
+none_two first (p ∷ ps) qs e =
+    let x = none_here p (ps ++ qs) (first p.from p.to) (next_delivery first (ps ++ qs)) e in
+    let y = none_two first ps qs x.1 in
+    (ap (λ (o : Option ℕ). here_or_later p ps o (next_delivery first ps)) x.0 ∙ y.0, y.1)
+
+none_with_by : (first : ℕ → ℕ → Option ℕ) (a c x : ℕ) (xs : List ℕ) (b : Bool) → (a == x) ≡ b → a ≢ c → next_delivery first (if b then pairs_with a xs else record { from = a; to = x } ∷ pairs_with a xs) ≡ None → (x ≡ c) ⊎ Has c xs
+    → (next_delivery first (pairs_with a xs) ≡ None → Has c xs → first a c ≡ None) → first a c ≡ None
+none_with_by first a c x xs true is apart e (inl same) more = absurd (apart (let f : a ≡ x = grind (arith, nat_tests) in f ∙ same))
+none_with_by first a c x xs true is apart e (inr h) more = more e h
+none_with_by first a c x xs false is apart e (inl same) more =
+    let k = none_here (record { from = a; to = x }) (pairs_with a xs) (first a x) (next_delivery first (pairs_with a xs)) e in subst (λ (j : ℕ). first a j ≡ None) same k.0
+none_with_by first a c x xs false is apart e (inr h) more = more (none_here (record { from = a; to = x }) (pairs_with a xs) (first a x) (next_delivery first (pairs_with a xs)) e).1 h
+
+none_with : (first : ℕ → ℕ → Option ℕ) (a c : ℕ) (xs : List ℕ) → a ≢ c → next_delivery first (pairs_with a xs) ≡ None → Has c xs → first a c ≡ None
+none_with first a c [] apart e h = absurd h
+none_with first a c (x ∷ xs) apart e h = none_with_by first a c x xs (a == x) refl apart e h (λ f g. none_with first a c xs apart f g)
+
+none_of : (first : ℕ → ℕ → Option ℕ) (a c : ℕ) (xs ys : List ℕ) → a ≢ c → next_delivery first (pairs_of xs ys) ≡ None → Has a xs → Has c ys → first a c ≡ None
+none_of first a c [] ys apart e h g = absurd h
+none_of first a c (x ∷ xs) ys apart e (inl same) g =
+    subst (λ (j : ℕ). first j c ≡ None) same
+    (none_with first x c ys (λ f. apart (sym same ∙ f)) (none_two first (pairs_with x ys) (pairs_of xs ys) e).0 g)
+none_of first a c (x ∷ xs) ys apart e (inr h) g = none_of first a c xs ys apart (none_two first (pairs_with x ys) (pairs_of xs ys) e).1 h g
+
+-- no turn of some machines
+no_turn_by : (takes : ℕ → Bool) (t : Todo) (m x : ℕ) (xs : List ℕ) (b : Bool) → takes x ≡ b → (if b then next (step.Turn x) (record t { pairs = []; machines = xs }) else next_turn takes t xs) ≡ None → (x ≡ m) ⊎ Has m xs
+    → (next_turn takes t xs ≡ None → Has m xs → takes m ≡ false) → takes m ≡ false
+no_turn_by takes t m x xs true is e h more = cc
+no_turn_by takes t m x xs false is e (inl same) more = subst (λ (j : ℕ). takes j ≡ false) same is
+no_turn_by takes t m x xs false is e (inr h) more = more e h
+
+pub no_turn : (takes : ℕ → Bool) (t : Todo) (m : ℕ) (xs : List ℕ) → next_turn takes t xs ≡ None → Has m xs → takes m ≡ false
+no_turn takes t m [] e h = absurd h
+no_turn takes t m (x ∷ xs) e h = no_turn_by takes t m x xs (takes x) refl e h (λ f g. no_turn takes t m xs f g)
+
+-- a pass that begins and finds nothing
+nothing_in : (mail : ℕ → Bool) (t : Todo) (o : Option (Step × List Two)) → in_pass mail t o ≡ None → (o ≡ None) × (next_turn (takes_turn t.pass mail) t t.machines ≡ None)
+nothing_in mail t None e = (refl, e)
+nothing_in mail t (Some d) e = cc
+
+-- a pair that has done its part, and whose packets were all delivered, is at rest
+pub record AllThere (p : Pair) : Type 0 where
+  pub taken : p.taken ≡ length p.ids
+  pub acked : p.acked ≡ length p.ids
+
+not_less : (m n : ℕ) → m ≤ n → (m < n → ⊥) → m ≡ n
+not_less m n h k = elim (leb_tells (suc m) n) [
+  | inl e ↦ absurd (k e.1)
+  | inr e ↦ let x = e.1 in omega (arith, h, x)
+]
+
+pub all_there : (p q : Pair) → PairStands p q → PairRests p q → first_undelivered 0 p.wire ≡ None → first_undelivered 0 q.wire ≡ None → AllThere p
+all_there p q s r out back =
+    let taken : p.taken ≡ p.gone = not_less p.taken p.gone s.taken
+        (λ less_. elim (r.there p.taken (all_come p.wire 0 (load.Data p.taken) out (r.sent p.taken less_))) [ inl t ↦ omega (arith, t) | inr kept ↦ false≢true (sym r.next ∙ kept) ]) in
+    let heard : p.taken ≤ p.acked = elim r.answered [
+      | inl z ↦ omega (arith, z)
+      | inr a ↦ r.heard p.taken (all_come q.wire 0 (load.Ack p.taken) back a)
+    ] in
+    let under = s.acked in
+    let all : p.gone ≡ length p.ids = elim r.gone [ inl e ↦ e | inr e ↦ absurd (omega (arith, e, taken, heard)) ] in
+    record { taken = taken ∙ all; acked = omega (arith, heard, under, taken, all) }
+
+no_mail : {X : Type 0} (xs : List X) → nat_lt 0 (length xs) ≡ false → xs ≡ []
+no_mail [] e = refl
+no_mail (x ∷ xs) e = absurd (some (length xs) e)
+  where
+    some : (n : ℕ) → nat_lt 0 (suc n) ≡ false → ⊥
+    some n e = grind (arith, nat_tests)
+
+-- so all is quiet where it finds nothing
+pub nothing_quiet : (b : Boot) (es : List Step) (pt : Point) (ds : List Directive) (n : ℕ) → Leads b (first_point b) es pt → begin_pass n (undelivered pt.view) (has_mail pt.view) Settle ds ≡ None → IsQuiet n pt.view
+nothing_quiet b es pt ds n leads e =
+    let v = pt.view in
+    let k = nothing_in (has_mail v) (pass_begun n Settle ds) (next_delivery (undelivered v) (pairs_of (below n) (below n))) e in
+    let there = λ (a c : ℕ) (h : a < n) (g : c < n) (apart : a ≢ c).
+        all_there (v.pair a c) (v.pair c a) (pairs_stand_always b es pt a c leads apart).0 (pairs_rest_always b es pt a c leads apart)
+        (none_of (undelivered v) a c (below n) (below n) apart k.0 (has_below a n h) (has_below c n g)) (none_of (undelivered v) c a (below n) (below n) (λ same. apart (sym same)) k.0 (has_below c n g) (has_below a n h)) in
+    let home = λ (a : ℕ). (pairs_stand_always b es pt a (suc a) leads (λ same. absurd (let f : a < a = omega (arith, same) in omega (arith, f)))).1 in
+    record {
+      taken = λ a c h g. by v a c (a == c) refl (λ apart. (there a c h g apart).taken) (home a).taken;
+      acked = λ a c h g apart. (there a c h g apart).acked;
+      inbox = λ m h. no_mail (v.inbox m) (no_turn (has_mail v) (pass_begun n Settle ds) m (below n) k.1 (has_below m n h));
+    }
+  where
+    by : (v : View) (a c : ℕ) (same : Bool) → (a == c) ≡ same → (a ≢ c → (v.pair a c).taken ≡ length (v.pair a c).ids) → (v.pair a a).taken ≡ length (v.pair a a).ids → (v.pair a c).taken ≡ length (v.pair a c).ids
+    by v a c true e apart home = let is : a ≡ c = grind (arith, nat_tests) in subst (λ (k : ℕ). (v.pair a k).taken ≡ length (v.pair a k).ids) is home
+    by v a c false e apart home = apart (let ne : a ≢ c = grind (arith, nat_tests) in ne)
+
+-- where not all is quiet a pass that begins finds something
+pub record Begins (n : ℕ) (v : View) (ds : List Directive) : Type 0 where
+  pub next : Next
+  pub is : begin_pass n (undelivered v) (has_mail v) Settle ds ≡ Some next
+  pub found : Found v (pass_begun n Settle ds) next
+
+begins_by : (n : ℕ) (v : View) (ds : List Directive) (o : Option Next) → begin_pass n (undelivered v) (has_mail v) Settle ds ≡ o → (o ≡ None → IsQuiet n v) → is_quiet n v ≡ false → Begins n v ds
+begins_by n v ds None e quiet not_ = absurd (false≢true (sym not_ ∙ quiet_passes n v (quiet refl)))
+begins_by n v ds (Some k) e quiet not_ = record {
+  next = k;
+  is = e;
+  found = in_found v (pass_begun n Settle ds) (next_delivery (undelivered v) (pairs_of (below n) (below n))) refl (delivery_found v (pairs_of (below n) (below n))) k e;
+}
+
+pub settle_begins : (b : Boot) (es : List Step) (pt : Point) (ds : List Directive) (n : ℕ) → Leads b (first_point b) es pt → is_quiet n pt.view ≡ false → Begins n pt.view ds
+settle_begins b es pt ds n leads not_ =
+    begins_by n pt.view ds (begin_pass n (undelivered pt.view) (has_mail pt.view) Settle ds) refl (nothing_quiet b es pt ds n leads) not_
+
+-- in the midst of a settle
+over_by : (n : ℕ) (v : View) (t : Todo) (p : Pass) → t.pass ≡ p → p ≡ Settle → is_quiet n v ≡ true → next_step n v t ≡ next_step n v (all_of t.directives)
+over_by n v t p is settle quiet =
+    let here = in_pass (has_mail v) t (next_delivery (undelivered v) t.pairs) in
+    let begin = begin_pass n (undelivered v) (has_mail v) Settle t.directives in
+    let behind = next_directive n (undelivered v) (has_mail v) (is_quiet n v) t.directives in
+    ap (λ (q : Pass). or (if is_over q (is_quiet n v) then None else here) (next_pass n (undelivered v) (has_mail v) (is_quiet n v) q t.directives)) (is ∙ settle)
+    ∙ ap (λ (q : Bool). or (if q then None else here) (settles q begin behind)) quiet
+
+goes_by : (n : ℕ) (v : View) (t : Todo) (o : Option Next) → t.pass ≡ Settle → in_pass (has_mail v) t (next_delivery (undelivered v) t.pairs) ≡ o → is_quiet n v ≡ false → Begins n v t.directives → SettleGoes n v t
+goes_by n v t o is here not_ begin = pick o here
+  where
+    unfolds : (n : ℕ) (v : View) (t : Todo) (o : Option Next) → t.pass ≡ Settle → in_pass (has_mail v) t (next_delivery (undelivered v) t.pairs) ≡ o → is_quiet n v ≡ false
+        → next_step n v t ≡ or o (or (begin_pass n (undelivered v) (has_mail v) Settle t.directives) (next_directive n (undelivered v) (has_mail v) (is_quiet n v) t.directives))
+    unfolds n v t o is here not_ =
+        let found = in_pass (has_mail v) t (next_delivery (undelivered v) t.pairs) in
+        let first = begin_pass n (undelivered v) (has_mail v) Settle t.directives in
+        let behind = next_directive n (undelivered v) (has_mail v) (is_quiet n v) t.directives in
+        ap (λ (q : Pass). or (if is_over q (is_quiet n v) then None else found) (next_pass n (undelivered v) (has_mail v) (is_quiet n v) q t.directives)) is
+        ∙ ap (λ (q : Bool). or (if q then None else found) (settles q first behind)) not_
+        ∙ ap (λ (x : Option Next). or x (or first behind)) here
+    pick : (o : Option Next) → in_pass (has_mail v) t (next_delivery (undelivered v) t.pairs) ≡ o → SettleGoes n v t
+    pick None e =
+        record {
+          next = begin.next;
+          is = unfolds n v t None is e not_ ∙ ap (λ (x : Option Next). or x (next_directive n (undelivered v) (has_mail v) (is_quiet n v) t.directives)) begin.is;
+          step = begin.found.step;
+          pass = begin.found.pass;
+          behind = begin.found.behind;
+        }
+    pick (Some k) e =
+        let f = in_found v t (next_delivery (undelivered v) t.pairs) is (delivery_found v t.pairs) k e in
+        record { next = k; is = unfolds n v t (Some k) is e not_; step = f.step; pass = f.pass ∙ is; behind = f.behind }
+
+pub settles_always : SettlesAlways
+settles_always b es pt t valid leads is =
+    let n = pt.kernel.machines in
+    record {
+      over = λ q. over_by n pt.view t t.pass refl is (quiet_passes n pt.view q);
+      goes = λ not_.
+          let e : is_quiet n pt.view ≡ false = no_quiet n pt.view (is_quiet n pt.view) refl not_ in
+          goes_by n pt.view t (in_pass (has_mail pt.view) t (next_delivery (undelivered pt.view) t.pairs)) is refl e (settle_begins b es pt t.directives n leads e);
+    }
+  where
+    no_quiet : (n : ℕ) (v : View) (q : Bool) → is_quiet n v ≡ q → (IsQuiet n v → ⊥) → is_quiet n v ≡ false
+    no_quiet n v true e h = absurd (h (passes_quiet n v e))
+    no_quiet n v false e h = e

@@ -1,0 +1,5 @@
+use Rattle.dm_settlelaws.proofs.EndsQuiet.{ends_quiet}
+use Rattle.dm_settlelaws.proofs.laws.ends_quiet.Goals as goal
+
+pub returns : goal.returns
+returns c = ends_quiet
