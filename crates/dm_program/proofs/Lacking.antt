@@ -36,7 +36,7 @@ lacks_meets asked faults (Some (Run boot schedule)) o shelf lack h nothing = rec
 }
 
 -- no words of a command
-pub no_request : {F : Type 0} (asked : F → List ℕ → F → Type 0) (faults : F → ℕ) (r : Option Request) (o : Outside) (shelf : F) (no : WordsNo) → Untouched o → ((name : List ℕ) → asked shelf name shelf) → (no ≡ why.Usage → r ≡ None) → ProgramMeets asked faults r o shelf shelf (status_of_no no)
+pub no_request : {F : Type 0} (asked : F → List ℕ → F → Type 0) (faults : F → ℕ) (r : Option Request) (o : Outside) (shelf : F) (reason : WordsNo) → Untouched o → ((name : List ℕ) → asked shelf name shelf) → (reason ≡ why.Usage → r ≡ None) → ProgramMeets asked faults r o shelf shelf (status_of_no reason)
 no_request asked faults r o shelf why.Usage h nothing usage =
     subst (λ (x : Option Request). ProgramMeets asked faults x o shelf shelf Usage) (sym (usage refl)) (record { why = inl refl; unread = refl; nothing = h.told; unfailed = h.writes; no_world = h.no_world })
 no_request asked faults r o shelf (why.NoMemory lack) h nothing usage = lacks_meets asked faults r o shelf lack h nothing

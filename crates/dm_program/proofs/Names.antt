@@ -60,7 +60,7 @@ pub both_found : (f : Found) (boot schedule : Option Text) → boot ≡ first_va
 both_found f boot schedule b s = sym (ap₂ both (b ∙ first_value-rows f (codes "boot")) (s ∙ first_value-rows f (codes "schedule")))
 
 -- what is asked for by the name and the matches of the subcommand that was used
-pub used_rows : {B : Type 0} (name : B → Text) (rows : B → List Row) (o : Option B) (n : Text) (rs : List Row) → Some n ≡ option_map name o → Some rs ≡ option_map (λ p. p.1) (option_map (λ b. (name b, rows b)) o) → option_and_then request_at (option_map (λ b. (name b, rows b)) o) ≡ request_at (n, rs)
+pub used_rows : {B : Type 0} (name : B → Text) (rows : B → List Row) (o : Option B) (n : Text) (rs : List Row) → Some n ≡ option_map name o → Some rs ≡ option_map (λ (p : Text × List Row). p.1) (option_map (λ b. (name b, rows b)) o) → option_and_then request_at (option_map (λ b. (name b, rows b)) o) ≡ request_at (n, rs)
 used_rows name rows None n rs e f = cc
 used_rows name rows (Some b) n rs e f =
     let one : n ≡ name b = cc in

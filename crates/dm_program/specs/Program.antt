@@ -33,8 +33,8 @@ ProgramMeets asked faults None o old new s = RefusesWords o old new s
 ProgramMeets asked faults (Some (Run boot schedule)) o old new s = RunMeets asked faults boot schedule o old new s
 
 -- there are no words: nothing is read or written, and there is no world
-pub record HasNoWords {F K : Type 0} (no : WordsNo) (shelf shelf' : F) (sink sink' : K) (world : Option World) (s : Status) : Type 0 where
-  pub why : s ≡ status_of_no no
+pub record HasNoWords {F K : Type 0} (reason : WordsNo) (shelf shelf' : F) (sink sink' : K) (world : Option World) (s : Status) : Type 0 where
+  pub why : s ≡ status_of_no reason
   pub unread : shelf' ≡ shelf
   pub unwritten : sink' ≡ sink
   pub no_world : world ≡ None
@@ -43,7 +43,7 @@ pub record HasNoWords {F K : Type 0} (no : WordsNo) (shelf shelf' : F) (sink sin
 abbrev pub GivenMeets : {F K : Type 0} → (F → List ℕ → F → Type 0) → (F → Option (List ℕ → Option (List ℕ))) → (F → ℕ) → (K → Option (List ℕ)) → (K → ℕ) → Result (Vec (String Global) Global) WordsNo → F → F → K → K → Option World → Status → Type 0
 GivenMeets asked files reads told writes (Ok words) shelf shelf' sink sink' world s =
     ProgramMeets asked reads (request_of (map string_bytes words.items)) (around files reads told writes shelf shelf' sink sink' world) shelf shelf' s
-GivenMeets asked files reads told writes (Err no) shelf shelf' sink sink' world s = HasNoWords no shelf shelf' sink sink' world s
+GivenMeets asked files reads told writes (Err reason) shelf shelf' sink sink' world s = HasNoWords reason shelf shelf' sink sink' world s
 
 -- the program has ended with a status: its line was offered to standard error, and its number is the program's
 pub record Finishes {F K E : Type 0} (asked : F → List ℕ → F → Type 0) (files : F → Option (List ℕ → Option (List ℕ))) (reads : F → ℕ) (told : K → Option (List ℕ)) (writes : K → ℕ) (said : E → Option (List ℕ)) (failed : E → ℕ)

@@ -12,6 +12,7 @@ returns-in-Ok-texts-clause-meets g c =
     rw c.in-Ok.is (subst (λ (w : List (List ℕ)). ProgramMeets g.F.Shelf.asked g.F.Shelf.faults (request_of w)
     (around g.F.Shelf.told g.F.Shelf.faults g.K.Sink.told g.K.Sink.faults c.args.shelf.now c.run_program.new.shelf c.args.out.now c.run_program.new.out c.run_program.new.world) c.args.shelf.now c.run_program.new.shelf c.run_program.result) e c.run_program.ensures.meets)
 
-pub returns-in-Ok-Err-clause-meets : goal.returns-in-Ok-Err-clause-meets
-returns-in-Ok-Err-clause-meets g c =
-    rw c.in-Ok.is (lacks_meets g.F.Shelf.asked g.F.Shelf.faults (request_of (map string_bytes c.in-Ok.words.items)) _ c.args.shelf.now c.in-Ok-Err.no (record { told = refl; reads = refl; writes = refl; no_world = refl }) (g.F.Shelf.asks_nothing c.args.shelf.now))
+pub returns-in-Ok-clause-meets : goal.returns-in-Ok-clause-meets
+returns-in-Ok-clause-meets g c =
+    let nothing : (name : List ℕ) → g.F.Shelf.asked c.args.shelf.now name c.args.shelf.now = λ name. search rules in
+    rw c.in-Ok.is (lacks_meets g.F.Shelf.asked g.F.Shelf.faults (request_of (map string_bytes c.in-Ok.words.items)) _ c.args.shelf.now c.in-Err-texts.no (record { told = refl; reads = refl; writes = refl; no_world = refl }) nothing)
