@@ -1,4 +1,4 @@
--- Each elementary directive counts as one, and not too many are left of a directive.
+-- Each elementary directive counts as one.
 use Rattle.std.proofs.Common.{◌≡◌, ◌≤◌, ◌<◌, ℕ, zero, suc, ◌+◌, ◌*◌, ◌^◌, List, [], ◌∷◌, ap, sym, arith}
 use Rattle.std.specs.declared.option.Option.{Option}
 use Rattle.std.specs.declared.option.Option.TheVariants.{None, Some}
@@ -18,10 +18,6 @@ use Rattle.dm_line.specs.declared.line.Line.TheVariants as line
 use Rattle.dm_stream.specs.Packets.{Data, Ack}
 use Rattle.dm_node.specs.Out.{Acts, Goes, Worn}
 use Rattle.dm_node.specs.Acts as node
-use Rattle.dm_world.specs.declared.cursor.Cursor.{Cursor}
-use Rattle.dm_world.specs.declared.cursor.Stage.{Stage}
-use Rattle.dm_world.specs.declared.cursor.Stage.TheVariants.{One, Packets, Turns, Between}
-use Rattle.dm_world.specs.Cursor.{sum_below, room_of, room, turns_at, left}
 use Rattle.dm_world.specs.Meets.{MeetsSome, IsWornOut}
 use Rattle.dm_world.specs.World.{WorldState, Said, Happened, Says, WornOut, acted, turned, delivers, reads, world_step}
 
@@ -56,27 +52,3 @@ happens w lines (Some x) h = ap Some (sym h.happened)
 pub worn_out : (from to : ℕ) (o : Option Happened) → IsWornOut from to o → o ≡ Some (WornOut from to)
 worn_out from to None h = absurd h
 worn_out from to (Some x) h = ap Some (sym h)
-
--- a sum of so many numbers, each at most m
-sum_most : (f : ℕ → ℕ) (n m : ℕ) → ((k : ℕ) → f k ≤ m) → sum_below f n ≤ n * m
-sum_most f zero m h = omega arith
-sum_most f (suc n) m h = let k = sum_most f n m h in let l = h n in grind arith
-
-times_most : (n r : ℕ) → n ≤ 16 → n * r ≤ 16 * r
-times_most n r h = grind arith
-
-room_most : (n : ℕ) (w : WorldState) → n ≤ 16 → room n w ≤ 2 ^ 72
-unfolding room
-room_most n w h =
-    let inner : (a : ℕ) → sum_below (λ c. room_of w a c) n ≤ 2 ^ 68 = (λ a. let k = sum_most (λ c. room_of w a c) n (2 ^ 64) (λ c. omega arith) in omega (arith, k, h)) in
-    let k = sum_most (λ a. sum_below (λ c. room_of w a c) n) n (2 ^ 68) inner in
-    omega (arith, k, h)
-
-turns_most : (n : ℕ) (s : Stage) (rounds : ℕ) → n ≤ 16 → rounds < 2 ^ 32 → turns_at n s rounds ≤ 2 ^ 40
-turns_most n (One e) rounds h k = omega arith
-turns_most n (Packets from to) rounds h k = let m = times_most n rounds h in omega (arith, m, h, k)
-turns_most n (Turns m) rounds h k = let t = times_most n rounds h in omega (arith, t, h, k)
-turns_most n Between rounds h k = let m = times_most n rounds h in omega (arith, m, h, k)
-
-pub left_most : (n : ℕ) (w : WorldState) (c : Cursor) → n ≤ 16 → c.rounds < 2 ^ 32 → left n w c ≤ 2 ^ 80
-left_most n w c h k = let r = room_most n w h in let t = turns_most n c.stage c.rounds h k in omega (arith, r, t)

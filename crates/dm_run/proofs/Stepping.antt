@@ -20,7 +20,7 @@ use Rattle.dm_schedule.specs.declared.Directive.{Directive}
 use Rattle.dm_schedule.specs.declared.Directive.TheVariants as directive
 use Rattle.dm_line.specs.Todo.{Todo, Next, all_of}
 use Rattle.dm_world.specs.declared.cursor.Cursor.{Cursor}
-use Rattle.dm_world.specs.Cursor.{Falls, NextIs, left, todo_of}
+use Rattle.dm_world.specs.Cursor.{NextIs, todo_of}
 use Rattle.dm_world.specs.May.{MayStep}
 use Rattle.dm_world.specs.Next.{next_step}
 use Rattle.dm_world.specs.World.{WorldState}
@@ -53,18 +53,8 @@ may_on a b d ds rest before start now first w c next e valid same come follows h
     subst (λ (x : Boot). MayStep x w e) (sym same)
     (may_go b ds (todo_of (length b.machines) c rest) before now w (record { step = e; left = todo_of (length b.machines) next rest }) valid (come ds rest before h) (f rest))
 
-pub falls_on : (a b : Boot) (w u : WorldState) (c next : Cursor) (e : Step) → a ≡ b → IsAfter a w e u → Falls (length a.machines) w c e next → left (length b.machines) u next < left (length b.machines) w c
-falls_on a b w u c next e same after falls =
-    subst (λ (x : Boot). left (length x.machines) u next < left (length x.machines) w c) same (falls a (record { state = u; lines = after.lines }) after.happens)
-
 pub one_group_more : (a : Boot) (w u : WorldState) (e : Step) → IsAfter a w e u → u.groups ≡ w.groups + 1
 one_group_more a w u e after = counts a w e (record { state = u; lines = after.lines }) after.happens
-
-pub few_machines : (b : Boot) → IsValid b → length b.machines ≤ 16
-few_machines b valid = most (length b.machines) valid.few_machines
-  where
-    most : (n : ℕ) → nat_le n 16 ≡ true → n ≤ 16
-    most n e = grind (arith, nat_tests)
 
 -- a group came to no end
 abbrev pub Stops : Boot → WorldState → World → Option (List ℕ) → Option (List ℕ) → Step → Stop → Type 0
@@ -122,6 +112,7 @@ directive_for : (machines : ℕ) (d : Directive) → IsFor machines d → IsDire
 directive_for machines (directive.One s) h = h
 directive_for machines directive.Round h = tt
 directive_for machines (directive.Spin k) h = tt
+directive_for machines directive.Settle h = tt
 
 pub are_directives : (machines : ℕ) (ds : List Directive) → All (IsFor machines) ds → All (IsDirective machines) ds
 are_directives machines [] h = All-nil (IsDirective machines)

@@ -31,6 +31,7 @@ abbrev pub IsFor : ℕ → Directive → Type 0
 IsFor machines (directive.One s) = IsStep machines s
 IsFor machines directive.Round = ⊤
 IsFor machines (directive.Spin n) = (1 ≤ n) × (n ≤ 65536)
+IsFor machines directive.Settle = ⊤
 
 -- good groups were printed, and the world stands for them; each line fits, and their text was appended; what is left to do
 -- begins like this

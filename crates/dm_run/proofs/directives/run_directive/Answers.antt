@@ -2,23 +2,22 @@ use Rattle.std.proofs.Common.{◌∷◌, length, refl, sym, ◌∙◌, arith}
 use Rattle.dm_line.specs.Todo.{all_of}
 use Rattle.dm_world.specs.Cursor.{todo_of}
 use Rattle.dm_world.specs.Meets.{state_of}
-use Rattle.dm_world.specs.Next.{undelivered}
+use Rattle.dm_world.specs.Next.{has_mail, is_quiet, undelivered}
 use Rattle.dm_run.proofs.Comes.{comes_as}
-use Rattle.dm_run.proofs.Counted.{left_most}
-use Rattle.dm_run.proofs.Stepping.{blames_err, brings_on, came_err, falls_on, few_machines, may_on, none_on, one_group_more, stops_on}
+use Rattle.dm_run.proofs.Stepping.{blames_err, brings_on, came_err, may_on, none_on, one_group_more, stops_on}
 use Rattle.dm_run.proofs.directives.run_directive.Goals as goal
 
 pub steps-init : goal.steps-init
-steps-init g c =
-    let most = left_most (length c.args.world.now.boot.machines) (state_of c.args.world.now) c.new-cursor.result (few_machines c.args.world.now.boot c.requires.world.valid) c.rounds_fit.ensures in
-    record {
-      world = c.requires.world;
-      running = c.requires.running;
-      boot = refl;
-      come = λ ds rest before h. comes_as c.args.world.now.boot ds (all_of (c.args.directive.now ∷ rest)) (todo_of (length c.args.world.now.boot.machines) c.new-cursor.result rest) before (g.K.Sink.told c.args.out.now) (state_of c.args.world.now) h (sym (c.new-cursor.ensures (length c.args.world.now.boot.machines) (undelivered (state_of c.args.world.now)) rest));
-      groups = omega (arith, most);
-      steady = refl;
-    }
+steps-init g c = record {
+  world = c.requires.world;
+  running = c.requires.running;
+  boot = refl;
+  come = λ ds rest before h. comes_as c.args.world.now.boot ds (all_of (c.args.directive.now ∷ rest)) (todo_of (length c.args.world.now.boot.machines) c.new-cursor.result rest) before (g.K.Sink.told c.args.out.now) (state_of c.args.world.now) h
+      (sym (c.new-cursor.ensures (length c.args.world.now.boot.machines) (undelivered (state_of c.args.world.now)) (has_mail (state_of c.args.world.now)) (is_quiet (length c.args.world.now.boot.machines) (state_of c.args.world.now)) rest));
+  counted = c.requires.counted;
+  within = c.requires.within;
+  steady = refl;
+}
 
 pub one_group-requires-clause-may : goal.one_group-requires-clause-may
 one_group-requires-clause-may g c =
@@ -27,7 +26,6 @@ one_group-requires-clause-may g c =
 
 pub steps-preserved : goal.steps-preserved
 steps-preserved g c =
-    let fewer = falls_on c.steps.world.boot c.args.world.now.boot (state_of c.steps.world) (state_of c.one_group.new.world) c.steps.cursor c.in-Some.next c.in-Some.step c.steps.invariant.boot c.in_ok-one_group.ensures.after c.in-Some.ensures.falls in
     let more = one_group_more c.steps.world.boot (state_of c.steps.world) (state_of c.one_group.new.world) c.in-Some.step c.in_ok-one_group.ensures.after in
     record {
       world = c.in_ok-one_group.ensures.world;
@@ -35,13 +33,10 @@ steps-preserved g c =
       boot = c.in_ok-one_group.ensures.boot ∙ c.steps.invariant.boot;
       come = brings_on c.steps.world.boot c.args.world.now.boot c.args.directive.now (state_of c.args.world.now) (state_of c.steps.world) (state_of c.one_group.new.world) (g.K.Sink.told c.args.out.now) (g.K.Sink.told c.steps.out) (g.K.Sink.told c.one_group.new.out) c.steps.cursor c.in-Some.next c.in-Some.step
           c.steps.invariant.boot c.steps.invariant.come c.in-Some.ensures.next c.in_ok-one_group.ensures.came;
-      groups = omega (arith, fewer, more, c.steps.invariant.groups);
+      counted = omega (arith, more, c.steps.invariant.counted);
+      within = omega arith;
       steady = c.in_ok-one_group.ensures.blames ∙ c.steps.invariant.steady;
     }
-
-pub steps-smaller : goal.steps-smaller
-steps-smaller g c =
-    falls_on c.steps.world.boot c.args.world.now.boot (state_of c.steps.world) (state_of c.one_group.new.world) c.steps.cursor c.in-Some.next c.in-Some.step c.steps.invariant.boot c.in_ok-one_group.ensures.after c.in-Some.ensures.falls
 
 pub returns-in_err-one_group-clause-came : goal.returns-in_err-one_group-clause-came
 returns-in_err-one_group-clause-came g c = λ ds rest before h.

@@ -1,8 +1,8 @@
-use Rattle.std.proofs.Common.{◌≡◌, ◌≤◌, ◌+◌, ◌^◌, ℕ, false, List, ◌∷◌, length}
+use Rattle.std.proofs.Common.{◌≡◌, ◌≤◌, ◌-◌, ℕ, false, List, ◌∷◌, length}
 use Rattle.std.specs.declared.option.Option.{Option}
 use Rattle.dm_schedule.specs.declared.Directive.{Directive}
 use Rattle.dm_line.specs.Todo.{all_of}
-use Rattle.dm_world.specs.Cursor.{left, todo_of}
+use Rattle.dm_world.specs.Cursor.{todo_of}
 use Rattle.dm_world.specs.Meets.{IsWorld, state_of}
 use Rattle.dm_run.specs.Coming.{HasCome}
 use Rattle.dm_run.proofs.directives.run_directive.Given as goal
@@ -13,9 +13,10 @@ invariant-steps g l = record {
   running : l.world.stopped ≡ false;
   boot : l.world.boot ≡ l.initial.world.boot;
   come : (ds rest : List Directive) (before : Option (List ℕ)) → HasCome l.initial.world.boot ds (all_of (l.directive ∷ rest)) before (g.K.Sink.told l.initial.out) (state_of l.initial.world) → HasCome l.initial.world.boot ds (todo_of (length l.initial.world.boot.machines) l.cursor rest) before (g.K.Sink.told l.out) (state_of l.world);
-  groups : l.world.groups + left (length l.initial.world.boot.machines) (state_of l.world) l.cursor ≤ l.initial.world.groups + 2 ^ 80;
+  counted : l.groups ≡ l.world.groups;
+  within : l.groups ≤ 85070591730234615865843651857942052864;
   steady : g.K.Sink.faults l.out ≡ g.K.Sink.faults l.initial.out;
 }
 
 abbrev pub decreases-steps : goal.decreases-steps
-decreases-steps g l = left (length l.initial.world.boot.machines) (state_of l.world) l.cursor
+decreases-steps g l = 85070591730234615865843651857942052864 - l.groups
