@@ -1,4 +1,3 @@
 pub mod Totals
 pub mod Counts
 pub mod Summary
-pub mod Drilled

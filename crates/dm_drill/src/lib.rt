@@ -1,7 +1,6 @@
-//! A drill: a run that is counted, and its summary.
+//! What is counted of a run, and its summary.
 #![tactic(auto)]
 
 pub mod counts;
-pub mod drill;
 pub mod summary;
 pub mod tally;
