@@ -151,7 +151,7 @@ not_less m n h k = elim (leb_tells (suc m) n) [
 pub all_there : (p q : Pair) → PairStands p q → PairRests p q → first_undelivered 0 p.wire ≡ None → first_undelivered 0 q.wire ≡ None → AllThere p
 all_there p q s r out back =
     let taken : p.taken ≡ p.gone = not_less p.taken p.gone s.taken
-        (λ less_. elim (r.there p.taken (all_come p.wire 0 (load.Data p.taken) out (r.sent p.taken less_))) [ inl t ↦ omega (arith, t) | inr kept ↦ false≢true (sym r.next ∙ kept) ]) in
+    (λ less_. elim (r.there p.taken (all_come p.wire 0 (load.Data p.taken) out (r.sent p.taken less_))) [ inl t ↦ omega (arith, t) | inr kept ↦ false≢true (sym r.next ∙ kept) ]) in
     let heard : p.taken ≤ p.acked = elim r.answered [
       | inl z ↦ omega (arith, z)
       | inr a ↦ r.heard p.taken (all_come q.wire 0 (load.Ack p.taken) back a)
@@ -173,8 +173,8 @@ nothing_quiet b es pt ds n leads e =
     let v = pt.view in
     let k = nothing_in (has_mail v) (pass_begun n Settle ds) (next_delivery (undelivered v) (pairs_of (below n) (below n))) e in
     let there = λ (a c : ℕ) (h : a < n) (g : c < n) (apart : a ≢ c).
-        all_there (v.pair a c) (v.pair c a) (pairs_stand_always b es pt a c leads apart).0 (pairs_rest_always b es pt a c leads apart)
-        (none_of (undelivered v) a c (below n) (below n) apart k.0 (has_below a n h) (has_below c n g)) (none_of (undelivered v) c a (below n) (below n) (λ same. apart (sym same)) k.0 (has_below c n g) (has_below a n h)) in
+    all_there (v.pair a c) (v.pair c a) (pairs_stand_always b es pt a c leads apart).0 (pairs_rest_always b es pt a c leads apart)
+    (none_of (undelivered v) a c (below n) (below n) apart k.0 (has_below a n h) (has_below c n g)) (none_of (undelivered v) c a (below n) (below n) (λ same. apart (sym same)) k.0 (has_below c n g) (has_below a n h)) in
     let home = λ (a : ℕ). (pairs_stand_always b es pt a (suc a) leads (λ same. absurd (let f : a < a = omega (arith, same) in omega (arith, f)))).1 in
     record {
       taken = λ a c h g. by v a c (a == c) refl (λ apart. (there a c h g apart).taken) (home a).taken;
@@ -225,6 +225,7 @@ goes_by n v t o is here not_ begin = pick o here
         ap (λ (q : Pass). or (if is_over q (is_quiet n v) then None else found) (next_pass n (undelivered v) (has_mail v) (is_quiet n v) q t.directives)) is
         ∙ ap (λ (q : Bool). or (if q then None else found) (settles q first behind)) not_
         ∙ ap (λ (x : Option Next). or x (or first behind)) here
+
     pick : (o : Option Next) → in_pass (has_mail v) t (next_delivery (undelivered v) t.pairs) ≡ o → SettleGoes n v t
     pick None e =
         record {
