@@ -32,7 +32,7 @@ use Rattle.dm_rule.specs.Spots.{untaken}
 use Rattle.dm_rule.specs.View.{Known, View}
 use Rattle.dm_rule.specs.View as view
 use Rattle.dm_movelaws.specs.AtRest.{AtRest, is_moving}
-use Rattle.dm_movelaws.proofs.AtRestAlways.{at_rest_always}
+use Rattle.dm_movelaws.proofs.At.RestAlways.{at_rest_always}
 use Rattle.dm_settlelaws.specs.Laws.{EndsAtRest}
 use Rattle.dm_settlelaws.specs.Passes.{is_at_rest, stands_here}
 

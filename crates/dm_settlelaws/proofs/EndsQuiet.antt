@@ -21,7 +21,7 @@ use Rattle.dm_rule.specs.Point.{Point, first_point}
 use Rattle.dm_rule.specs.Quiet.{IsQuiet, has_mail, is_quiet}
 use Rattle.dm_rule.specs.View.{View}
 use Rattle.dm_rule.proofs.QuietTests.{passes_quiet}
-use Rattle.dm_rulelaws.proofs.BasedAlways.{based_always}
+use Rattle.dm_rulelaws.proofs.Based.Always.{based_always}
 use Rattle.dm_settlelaws.specs.Laws.{EndsQuiet}
 use Rattle.dm_settlelaws.specs.Passes.{ends_settled, is_settle}
 use Rattle.dm_settlelaws.proofs.PassHas.{settle_begins}

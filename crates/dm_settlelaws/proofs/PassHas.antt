@@ -23,7 +23,7 @@ use Rattle.dm_rule.specs.Quiet.{IsQuiet, has_mail, is_quiet}
 use Rattle.dm_rule.specs.View.{Pair, View}
 use Rattle.dm_rule.proofs.Pairs.{pairs_stand_always}
 use Rattle.dm_rule.proofs.QuietTests.{passes_quiet, quiet_passes}
-use Rattle.dm_rulelaws.proofs.BasedAlways.{based_always}
+use Rattle.dm_rulelaws.proofs.Based.Always.{based_always}
 use Rattle.dm_settlelaws.specs.Laws.{Settles, SettlesAlways}
 use Rattle.dm_settlelaws.specs.Passes.{IsSettleStep, SettleGoes}
 use Rattle.dm_settlelaws.specs.Rests.{HasCome, HasPacket, PairRests}
