@@ -1,11 +1,11 @@
 -- No count is too great: each is at most what the boot file has, and one for each message that was routed.
-pub mod Few
+pub mod FewRouted
 pub mod Own
 pub mod Acting
 pub mod Pairs
 pub mod Still
 pub mod Sorts
-pub mod Ends
+pub mod AtEnds
 pub mod Moves
 pub mod Start
 pub mod Waiting
@@ -33,8 +33,8 @@ use Rattle.dm_rule.proofs.States.{said, says_next}
 use Rattle.dm_rulelaws.proofs.Fits.Rises.{both}
 use Rattle.dm_rulelaws.proofs.Goes.Runs.{Both, RunGoes, RunStarts, both_group, both_start}
 use Rattle.dm_rulelaws.proofs.Runs.{Run}
-use Rattle.dm_mirror.proofs.Counts.Ends.{BearEnds, Ends, PutsOne, Under, bear_ends, ends, ends_before, own_puts, under_more}
-use Rattle.dm_mirror.proofs.Counts.Few.{CountsFew}
+use Rattle.dm_mirror.proofs.Counts.AtEnds.{BearEnds, Ends, PutsOne, Under, bear_ends, ends, ends_before, own_puts, under_more}
+use Rattle.dm_mirror.proofs.Counts.FewRouted.{CountsFew}
 use Rattle.dm_mirror.proofs.Counts.Moves.{MovesFew, moves_put, moves_restart, moves_still, puts_total}
 use Rattle.dm_mirror.proofs.Counts.Own.{OwnFew, PairsWithin, own_group}
 use Rattle.dm_mirror.proofs.Counts.Pairs.{within_group}

@@ -6,7 +6,7 @@ pub mod Stood
 pub mod Stands
 pub mod Follows
 pub mod Moves
-pub mod Comes
+pub mod Arrives
 pub mod Takes
 pub mod Lets
 pub mod Reads
@@ -56,7 +56,7 @@ use Rattle.dm_mirror.specs.Stands.{CountsStand, History, StandsWith, line_of, lo
 use Rattle.dm_mirror.specs.Run.{GoesOn}
 use Rattle.dm_mirror.proofs.Deliver.Ends.{PairIs, ends_of, stream_with}
 use Rattle.dm_mirror.proofs.Deliver.Moves.{back_pair, there_pair}
-use Rattle.dm_mirror.proofs.Deliver.Comes.{begun, nothing_stands}
+use Rattle.dm_mirror.proofs.Deliver.Arrives.{begun, nothing_stands}
 use Rattle.dm_mirror.proofs.Deliver.Reads.{IsReadAs, ReadsAs, bytes_are, bytes_for, lines_are, load_is, reads_ack}
 use Rattle.dm_rule.proofs.Groups.{IsNet, arrives_net}
 use Rattle.dm_mirror.proofs.Deliver.Counts.{Same, arrives_sent, counts_on, net_same}

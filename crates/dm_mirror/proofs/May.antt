@@ -57,7 +57,7 @@ use Rattle.dm_mirror.specs.Made.{MadeStands}
 use Rattle.dm_mirror.specs.Stands.{CountsStand, History, Stands, StandsWith, servers_at}
 use Rattle.dm_rulelaws.proofs.Goes.Runs.{RunGoes, RunStarts}
 use Rattle.dm_mirror.proofs.Counts.{counts_few}
-use Rattle.dm_mirror.proofs.Counts.Few.{CountsFew}
+use Rattle.dm_mirror.proofs.Counts.FewRouted.{CountsFew}
 use Rattle.dm_mirror.proofs.Machines.{few_machines, machines_are, some_machine}
 use Rattle.dm_mirror.proofs.Made.{made_always}
 use Rattle.dm_mirror.proofs.May.Turns as turns

@@ -18,7 +18,7 @@ use Rattle.dm_rule.proofs.Phases.Rests.{rests_here}
 use Rattle.dm_rule.proofs.Phases.Stand.{InPhases}
 use Rattle.dm_rulelaws.proofs.Goes.Always.{stands_first}
 use Rattle.dm_rulelaws.proofs.Runs.{Run}
-use Rattle.dm_mirror.proofs.Counts.Ends.{PutsOne}
+use Rattle.dm_mirror.proofs.Counts.AtEnds.{PutsOne}
 use Rattle.dm_mirror.proofs.Counts.Own.{PairsWithin}
 use Rattle.dm_mirror.proofs.Counts.Sorts.{FrontRestarts}
 use Rattle.dm_mirror.proofs.Counts.Still.{Still}

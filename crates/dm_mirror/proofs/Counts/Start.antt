@@ -18,7 +18,7 @@ use Rattle.dm_rule.specs.Point.{first_point}
 use Rattle.dm_rule.specs.View.{Known, first_view, known_at}
 use Rattle.dm_rule.specs.View as view
 use Rattle.dm_kernel.proofs.Opening.{room_from}
-use Rattle.dm_mirror.proofs.Counts.Ends.{Under}
+use Rattle.dm_mirror.proofs.Counts.AtEnds.{Under}
 use Rattle.dm_mirror.proofs.Counts.Moves.{MovesFew}
 use Rattle.dm_mirror.proofs.Counts.Own.{OwnFew, PairsWithin}
 use Rattle.dm_mirror.proofs.Machines.{few_machines}

@@ -32,7 +32,7 @@ use Rattle.dm_mirror.proofs.Deliver.Ends.{Ends, PairIs, ends_of}
 use Rattle.dm_mirror.proofs.Deliver.Kept.{after_early_is, after_old_is, after_taken_is, arrival_early, arrival_old, arrival_taken, off}
 use Rattle.dm_mirror.proofs.Deliver.Follows.{Follows, machine_same, says_on}
 use Rattle.dm_mirror.proofs.Deliver.Moves.{back_other, back_pair, there_pair, two_other, two_same}
-use Rattle.dm_mirror.proofs.Deliver.Comes.{acked_stands, begun, come_to, early_stands, marked_in, old_stands, taken_stands}
+use Rattle.dm_mirror.proofs.Deliver.Arrives.{acked_stands, begun, come_to, early_stands, marked_in, old_stands, taken_stands}
 use Rattle.dm_mirror.proofs.Deliver.Takes.{acknowledged, kept_after, taken_parts, takes_follow}
 use Rattle.dm_mirror.proofs.Deliver.Lets.{lets_follow, room_of}
 

@@ -16,7 +16,7 @@ use Rattle.dm_places.specs.Placed.{Placed}
 use Rattle.dm_world.specs.Ends.{HasPlainEnd}
 use Rattle.dm_mirror.specs.Laws.{EndMay}
 use Rattle.dm_mirror.specs.Stands.{servers_at}
-use Rattle.dm_mirror.proofs.Counts.Few.{CountsFew}
+use Rattle.dm_mirror.proofs.Counts.FewRouted.{CountsFew}
 use Rattle.dm_mirror.proofs.Machines.{some_machine}
 use Rattle.dm_mirror.proofs.Next.{machines_stay}
 

@@ -36,7 +36,7 @@ use Rattle.dm_kernel.specs.State.{KernelState}
 use Rattle.dm_kernel.proofs.Fitting.{managed_fits, user_fits}
 use Rattle.dm_mirror.specs.Made.{MadeStands}
 use Rattle.dm_mirror.specs.Stands.{servers_at}
-use Rattle.dm_mirror.proofs.Counts.Few.{CountsFew}
+use Rattle.dm_mirror.proofs.Counts.FewRouted.{CountsFew}
 use Rattle.dm_mirror.proofs.Machines.{plainly_is}
 
 -- the message with and without places

@@ -31,7 +31,7 @@ use Rattle.dm_kernel.proofs.LawfulRows.{of_known}
 use Rattle.dm_kernel.specs.State.{KernelState}
 use Rattle.dm_mirror.specs.Made.{MadeStands}
 use Rattle.dm_mirror.specs.Stands.{KernelStands, KnownStands}
-use Rattle.dm_mirror.proofs.Counts.Few.{CountsFew}
+use Rattle.dm_mirror.proofs.Counts.FewRouted.{CountsFew}
 
 -- what one of the processes that were made takes, all of them do
 by_home : (pt : Point) (m home n k : ℕ) → k < n → ((taken_by pt m (pid_of home (first_number + k))).slots ≤ (taken_of_home pt m home n).slots) × ((taken_by pt m (pid_of home (first_number + k))).blocks ≤ (taken_of_home pt m home n).blocks)

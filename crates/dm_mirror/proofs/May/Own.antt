@@ -34,7 +34,7 @@ use Rattle.dm_kernel.specs.State as machine
 use Rattle.dm_kernel.specs.State.{KernelState}
 use Rattle.dm_mirror.specs.Own.{AllOwnStand, about_of, told_of}
 use Rattle.dm_mirror.specs.Stands.{KernelStands, KnownStands, servers_at}
-use Rattle.dm_mirror.proofs.Counts.Few.{CountsFew}
+use Rattle.dm_mirror.proofs.Counts.FewRouted.{CountsFew}
 use Rattle.dm_mirror.proofs.May.Front.{fixed_server, servers_here}
 use Rattle.dm_mirror.proofs.May.Have.{here_so}
 use Rattle.dm_mirror.proofs.May.Process.{known_some}

@@ -35,7 +35,7 @@ use Rattle.dm_mirror.specs.Made.{MadeStands}
 use Rattle.dm_mirror.specs.Own.{about_of}
 use Rattle.dm_mirror.specs.Stands.{KernelStands}
 use Rattle.dm_mirror.specs.Tokens.{TokensStand}
-use Rattle.dm_mirror.proofs.Counts.Few.{CountsFew}
+use Rattle.dm_mirror.proofs.Counts.FewRouted.{CountsFew}
 use Rattle.dm_mirror.proofs.May.Have.{has_taken, life_is}
 use Rattle.dm_mirror.proofs.May.Own.{OwnFront}
 use Rattle.dm_mirror.proofs.May.OwnKernel.{IsToken, Leaves, block_there, chunk_there, destination_comes, frozen_at, frozen_is, incoming_is, leaves_at, lengths_are, moved_lawful, same_process, source_leaves, token_of, wants_is, whole_asks}

@@ -27,7 +27,7 @@ use Rattle.dm_mirror.specs.Made.{MadeStands}
 use Rattle.dm_mirror.specs.Stands.{KernelStands}
 use Rattle.dm_mirror.specs.Own.{AllOwnStand}
 use Rattle.dm_mirror.specs.Tokens.{TokensStand}
-use Rattle.dm_mirror.proofs.Counts.Few.{CountsFew}
+use Rattle.dm_mirror.proofs.Counts.FewRouted.{CountsFew}
 use Rattle.dm_mirror.proofs.May.Front.{FrontSo, for_board, for_manager, front_so, kernel_create, kernel_row}
 use Rattle.dm_mirror.proofs.May.Have.{may_act}
 use Rattle.dm_mirror.proofs.May.Process.{for_process}

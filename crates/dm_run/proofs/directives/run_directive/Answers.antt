@@ -3,7 +3,7 @@ use Rattle.dm_line.specs.Todo.{all_of}
 use Rattle.dm_world.specs.Cursor.{todo_of}
 use Rattle.dm_world.specs.Meets.{state_of}
 use Rattle.dm_world.specs.Next.{has_mail, is_quiet, undelivered}
-use Rattle.dm_run.proofs.Comes.{comes_as}
+use Rattle.dm_run.proofs.Comes.{comes_as, lacks_there}
 use Rattle.dm_run.proofs.Stepping.{blames_err, brings_on, came_err, may_on, none_on, one_group_more, stops_on}
 use Rattle.dm_run.proofs.directives.run_directive.Goals as goal
 
@@ -50,3 +50,8 @@ returns-clause-came g c = none_on c.steps.world.boot c.args.world.now.boot c.arg
 pub returns-in_err-one_group-clause-blames : goal.returns-in_err-one_group-clause-blames
 returns-in_err-one_group-clause-blames g c =
     blames_err (g.K.Sink.faults c.args.out.now) (g.K.Sink.faults c.steps.out) (g.K.Sink.faults c.one_group.new.out) c.from_residual.result c.in_err-one_group.field-0.0 c.from_residual.ensures c.steps.invariant.steady c.in_err-one_group.ensures.blames
+
+-- where no group more can be counted
+pub returns-then-groups-ge-MOST_GROUPS-clause-came : goal.returns-then-groups-ge-MOST_GROUPS-clause-came
+returns-then-groups-ge-MOST_GROUPS-clause-came g c = λ ds rest before h.
+    lacks_there c.args.world.now.boot ds (todo_of (length c.args.world.now.boot.machines) c.steps.cursor rest) before (g.K.Sink.told c.steps.out) (g.K.Sink.told c.steps.out) (state_of c.steps.world) (c.steps.invariant.come ds rest before h) refl
