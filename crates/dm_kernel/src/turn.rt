@@ -12,11 +12,11 @@ ghost use Rattle.dm_kernel.specs.Turn.{first_runnable, goes_round, known_is_runn
 use crate::kernel::Kernel;
 use crate::part::Part;
 use crate::ring::move_back;
-use dm_records::Record;
-use dm_link::Pid;
-use dm_memory::NoMemory;
-use dm_onekernel::Boot;
 use dm_line::line::Line;
+use dm_link::Pid;
+use dm_memory::{NoMemory, list_of};
+use dm_onekernel::Boot;
+use dm_records::Record;
 
 impl Kernel {
     /// Takes a turn: handles the message at the inbox's front, or serves the first process of the ring that can be
@@ -84,6 +84,6 @@ impl Kernel {
     pub(crate) fn say(&self, line: Line) -> Result<Vec<Part>, NoMemory>
         ensures { IfOk result (λ parts. parts.items ≡ Part.Says line ∷ []) }
     {
-        Ok(vec![in self.alloc; Part::Says(line)]?)
+        list_of(self.alloc, [Part::Says(line)])
     }
 }
