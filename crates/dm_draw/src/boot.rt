@@ -3,15 +3,12 @@ ghost use Rattle.std.specs.Prelude.{◌≡◌, ◌≤◌, ◌<◌, ◌*◌, ◌�
 ghost use Rattle.dm_onekernel.specs.Boot.{IsValid};
 ghost use Rattle.dm_draw.specs.Boot.{boot_of, image, link_to, machines_of, pid_at, process_at, processes_of};
 
-use dm_link::{Addr, Area, Kind, Link, Pid};
+use dm_link::{Addr, Area, FIRST_NUMBER, Kind, Link, Pid};
 use dm_lists::Items;
-use dm_memory::NoMemory;
+use dm_memory::{NoMemory, from_slice};
 use dm_onekernel::Boot;
 use dm_onekernel::boot::{BootImage, BootMachine, BootProcess, Format};
 use std::alloc::Global;
-
-/// The number of the first process of a machine.
-const FIRST_NUMBER: u32 = 3;
 
 /// The program of all processes: it sends over link 0, receives, moves data over link 1, and goes round.
 const PROGRAM: [u8; 60] = [
@@ -54,7 +51,7 @@ fn machines_of(alloc: Global, machines: u8) -> Result<Items<BootMachine>, NoMemo
 fn images_of(alloc: Global) -> Result<Items<BootImage>, NoMemory>
     ensures { IfOk result (λ images. images ≡ image ∷ []) }
 {
-    let bytes = Items::from_vec(Vec::from_slice(alloc, &PROGRAM)?);
+    let bytes = Items::from_vec(from_slice(alloc, &PROGRAM)?);
     let mut images = Items::new(alloc);
     images.push(BootImage { bytes, blocks: 1 })?;
     Ok(images)

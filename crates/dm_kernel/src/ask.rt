@@ -6,10 +6,10 @@ ghost use Rattle.dm_kernel.specs.Meets.{Answers, state_of};
 
 use crate::kernel::Kernel;
 use crate::part::Part;
-use dm_link::Pid;
-use dm_memory::NoMemory;
-use dm_procman::MoveNo;
 use dm_line::line::Line;
+use dm_link::Pid;
+use dm_memory::{NoMemory, list_of};
+use dm_procman::MoveNo;
 
 impl Kernel {
     /// Has the manager tell a process to move to a machine, where it is one of its children. Answers what the machine
@@ -19,16 +19,14 @@ impl Kernel {
         ensures { Answers result self.new (asks_move (state_of self.old) pid to) }
     {
         let id = self.own_id();
-        match &self.servers {
-            Some(servers) => match servers.manager.ask_move(pid, to, id) {
-                Ok(message) => {
-                    self.sent += 1;
-                    Ok(vec![in self.alloc; Part::Routes(message)]?)
-                }
-                Err(MoveNo::Unknown) => self.say(Line::NoChild(pid)),
-                Err(MoveNo::Pinned) => self.say(Line::Pinned(pid)),
-            },
-            None => unreachable!(),
+        let servers = self.servers.as_ref().unwrap();
+        match servers.manager.ask_move(pid, to, id) {
+            Ok(message) => {
+                self.sent += 1;
+                list_of(self.alloc, [Part::Routes(message)])
+            }
+            Err(MoveNo::Unknown) => self.say(Line::NoChild(pid)),
+            Err(MoveNo::Pinned) => self.say(Line::Pinned(pid)),
         }
     }
 }

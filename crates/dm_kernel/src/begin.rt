@@ -7,11 +7,11 @@ ghost use Rattle.dm_kernel.specs.Meets.{IsIn, state_of};
 
 use crate::kernel::{Kernel, Servers};
 use crate::make::{child_of, image_of};
-use dm_records::Records;
 use dm_lists::Queue;
 use dm_memory::NoMemory;
 use dm_onekernel::{Boot, BootProcess};
 use dm_procman::ProcMan;
+use dm_records::Records;
 use dm_room::Room;
 use dm_switchboard::Switchboard;
 use std::alloc::Global;

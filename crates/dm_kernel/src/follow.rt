@@ -8,11 +8,11 @@ ghost use Rattle.dm_line.specs.declared.line.Line.TheVariants as line_;
 
 use crate::kernel::Kernel;
 use crate::part::Part;
+use dm_line::line::Line;
 use dm_link::{Addr, Placeless};
 use dm_linkupdate::{apply, notice};
-use dm_memory::NoMemory;
+use dm_memory::{NoMemory, list_of};
 use dm_message::{Message, MsgId};
-use dm_line::line::Line;
 
 impl Kernel {
     /// Sends a message on to the machine where its receiver has gone by so many moves, and tells its sender, if its kind
@@ -33,9 +33,12 @@ impl Kernel {
         match update {
             Some(update) => {
                 self.sent += 1;
-                Ok(vec![in self.alloc; said, Part::Routes(message), Part::Routes(update)]?)
+                list_of(
+                    self.alloc,
+                    [said, Part::Routes(message), Part::Routes(update)],
+                )
             }
-            None => Ok(vec![in self.alloc; said, Part::Routes(message)]?),
+            None => list_of(self.alloc, [said, Part::Routes(message)]),
         }
     }
 
@@ -44,13 +47,9 @@ impl Kernel {
         requires { IsSome (here_of (at self.old.records message.now.to.pid)) }
         ensures { Answers result self.new (bind (here_of (at self.old.records message.now.to.pid)) (λ x. process_follows (state_of self.old) message.now x about)) }
     {
-        match self.records.here_mut(message.to.pid) {
-            Some(process) => {
-                let count = apply(process, about.pid, about.at, about.moves);
-                self.say_updated(message.id, u32::from(count))
-            }
-            None => unreachable!(),
-        }
+        let process = self.records.here_mut(message.to.pid).unwrap();
+        let count = apply(process, about.pid, about.at, about.moves);
+        self.say_updated(message.id, u32::from(count))
     }
 
     /// Lets the links of the switchboard follow.
@@ -63,13 +62,9 @@ impl Kernel {
         requires few { IfSome self.old.servers (λ v. length v.board.names < 2 ^ 31) }
         ensures { Answers result self.new (bind self.old.servers (λ v. board_follows (state_of self.old) message.now v about)) }
     {
-        match &mut self.servers {
-            Some(servers) => {
-                let count = servers.board.retarget(about.pid, about.at, about.moves);
-                self.say_updated(message.id, count)
-            }
-            None => unreachable!(),
-        }
+        let servers = self.servers.as_mut().unwrap();
+        let count = servers.board.retarget(about.pid, about.at, about.moves);
+        self.say_updated(message.id, count)
     }
 
     /// Lets the addresses of the manager follow.
@@ -82,13 +77,9 @@ impl Kernel {
         requires few { IfSome self.old.servers (λ v. length v.manager.children + length v.manager.pending < 2 ^ 31) }
         ensures { Answers result self.new (bind self.old.servers (λ v. manager_follows (state_of self.old) message.now v about)) }
     {
-        match &mut self.servers {
-            Some(servers) => {
-                let count = servers.manager.retarget(about.pid, about.at, about.moves);
-                self.say_updated(message.id, count)
-            }
-            None => unreachable!(),
-        }
+        let servers = self.servers.as_mut().unwrap();
+        let count = servers.manager.retarget(about.pid, about.at, about.moves);
+        self.say_updated(message.id, count)
     }
 
     /// The one part of a turn in which so many links followed a process.

@@ -1,5 +1,4 @@
 //! The kernel of a machine.
-use dm_records::Records;
 use dm_link::Pid;
 use dm_lists::Queue;
 use dm_message::Message;
@@ -7,6 +6,7 @@ use dm_migrate::{Arriving, Leaving};
 use dm_onekernel::Why;
 use dm_process::Process;
 use dm_procman::ProcMan;
+use dm_records::Records;
 use dm_room::Room;
 use dm_switchboard::Switchboard;
 use std::alloc::Global;

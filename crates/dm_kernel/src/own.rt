@@ -1,15 +1,14 @@
 //! The messages that a machine's kernel sends itself.
 ghost use Rattle.std.specs.Prelude.{◌≡◌, ◌<◌, ◌∷◌, [], IfOk};
-ghost use Rattle.dm_linkupdate.specs.Notice.{kernel_at};
 ghost use Rattle.dm_kernel.specs.Meets.{IsIn, state_of};
 ghost use Rattle.dm_kernel.specs.State.{own, own_id, with_sent};
 
 use crate::kernel::Kernel;
 use crate::part::Part;
-use dm_link::{Addr, Pid};
-use dm_memory::NoMemory;
-use dm_message::{Message, MsgId, What};
 use dm_line::line::Line;
+use dm_link::{Addr, Pid};
+use dm_memory::{NoMemory, list_of};
+use dm_message::{Message, MsgId, What};
 
 impl Kernel {
     /// The name of the next message that the kernel sends itself.
@@ -37,7 +36,7 @@ impl Kernel {
         Message {
             id,
             to,
-            sender: kernel_at(self.here),
+            sender: Addr::of_kernel(self.here),
             what,
         }
     }
@@ -46,20 +45,6 @@ impl Kernel {
     pub(crate) fn say_and_route(&self, line: Line, message: Message) -> Result<Vec<Part>, NoMemory>
         ensures { IfOk result (λ parts. parts.items ≡ Part.Says line ∷ Part.Routes message ∷ []) }
     {
-        Ok(vec![in self.alloc; Part::Says(line), Part::Routes(message)]?)
-    }
-}
-
-/// The address of a machine's kernel.
-pub(crate) fn kernel_at(machine: u8) -> Addr
-    ensures { result ≡ kernel_at machine }
-{
-    Addr {
-        pid: Pid {
-            home: machine,
-            num: 0,
-        },
-        at: machine,
-        moves: 0,
+        list_of(self.alloc, [Part::Says(line), Part::Routes(message)])
     }
 }

@@ -1,6 +1,6 @@
 //! What an event of a machine comes to, part by part.
-use dm_message::Message;
 use dm_line::line::Line;
+use dm_message::Message;
 
 /// A part of what an event of a machine comes to.
 #[derive(Drop)]

@@ -3,7 +3,6 @@ ghost use Rattle.std.specs.Prelude.{◌≡◌, ◌∷◌, ◌++◌, [], OnErr, O
 ghost use Rattle.std.specs.Option.{option_copied};
 
 use crate::kernel::{Kernel, Servers};
-use dm_records::Records;
 use dm_lists::Queue;
 use dm_memory::NoMemory;
 use dm_message::Message;
@@ -11,6 +10,7 @@ use dm_migrate::{Arriving, Leaving};
 use dm_onekernel::Why;
 use dm_process::Process;
 use dm_procman::ProcMan;
+use dm_records::Records;
 use dm_switchboard::Switchboard;
 
 impl Kernel {

@@ -12,14 +12,14 @@ ghost use Rattle.dm_kernel.specs.Meets.{Answers, state_of};
 ghost use Rattle.dm_kernel.specs.Served.{AwaitsPiece, HasPlace, IsHere, OwnsPiece};
 ghost use Rattle.dm_kernel.specs.State.{says, turned, with_here};
 
+use crate::ending::drop_all;
 use crate::kernel::Kernel;
-use crate::leave::drop_all;
 use crate::part::Part;
 use dm_datamove::{Landed, gone, land, serve};
-use dm_memory::NoMemory;
+use dm_line::line::Line;
+use dm_memory::{NoMemory, list_of};
 use dm_message::{Message, MsgId};
 use dm_onekernel::{Label, Why};
-use dm_line::line::Line;
 
 impl Kernel {
     /// Puts a message at the back of its receiver's queue.
@@ -28,13 +28,9 @@ impl Kernel {
         ensures { Answers result self.new (bind (here_of (at self.old.records message.to.pid)) (λ x. turned (with_here (state_of self.old) message.to.pid (queued x message)) (Part.Says (line_.Queued message.id) ∷ []))) }
     {
         let id = message.id;
-        match self.records.here_mut(message.to.pid) {
-            Some(process) => {
-                process.queue.push(message)?;
-                self.say(Line::Queued(id))
-            }
-            None => unreachable!(),
-        }
+        let process = self.records.here_mut(message.to.pid).unwrap();
+        process.queue.push(message)?;
+        self.say(Line::Queued(id))
     }
 
     /// Stops a process, or lets it go on.
@@ -46,13 +42,9 @@ impl Kernel {
         requires { IsSome (here_of (at self.old.records message.now.to.pid)) }
         ensures { Answers result self.new (bind (here_of (at self.old.records message.now.to.pid)) (λ x. served_as (state_of self.old) message.now (record x { stopped = stopped }))) }
     {
-        match self.records.here_mut(message.to.pid) {
-            Some(process) => {
-                process.stopped = stopped;
-                self.say_served(message.id)
-            }
-            None => unreachable!(),
-        }
+        let process = self.records.here_mut(message.to.pid).unwrap();
+        process.stopped = stopped;
+        self.say_served(message.id)
     }
 
     /// Ends a process that is to be killed.
@@ -74,13 +66,9 @@ impl Kernel {
         ensures { Answers result self.new (bind (here_of (at self.old.records message.now.to.pid)) (λ x. answered (state_of self.old) message.now x)) }
     {
         let here = self.here;
-        match self.records.here_mut(message.to.pid) {
-            Some(process) => {
-                let answer = serve(process, message, here);
-                self.serve_and_route(message.id, answer)
-            }
-            None => unreachable!(),
-        }
+        let process = self.records.here_mut(message.to.pid).unwrap();
+        let answer = serve(process, message, here);
+        self.serve_and_route(message.id, answer)
     }
 
     /// Lands the answer to a piece at the process that asked for it, which may ask for the next one.
@@ -91,12 +79,10 @@ impl Kernel {
         ensures { Answers result self.new (bind (here_of (at self.old.records message.now.to.pid)) (λ x. lands (state_of self.old) message.now (landing self.old.here x message.now.what x.status))) }
     {
         let here = self.here;
-        match self.records.here_mut(message.to.pid) {
-            Some(process) => match land(process, message, here) {
-                Landed::Next(request) => self.serve_and_route(message.id, request),
-                Landed::Done(_) => self.say_served(message.id),
-            },
-            None => unreachable!(),
+        let process = self.records.here_mut(message.to.pid).unwrap();
+        match land(process, message, here) {
+            Landed::Next(request) => self.serve_and_route(message.id, request),
+            Landed::Done(_) => self.say_served(message.id),
         }
     }
 
@@ -109,7 +95,7 @@ impl Kernel {
     {
         let answer = gone(message, self.here);
         let said = Line::Label(Label::Gone { id: message.id });
-        Ok(vec![in self.alloc; Part::Says(said), Part::Routes(answer)]?)
+        list_of(self.alloc, [Part::Says(said), Part::Routes(answer)])
     }
 
     /// Drops a message for a process that has ended.
@@ -131,6 +117,6 @@ impl Kernel {
         ensures { IfOk result (λ parts. parts.items ≡ says (label_.Served id) ∷ Part.Routes message ∷ []) }
     {
         let said = Line::Label(Label::Served { id });
-        Ok(vec![in self.alloc; Part::Says(said), Part::Routes(message)]?)
+        list_of(self.alloc, [Part::Says(said), Part::Routes(message)])
     }
 }

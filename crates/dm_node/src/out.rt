@@ -1,6 +1,6 @@
 //! What an event of a machine gives to the outside.
-use dm_packet::Packet;
 use dm_line::line::Line;
+use dm_packet::Packet;
 
 /// What an event of a machine gives to the outside.
 #[derive(Drop)]

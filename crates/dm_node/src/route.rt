@@ -8,9 +8,9 @@ ghost use Rattle.dm_node.specs.Out.{Goes};
 use crate::node::Node;
 use crate::out::Out;
 use crate::stop::Stop;
+use dm_line::line::Line;
 use dm_memory::NoMemory;
 use dm_message::Message;
-use dm_line::line::Line;
 
 impl Node {
     /// Routes a message to the machine that its receiver's address names.
@@ -102,6 +102,5 @@ impl Node {
 pub(crate) fn push(outs: &mut Vec<Out>, out: Out) -> Result<(), NoMemory>
     ensures ok { OnOk result (outs.new.items ≡ outs.old.items ++ out ∷ []) }
 {
-    outs.push(out)?;
-    Ok(())
+    dm_memory::push(outs, out)
 }

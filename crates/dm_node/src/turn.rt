@@ -13,10 +13,10 @@ use crate::out::Out;
 use crate::route::push;
 use crate::stop::Stop;
 use dm_kernel::{Part, moves_are_asked_lawfully, turns_are_lawful};
+use dm_line::line::Line;
 use dm_link::Pid;
 use dm_memory::NoMemory;
 use dm_onekernel::Boot;
-use dm_line::line::Line;
 
 impl Node {
     /// Takes a turn. What it gives comes to the end of `outs`. It stops as worn exactly where it would route a message

@@ -6,7 +6,7 @@ ghost use Rattle.dm_outside.specs.Memory.{write_count, after_write};
 
 use crate::limit::{has_no_room, is_to_fail, within};
 use crate::{Failed, Sink};
-use dm_memory::NoMemory;
+use dm_memory::{NoMemory, with_capacity};
 use std::alloc::Global;
 use std::marker::Model;
 
@@ -35,20 +35,17 @@ impl Model for MemSink {
 
 impl MemSink {
     /// An empty sink with room for so many bytes, and the numbers of the calls that are to fail.
-    pub fn new(alloc: Global, room: usize, fails: Vec<u64>) -> Result<Self, NoMemory>
+    pub fn new(alloc: Global, room: u32, fails: Vec<u64>) -> Result<Self, NoMemory>
         ensures { IfOk result (λ s. s ≡ record { bytes = []; room = room; fails = fails.items; limit = None; calls = 0; faults = 0 }) }
     {
-        match Vec::with_capacity(alloc, room) {
-            Ok(bytes) => Ok(MemSink {
-                bytes,
-                room,
-                fails,
-                limit: None,
-                calls: 0,
-                faults: 0,
-            }),
-            Err(error) => Err(NoMemory::from(error)),
-        }
+        Ok(MemSink {
+            bytes: with_capacity(alloc, room)?,
+            room: room as usize,
+            fails,
+            limit: None,
+            calls: 0,
+            faults: 0,
+        })
     }
 
     /// Lets each later write take at most `n` bytes.
@@ -106,9 +103,7 @@ impl Sink for MemSink {
             return Err(Failed);
         }
         let n = within(self.limit, free.min(from.len()));
-        match self.bytes.extend_from_slice(&from[..n]) {
-            Ok(()) => Ok(n),
-            Err(_) => unreachable!(),
-        }
+        self.bytes.extend_from_slice(&from[..n]).unwrap();
+        Ok(n)
     }
 }

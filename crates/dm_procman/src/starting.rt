@@ -14,11 +14,12 @@ pub fn children_of(alloc: Global, boot: &Boot) -> Result<Children, NoMemory>
 {
     let mut children = Children::new(alloc);
     for process in boot.processes.as_slice() {
-        children.push(Addr {
+        let child = Addr {
             pid: process.pid,
             at: process.pid.home,
             moves: 0,
-        })?;
+        };
+        children.push(child)?;
     }
     Ok(children)
 }

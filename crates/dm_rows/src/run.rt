@@ -8,7 +8,7 @@ use std::process::ExitCode;
 use std::{fmt, fs};
 
 /// The most bytes of a line on standard error.
-const LONGEST_LINE: usize = 96;
+const LONGEST_LINE: u32 = 96;
 
 /// A row of the table of runs.
 #[derive(Clone, Copy, Debug)]
@@ -21,7 +21,7 @@ pub struct Run<'a> {
     /// The file of what is written to standard output.
     pub output: &'a str,
     /// How many bytes standard output takes before it is full.
-    pub room: usize,
+    pub room: u32,
     /// The words behind the program's name, with a space between.
     pub words: &'a str,
 }

@@ -1,0 +1,65 @@
+//! How a process ends: it leaves the ring, its slot and its blocks, and its queue goes message by message.
+ghost use Rattle.std.specs.Prelude.{◌≡◌, ◌++◌, OnOk};
+ghost use Rattle.dm_records.specs.Records.{at, here_of};
+ghost use Rattle.dm_onekernel.specs.Options.{bind};
+ghost use Rattle.dm_process.specs.declared.process.Process.{Process};
+ghost use Rattle.std.specs.Prelude.{Some};
+ghost use Rattle.dm_kernel.specs.Meets.{Answers, IsIn, state_of};
+ghost use Rattle.dm_kernel.specs.Serve.{ends};
+ghost use Rattle.dm_kernel.specs.Served.{HasPlace, IsHere};
+ghost use Rattle.dm_kernel.specs.State.{drops, without_process};
+
+use crate::kernel::Kernel;
+use crate::part::Part;
+use crate::ring::remove;
+use dm_line::line::Line;
+use dm_link::Pid;
+use dm_lists::Queue;
+use dm_memory::{NoMemory, list_of, push};
+use dm_message::Message;
+use dm_onekernel::{Label, Why};
+use dm_process::Process;
+use dm_records::Record;
+
+impl Kernel {
+    /// Ends a process that has executed so many instructions.
+    pub(crate) fn end(&mut self, pid: Pid, count: u32, why: Why) -> Result<Vec<Part>, NoMemory>
+        requires { IsHere (HasPlace (state_of self.old)) (at self.old.records pid) }
+        ensures { Answers result self.new (bind (here_of (at self.old.records pid)) (λ x. ends (state_of self.old) pid count x why)) }
+    {
+        let ran = Part::Says(Line::Label(Label::Ran { pid, count }));
+        let end = Part::Says(Line::Label(Label::End { pid, why }));
+        let mut parts = list_of(self.alloc, [ran, end])?;
+        let queue = self.take_out(pid, why);
+        drop_all(queue, &mut parts)?;
+        Ok(parts)
+    }
+
+    /// Takes a process out of the machine, which knows from now on why it ended; what waited for it.
+    pub(crate) fn take_out(&mut self, pid: Pid, why: Why) -> Queue<Message>
+        requires { IsHere (HasPlace (state_of self.old)) (at self.old.records pid) }
+        ensures state { (x : Process) → here_of (at self.old.records pid) ≡ Some x → IsIn self.new (without_process (state_of self.old) pid x why) }
+        ensures queue { (x : Process) → here_of (at self.old.records pid) ≡ Some x → result ≡ x.queue }
+    {
+        let process = self.records.take_here(pid);
+        self.records.put_back(pid, Record::Ended(why));
+        self.room.release(process.memory.blocks());
+        remove(&mut self.ring, pid);
+        let Process { queue, .. } = process;
+        queue.into_queue()
+    }
+}
+
+/// Drops the messages of a queue, and says so.
+pub(crate) fn drop_all(queue: Queue<Message>, parts: &mut Vec<Part>) -> Result<(), NoMemory>
+    ensures { OnOk result (parts.new.items ≡ parts.old.items ++ drops queue) }
+{
+    let mut queue = queue;
+    while let Some(message) = queue.pop() {
+        push(
+            &mut parts,
+            Part::Says(Line::Label(Label::Dropped { id: message.id })),
+        )?;
+    }
+    Ok(())
+}
