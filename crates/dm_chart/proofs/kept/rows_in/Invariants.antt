@@ -1,0 +1,6 @@
+use Rattle.std.proofs.Common.{◌≡◌, ◌≤◌, drop}
+use Rattle.dm_chart.specs.Spots.{behind, first_spot}
+use Rattle.dm_chart.proofs.kept.rows_in.Given as goal
+
+abbrev pub invariant-loop-line : goal.invariant-loop-line
+invariant-loop-line l = record { same : behind l.spot (drop l.line-index l.group) ≡ behind first_spot l.group; most : l.spot.row ≤ 1200 }

@@ -1,0 +1,8 @@
+use Rattle.std.proofs.Common.{◌≡◌, [], ◌++◌, take, drop}
+use Rattle.dm_chart.specs.Drawn.{all_drawn}
+use Rattle.dm_chart.specs.Shapes.{shapes_from}
+use Rattle.dm_chart.specs.Spots.{first_spot}
+use Rattle.dm_chart.proofs.lines.put_lines.Given as goal
+
+abbrev pub invariant-loop-i : goal.invariant-loop-i
+invariant-loop-i l = l.into.items ++ all_drawn l.frame (shapes_from l.frame.rows l.lines (take l.i l.lines) l.spot (drop l.i l.lines)) ≡ l.initial.into.items ++ all_drawn l.frame (shapes_from l.frame.rows l.lines [] first_spot l.lines)

@@ -1,0 +1,10 @@
+use Rattle.std.proofs.Common.{◌≡◌, ◌++◌, OnOk, sym, subst}
+use Rattle.dm_chart.specs.Drawn.{draw_note}
+use Rattle.dm_chart.specs.Notes.{Note}
+use Rattle.dm_chart.proofs.Calls.{call_is_refused}
+use Rattle.dm_chart.proofs.notes.put_call.Goals as goal
+
+pub returns : goal.returns
+returns c =
+    subst (λ (x : Note). OnOk c.put_beside.result (c.put_beside.new.into.items ≡ c.args.into.now.items ++ draw_note c.args.frame.now c.args.m c.args.row x))
+    (sym (call_is_refused c.args.pid c.args.number c.args.code c.if-code-eq0.false)) c.put_beside.ensures

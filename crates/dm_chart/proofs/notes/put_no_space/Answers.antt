@@ -1,0 +1,9 @@
+use Rattle.std.proofs.Common.{◌≡◌, [], ◌∷◌, ◌++◌, OnOk, codes, ℕ, subst}
+use Rattle.std.specs.Fmt.{decimal}
+use Rattle.dm_chart.specs.Drawn.{draw_beside}
+use Rattle.dm_chart.proofs.notes.put_no_space.Goals as goal
+
+pub returns : goal.returns
+returns c =
+    subst (λ (n : ℕ). OnOk c.put_beside.result (c.put_beside.new.into.items ≡ c.args.into.now.items ++ draw_beside c.args.frame.now c.args.m c.args.row (codes "c1") (codes "no room: slots " ∷ decimal c.args.slots ∷ codes ", blocks " ∷ decimal n ∷ [])))
+    c.from.ensures c.put_beside.ensures

@@ -1,0 +1,8 @@
+use Rattle.std.proofs.Common.{◌≡◌, ◌++◌, drop, map}
+use Rattle.std.specs.List.{flat_map}
+use Rattle.dm_chart.specs.Written.{seen}
+use Rattle.dm_chart.specs.Xml.{attribute}
+use Rattle.dm_chart.proofs.xml.put_attributes.Given as goal
+
+abbrev pub invariant-loop-one : goal.invariant-loop-one
+invariant-loop-one l = l.into.items ++ flat_map attribute (map seen (drop l.one-index l.all)) ≡ l.initial.into.items ++ flat_map attribute (map seen l.all)

@@ -1,0 +1,67 @@
+-- What the lines ahead tell of a line.
+use Rattle.std.specs.Prelude.{ℕ, ◌==◌, ◌&&◌, Bool, true, false, if◌then◌else◌, List, [], ◌∷◌, ◌++◌}
+use Rattle.std.specs.declared.option.Option.{Option}
+use Rattle.std.specs.declared.option.Option.TheVariants.{None, Some}
+use Rattle.dm_link.specs.declared.Pid.{Pid}
+use Rattle.dm_link.specs.Names.{pid_eq}
+use Rattle.dm_message.specs.declared.MsgId.{MsgId}
+use Rattle.dm_schedule.specs.declared.Step.{Step}
+use Rattle.dm_schedule.specs.declared.Step.TheVariants as step
+use Rattle.dm_line.specs.declared.line.Line.{Line}
+use Rattle.dm_chart.specs.declared.role.Life.{Life}
+use Rattle.dm_chart.specs.declared.role.Life.TheVariants as life
+use Rattle.dm_chart.specs.declared.role.Role.{Role}
+use Rattle.dm_chart.specs.declared.role.Role.TheVariants as role
+use Rattle.dm_chart.specs.declared.scan.Wanted.{Wanted}
+use Rattle.dm_chart.specs.declared.scan.Wanted.TheVariants as wanted
+use Rattle.dm_chart.specs.declared.spot.Spot.{Spot}
+use Rattle.dm_chart.specs.Roles.{role_of}
+use Rattle.dm_chart.specs.Spots.{next_spot}
+use Rattle.dm_chart.specs.Behind.{is_among}
+
+-- message number n of a pair enters the inbox
+abbrev pub is_taken : ℕ → ℕ → ℕ → Role → Bool
+is_taken a b n (role.Taken c d k) = (c == a) && (d == b) && (k == n)
+is_taken a b n _ = false
+
+-- packet k of a pair is delivered
+abbrev pub delivers : ℕ → ℕ → ℕ → Step → Bool
+delivers a b k (step.Deliver c d j) = (c == a) && (d == b) && (j == k)
+delivers a b k _ = false
+
+abbrev pub is_delivery : ℕ → ℕ → ℕ → Role → Bool
+is_delivery a b k (role.Head e) = delivers a b k e
+is_delivery a b k _ = false
+
+-- a process's life on a machine ends: it is frozen, it ends, or a message that kills it is served
+abbrev pub ends_life : Pid → List MsgId → Life → Bool
+ends_life p kills life.Same = false
+ends_life p kills (life.Made q) = false
+ends_life p kills (life.From q) = false
+ends_life p kills (life.Ends q) = pid_eq q p
+ends_life p kills (life.Leaves q) = pid_eq q p
+ends_life p kills (life.Served i) = is_among i kills
+
+abbrev pub is_end : Pid → List MsgId → Role → Bool
+is_end p kills (role.Note l) = ends_life p kills l
+is_end p kills _ = false
+
+-- a process goes on
+abbrev pub begins_life : Pid → Life → Bool
+begins_life p (life.From q) = pid_eq q p
+begins_life p _ = false
+
+abbrev pub is_restart : Pid → Role → Bool
+is_restart p (role.Note l) = begins_life p l
+is_restart p _ = false
+
+unfoldable pub is_wanted : Wanted → Role → Bool
+is_wanted (wanted.Taken a b n) r = is_taken a b n r
+is_wanted (wanted.Delivery a b k) r = is_delivery a b k r
+is_wanted (wanted.End p kills) r = is_end p kills.now r
+is_wanted (wanted.Restart p) r = is_restart p r
+
+-- behind the first line ahead that passes a test
+unfoldable pub first_ahead : (Role → Bool) → Spot → List Line → Option Spot
+first_ahead test s [] = None
+first_ahead test s (l ∷ ls) = if test (role_of l) then Some (next_spot s l) else first_ahead test (next_spot s l) ls

@@ -1,0 +1,53 @@
+-- What other lines tell of a message.
+use Rattle.std.specs.Prelude.{ℕ, ◌==◌, ◌&&◌, Bool, true, false, if◌then◌else◌, List, [], ◌∷◌, count_by}
+use Rattle.std.specs.List.{list_any, flat_map}
+use Rattle.dm_link.specs.declared.Pid.{Pid}
+use Rattle.dm_link.specs.Names.{pid_eq}
+use Rattle.dm_message.specs.declared.MsgId.{MsgId}
+use Rattle.dm_message.specs.declared.kind.MessageKind.{MessageKind}
+use Rattle.dm_message.specs.declared.kind.MessageKind.TheVariants as kind
+use Rattle.dm_message.specs.Ids.{id_eq}
+use Rattle.dm_line.specs.declared.line.Line.{Line}
+use Rattle.dm_chart.specs.declared.role.Role.{Role}
+use Rattle.dm_chart.specs.declared.role.Role.TheVariants as role
+use Rattle.dm_chart.specs.Roles.{role_of}
+
+abbrev pub is_among : MsgId → List MsgId → Bool
+is_among i ids = list_any (λ j. id_eq j i) ids
+
+-- a put of this message
+abbrev pub puts_it : MsgId → Role → Bool
+puts_it i (role.Put x) = id_eq x.id i
+puts_it i _ = false
+
+abbrev pub puts_id : MsgId → Line → Bool
+puts_id i l = puts_it i (role_of l)
+
+-- one of these lines put it: where it is put again, it goes on
+abbrev pub was_put : MsgId → List Line → Bool
+was_put i ls = list_any (puts_id i) ls
+
+-- a put from one machine to another
+abbrev pub puts_there : ℕ → ℕ → Role → Bool
+puts_there a b (role.Put x) = (x.from == a) && (x.to == b)
+puts_there a b _ = false
+
+abbrev pub puts_between : ℕ → ℕ → Line → Bool
+puts_between a b l = puts_there a b (role_of l)
+
+-- how many of these lines are such puts: the number of the next one on the stream
+abbrev pub number_among : ℕ → ℕ → List Line → ℕ
+number_among a b ls = count_by (puts_between a b) ls
+
+-- a message that kills this process
+abbrev pub kill_with : Pid → MsgId → MessageKind → Pid → List MsgId
+kill_with p i kind.Kill q = if pid_eq q p then i ∷ [] else []
+kill_with p i _ q = []
+
+abbrev pub kill_in : Pid → Role → List MsgId
+kill_in p (role.Put x) = kill_with p x.id x.kind x.receiver
+kill_in p _ = []
+
+-- the messages of these lines that kill it
+abbrev pub kills_of : Pid → List Line → List MsgId
+kills_of p ls = flat_map (λ l. kill_in p (role_of l)) ls

@@ -1,0 +1,56 @@
+-- Which groups a picture shows: those of which something is seen, one after another, as long as there is room.
+use Rattle.std.specs.Prelude.{ℕ, ◌+◌, ◌-◌, ◌^◌, ◌==◌, ◌&&◌, nat_lt, Bool, true, false, not, if◌then◌else◌, List, [], ◌∷◌, ◌++◌, fold, count_by}
+use Rattle.dm_line.specs.declared.line.Line.{Line}
+use Rattle.dm_chart.specs.declared.kept.Kept.{Kept}
+use Rattle.dm_chart.specs.declared.role.Role.{Role}
+use Rattle.dm_chart.specs.declared.role.Role.TheVariants as role
+use Rattle.dm_chart.specs.Roles.{role_of}
+use Rattle.dm_chart.specs.Spots.{first_spot, behind, most_rows}
+
+-- counts stay within 64 bits
+abbrev pub plus : ℕ → ℕ → ℕ
+plus a b = if nat_lt (a + b) (2 ^ 64) then a + b else 2 ^ 64 - 1
+
+-- no group has come
+abbrev pub none_kept : Kept
+none_kept = record { numbers = []; lines = []; rows = 0; full = false; groups = 0; messages = 0; left_groups = 0; left_messages = 0 }
+
+abbrev pub is_put : Role → Bool
+is_put (role.Put x) = true
+is_put _ = false
+
+unfoldable pub puts : Line → Bool
+puts l = is_put (role_of l)
+
+-- how many messages a group puts, and how many rows it has
+abbrev pub messages_in : List Line → ℕ
+messages_in g = count_by puts g
+
+abbrev pub rows_in : List Line → ℕ
+rows_in g = (behind first_spot g).row
+
+-- a group of which nothing is seen
+abbrev pub passed : Kept → ℕ → Kept
+passed k messages = record k { groups = plus k.groups 1; messages = plus k.messages messages }
+
+-- a group that is left out, and so are all behind it
+abbrev pub left : Kept → ℕ → Kept
+left k messages = record (passed k messages) { full = true; left_groups = plus k.left_groups 1; left_messages = plus k.left_messages messages }
+
+-- a group that is shown
+abbrev pub shown : Kept → ℕ → ℕ → List Line → Kept
+shown k messages rows g = record (passed k messages) { numbers = k.numbers ++ plus k.groups 1 ∷ []; lines = k.lines ++ g; rows = k.rows + rows }
+
+abbrev pub fits : Kept → ℕ → Bool
+fits k rows = not k.full && nat_lt (k.rows + rows) most_rows
+
+-- one more group
+unfoldable pub keep : Kept → List Line → Kept
+keep k g =
+    if rows_in g == 0 then passed k (messages_in g)
+    else if fits k (rows_in g) then shown k (messages_in g) (rows_in g) g
+    else left k (messages_in g)
+
+-- all groups
+abbrev pub kept_of : List (List Line) → Kept
+kept_of gs = fold keep none_kept gs

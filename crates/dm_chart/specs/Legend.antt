@@ -1,0 +1,47 @@
+-- What is the same in every picture: how things look, the marks, and what each means.
+use Rattle.std.specs.Prelude.{ℕ, codes, List, [], ◌∷◌}
+
+unfoldable pub style_sheet : List (List ℕ)
+style_sheet =
+    codes "<style>\n"
+    ∷ codes "text{font:11px Verdana,DejaVu Sans,sans-serif;fill:#222;stroke:#fff;stroke-width:3px;paint-order:stroke}\n"
+    ∷ codes ".t{font-size:15px}.m{font-size:13px;font-weight:bold}.g{fill:#999;font-size:9px}.s{fill:#555;font-size:9px}.q{font-size:10px;fill:#444}\n"
+    ∷ codes ".c1{fill:#00695c;font-weight:bold}.c2{fill:#c62828}.c3{fill:#1565c0}.c4{fill:#777;font-size:9px}\n"
+    ∷ codes ".n1{fill:#6a1b9a}.n2{fill:#1565c0}.n3{fill:#2e7d32}.n4{fill:#bf360c}\n"
+    ∷ codes "line,path,circle{fill:none;stroke-width:1.3}.ax{stroke:#999}.r{stroke:#eee}.o{stroke:#222}.p{stroke:#9e9e9e;stroke-dasharray:3 3}\n"
+    ∷ codes ".k0{stroke:#222;marker-end:url(#a0)}.k1{stroke:#6a1b9a;marker-end:url(#a1)}.k2{stroke:#1e88e5;marker-end:url(#a2)}\n"
+    ∷ codes ".k3{stroke:#2e7d32;stroke-dasharray:2 2;marker-end:url(#a3)}.k4{stroke:#d84315;stroke-dasharray:7 3;marker-end:url(#a4)}\n"
+    ∷ codes ".b{stroke-width:6;stroke-opacity:.75}.v{stroke-width:1.6;stroke-dasharray:1 3}\n"
+    ∷ codes "</style>\n"
+    ∷ []
+
+unfoldable pub marks : List (List ℕ)
+marks =
+    codes "<defs>\n"
+    ∷ codes "<marker id='a0' viewBox='0 0 8 8' refX='8' refY='4' markerWidth='8' markerHeight='8' orient='auto'><path d='M0 0L8 4L0 8z' style='fill:#222'/></marker>\n"
+    ∷ codes "<marker id='a1' viewBox='0 0 8 8' refX='8' refY='4' markerWidth='8' markerHeight='8' orient='auto'><path d='M0 0L8 4L0 8z' style='fill:#6a1b9a'/></marker>\n"
+    ∷ codes "<marker id='a2' viewBox='0 0 8 8' refX='8' refY='4' markerWidth='8' markerHeight='8' orient='auto'><path d='M0 0L8 4L0 8z' style='fill:#1e88e5'/></marker>\n"
+    ∷ codes "<marker id='a3' viewBox='0 0 8 8' refX='8' refY='4' markerWidth='8' markerHeight='8' orient='auto'><path d='M0 0L8 4L0 8z' style='fill:#2e7d32'/></marker>\n"
+    ∷ codes "<marker id='a4' viewBox='0 0 8 8' refX='8' refY='4' markerWidth='8' markerHeight='8' orient='auto'><path d='M0 0L8 4L0 8z' style='fill:#d84315'/></marker>\n"
+    ∷ codes "<path id='l0' class='k0' d='M0 -6h-10v6h9'/><path id='l1' class='k1' d='M0 -6h-10v6h9'/><path id='l2' class='k2' d='M0 -6h-10v6h9'/>\n"
+    ∷ codes "<path id='l3' class='k3' d='M0 -6h-10v6h9'/><path id='l4' class='k4' d='M0 -6h-10v6h9'/>\n"
+    ∷ codes "<circle id='early' r='3.5' style='fill:#fff;stroke:#777'/><circle id='open' r='3' style='fill:#fff;stroke:#c62828'/>\n"
+    ∷ codes "<path id='again' d='M-3 -3l6 6m0 -6l-6 6' style='stroke:#777'/><path id='lost' d='M-4 -4l8 8m0 -8l-8 8' style='stroke:#c62828'/>\n"
+    ∷ codes "</defs>\n"
+    ∷ []
+
+unfoldable pub meanings : List (List ℕ)
+meanings =
+    codes "<line class='k0' x1='10' y1='44' x2='46' y2='44'/><text class='q' x='54' y='48'>user message, from its put to an inbox</text>\n"
+    ∷ codes "<line class='k1' x1='10' y1='60' x2='46' y2='60'/><text class='q' x='54' y='64'>order, data move, making of a process</text>\n"
+    ∷ codes "<line class='k2' x1='10' y1='76' x2='46' y2='76'/><text class='q' x='54' y='80'>message of a migration</text>\n"
+    ∷ codes "<line class='k3' x1='10' y1='92' x2='46' y2='92'/><text class='q' x='54' y='96'>update of a sender's links</text>\n"
+    ∷ codes "<line class='k4' x1='10' y1='108' x2='46' y2='108'/><text class='q' x='54' y='112'>put again: forwarded, or sent on</text>\n"
+    ∷ codes "<line class='b' stroke='#5c6bc0' x1='10' y1='124' x2='28' y2='124'/><line class='v' stroke='#5c6bc0' x1='28' y1='124' x2='46' y2='124'/><text class='q' x='54' y='128'>a process, and how it moves</text>\n"
+    ∷ codes "<line class='p' x1='290' y1='44' x2='326' y2='44'/><use href='#early' x='326' y='44'/><text class='q' x='338' y='48'>packet that came early</text>\n"
+    ∷ codes "<line class='p' x1='290' y1='60' x2='326' y2='60'/><use href='#again' x='326' y='60'/><text class='q' x='338' y='64'>packet that came again</text>\n"
+    ∷ codes "<line class='p' x1='290' y1='76' x2='326' y2='76'/><use href='#lost' x='326' y='76'/><text class='q' x='338' y='80'>packet that never came</text>\n"
+    ∷ codes "<line class='o' x1='290' y1='92' x2='326' y2='92'/><use href='#open' x='326' y='92'/><text class='q' x='338' y='96'>in no inbox at the end</text>\n"
+    ∷ codes "<use href='#l0' x='326' y='110'/><text class='q' x='338' y='112'>to its own machine</text>\n"
+    ∷ codes "<text class='q' x='290' y='128'>acknowledgements, queues and idle turns aren't drawn</text>\n"
+    ∷ []

@@ -1,0 +1,15 @@
+pub mod Roles
+pub mod Spots
+pub mod Ahead
+pub mod Behind
+pub mod Styles
+pub mod Notes
+pub mod Shapes
+pub mod Xml
+pub mod Written
+pub mod Measures
+pub mod Drawn
+pub mod Legend
+pub mod Kept
+pub mod Picture
+pub mod Laws

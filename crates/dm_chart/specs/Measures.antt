@@ -1,0 +1,63 @@
+-- Where things stand in a picture, in units of the picture.
+use Rattle.std.specs.Prelude.{ℕ, ◌+◌, ◌-◌, ◌*◌, nat_lt, if◌then◌else◌, List, length, position, slice_index}
+use Rattle.std.specs.declared.option.Option.{Option}
+use Rattle.std.specs.declared.option.Option.TheVariants.{None, Some}
+use Rattle.dm_link.specs.declared.Pid.{Pid}
+use Rattle.dm_link.specs.Names.{pid_eq}
+use Rattle.dm_chart.specs.declared.frame.Frame.{Frame}
+use Rattle.dm_chart.specs.declared.frame.Point.{Point}
+use Rattle.dm_chart.specs.Spots.{most_rows}
+
+-- at most twelve lanes
+abbrev pub few : ℕ → ℕ
+few n = if nat_lt n 12 then n else 12
+
+-- a column: the axis, the lanes, the notes
+unfoldable pub column : Frame → ℕ
+column f = 210 + 22 * few (length f.processes)
+
+-- the axis of a machine: where its messages leave, and enter its inbox
+unfoldable pub axis : Frame → ℕ → ℕ
+axis f m = 170 + m * column f
+
+-- the lane of a process on a machine
+unfoldable pub lane_at : Frame → ℕ → ℕ → ℕ
+lane_at f m lane = axis f m + 20 + 22 * few lane
+
+-- where the notes of a machine stand
+unfoldable pub beside : Frame → ℕ → ℕ
+beside f m = axis f m + 12 + 22 * few (length f.processes)
+
+-- where a row stands
+unfoldable pub height : ℕ → ℕ
+height row = 190 + 16 * (if nat_lt row most_rows then row else most_rows)
+
+-- the breadth of the picture
+unfoldable pub breadth : Frame → ℕ
+breadth f = axis f f.machines + 90
+
+abbrev pub point : ℕ → ℕ → Point
+point x y = record { x = x; y = y }
+
+-- a row on the axis of a machine, and on a lane of it
+abbrev pub on_axis : Frame → ℕ → ℕ → Point
+on_axis f m row = point (axis f m) (height row)
+
+abbrev pub on_lane : Frame → ℕ → ℕ → ℕ → Point
+on_lane f m lane row = point (lane_at f m lane) (height row)
+
+-- so far from the axis of a machine towards another one, and so far down
+abbrev pub towards : Frame → ℕ → ℕ → ℕ → ℕ → ℕ → Point
+towards f a b row far down = point (if nat_lt a b then axis f a + far else axis f a - far) (height row + down)
+
+-- the first twelve processes have a lane
+abbrev pub within_lanes : Option ℕ → Option ℕ
+within_lanes None = None
+within_lanes (Some i) = if nat_lt i 12 then Some i else None
+
+abbrev pub lane_of : Frame → Pid → Option ℕ
+lane_of f p = within_lanes (position (λ q. pid_eq q p) f.processes)
+
+-- the number of a group that is shown
+abbrev pub number_of : Frame → ℕ → ℕ
+number_of f group = slice_index f.numbers group

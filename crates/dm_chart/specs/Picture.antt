@@ -1,0 +1,80 @@
+-- The whole picture.
+use Rattle.std.specs.Prelude.{ℕ, ◌+◌, ◌-◌, codes, List, [], ◌∷◌, ◌++◌, map, length}
+use Rattle.std.specs.List.{concat, flat_map}
+use Rattle.std.specs.Fmt.{decimal}
+use Rattle.dm_link.specs.declared.Pid.{Pid}
+use Rattle.dm_onekernel.specs.declared.boot.Boot.{Boot}
+use Rattle.dm_line.specs.declared.line.Line.{Line}
+use Rattle.dm_chart.specs.declared.frame.Frame.{Frame}
+use Rattle.dm_chart.specs.declared.frame.Point.{Point}
+use Rattle.dm_chart.specs.declared.kept.Kept.{Kept}
+use Rattle.dm_chart.specs.declared.role.Life.{Life}
+use Rattle.dm_chart.specs.declared.role.Life.TheVariants as life
+use Rattle.dm_chart.specs.declared.role.Role.{Role}
+use Rattle.dm_chart.specs.declared.role.Role.TheVariants as role
+use Rattle.dm_chart.specs.Roles.{role_of}
+use Rattle.dm_chart.specs.Shapes.{shapes}
+use Rattle.dm_chart.specs.Measures.{breadth, height, point}
+use Rattle.dm_chart.specs.Drawn.{all_drawn, written}
+use Rattle.dm_chart.specs.Legend.{style_sheet, marks, meanings}
+use Rattle.dm_chart.specs.Kept.{kept_of}
+use Rattle.dm_chart.specs.Xml.{alone, opening, closing}
+
+-- a process that is made
+abbrev pub made_with : Life → List Pid
+made_with (life.Made p) = p ∷ []
+made_with _ = []
+
+abbrev pub made_in : Role → List Pid
+made_in (role.Note l) = made_with l
+made_in _ = []
+
+-- those that are there from the start, and then those that are made
+abbrev pub processes_in : List Pid → List Line → List Pid
+processes_in ps ls = ps ++ flat_map (λ l. made_in (role_of l)) ls
+
+abbrev pub frame_of : ℕ → List Pid → Kept → Frame
+frame_of machines ps k = record { machines = machines; processes = processes_in ps k.lines; numbers = k.numbers; rows = k.rows }
+
+-- the attributes of the picture
+abbrev pub extent : Frame → List (List ℕ × List ℕ)
+extent f =
+    (codes "xmlns", codes "http://www.w3.org/2000/svg") ∷ (codes "width", decimal (breadth f)) ∷ (codes "height", decimal (height f.rows + 44)) ∷ []
+
+unfoldable pub sheet : Frame → List ℕ
+sheet f = alone (codes "rect") ((codes "width", decimal (breadth f)) ∷ (codes "height", decimal (height f.rows + 44)) ∷ (codes "fill", codes "#fff") ∷ [])
+
+unfoldable pub title : ℕ → Kept → List ℕ
+title machines k = written (codes "t") (point 10 24) (codes "machines " ∷ decimal machines ∷ codes ", groups " ∷ decimal k.groups ∷ codes ", messages " ∷ decimal k.messages ∷ [])
+
+-- what the picture leaves out: groups behind those that are shown, their messages, and bars
+unfoldable pub left_words : Point → ℕ → ℕ → ℕ → List ℕ
+left_words p groups messages bars =
+    written (codes "q") p
+    (codes "left out: " ∷ decimal groups ∷ codes " groups behind these, which put " ∷ decimal messages ∷ codes " messages; the bars of " ∷ decimal bars ∷ codes " processes" ∷ [])
+
+abbrev pub left_out : Frame → Kept → List ℕ
+left_out f k = left_words (point 10 (height f.rows + 30)) k.left_groups k.left_messages (length f.processes - 12)
+
+-- what stands before the shapes
+unfoldable pub head : Frame → Kept → List ℕ
+head f k = concat style_sheet ++ concat marks ++ sheet f ++ title f.machines k ++ concat meanings
+
+abbrev pub picture_in : Frame → List Pid → Kept → List ℕ
+picture_in f ps k =
+    opening (codes "svg") (extent f)
+    ++ head f k
+    ++ all_drawn f (shapes f.machines f.rows ps k.lines)
+    ++ left_out f k
+    ++ closing (codes "svg")
+
+-- the picture of what is kept, for so many machines and the processes that are there from the start
+unfoldable pub picture_of : ℕ → List Pid → Kept → List ℕ
+picture_of machines ps k = picture_in (frame_of machines ps k) ps k
+
+abbrev pub starts_of : Boot → List Pid
+starts_of b = map (λ p. p.pid) b.processes
+
+-- the picture of a run: of its boot file, and the lines of its groups
+abbrev pub chart_of : Boot → List (List Line) → List ℕ
+chart_of b gs = picture_of (length b.machines) (starts_of b) (kept_of gs)

@@ -1,0 +1,141 @@
+-- What is drawn of a run: the shapes of each line, by where the picture stands, the lines before and the lines after it.
+use Rattle.std.specs.Prelude.{ℕ, zero, suc, ◌+◌, ◌-◌, ◌==◌, ◌&&◌, Bool, true, false, not, is_some, if◌then◌else◌, List, [], ◌∷◌, ◌++◌, map}
+use Rattle.std.specs.declared.option.Option.{Option}
+use Rattle.std.specs.declared.option.Option.TheVariants.{None, Some}
+use Rattle.dm_link.specs.declared.Pid.{Pid}
+use Rattle.dm_schedule.specs.declared.Step.{Step}
+use Rattle.dm_line.specs.declared.line.Line.{Line}
+use Rattle.dm_chart.specs.declared.role.Letter.{Letter}
+use Rattle.dm_chart.specs.declared.role.Life.{Life}
+use Rattle.dm_chart.specs.declared.role.Life.TheVariants as life
+use Rattle.dm_chart.specs.declared.role.Role.{Role}
+use Rattle.dm_chart.specs.declared.role.Role.TheVariants as role
+use Rattle.dm_chart.specs.declared.spot.Spot.{Spot}
+use Rattle.dm_chart.specs.declared.style.Style.{Style}
+use Rattle.dm_chart.specs.Roles.{role_of}
+use Rattle.dm_chart.specs.Spots.{first_spot, next_spot}
+use Rattle.dm_chart.specs.Ahead.{first_ahead, is_taken, is_delivery, is_end, is_restart}
+use Rattle.dm_chart.specs.Behind.{was_put, number_among, kills_of}
+use Rattle.dm_chart.specs.Styles.{style_of}
+
+-- machines and rows are numbers
+pub data Shape : Type 0 where
+  -- a machine
+  Column : ℕ → Shape
+  -- a process on a machine, from a row to a row
+  Bar : Pid → ℕ → ℕ → ℕ → Shape
+  -- a process moves from a machine and row to a machine and row
+  Moves : Pid → ℕ → ℕ → ℕ → ℕ → Shape
+  -- a group begins at a row: which of those that are shown it is, from 0, and its directive
+  Group : ℕ → ℕ → Step → Shape
+  -- a message that is put at a row, and the row at which it enters an inbox, where it does
+  Arrow : Style → Letter → ℕ → Option ℕ → Shape
+  -- a packet that came between two machines, from a row to a row: once more with its message, early, or again
+  Came : ℕ → ℕ → ℕ → ℕ → Shape
+  Early : ℕ → ℕ → ℕ → ℕ → Shape
+  Again : ℕ → ℕ → ℕ → ℕ → Shape
+  -- a packet between two machines, from a row on, that never came
+  Lost : ℕ → ℕ → ℕ → Shape
+  -- what is written of a line beside a machine, at a row
+  Beside : ℕ → ℕ → Line → Shape
+
+-- the row of a place, where there is one
+abbrev pub row_of : Option Spot → Option ℕ
+row_of None = None
+row_of (Some s) = Some s.row
+
+abbrev pub row_or : ℕ → Option Spot → ℕ
+row_or last None = last
+row_or last (Some s) = s.row
+
+-- a message to its own machine is in the inbox at once; another one where its number on the stream is taken
+abbrev pub comes_at : ℕ → ℕ → List Line → Spot → List Line → Option ℕ
+comes_at a b before s after = if a == b then Some s.row else row_of (first_ahead (is_taken a b (number_among a b before)) s after)
+
+-- how long a process's life on a machine lasts, from a place on
+abbrev pub bar : ℕ → List Line → Pid → ℕ → Spot → List Line → Shape
+bar last all p m s after = Bar p m s.row (row_or last (first_ahead (is_end p (kills_of p all)) s after))
+
+-- where it goes on, if it does
+abbrev pub moves_to : Pid → Spot → Option Spot → List Shape
+moves_to p s None = []
+moves_to p s (Some t) = Moves p s.machine s.row t.machine t.row ∷ []
+
+abbrev pub life_shapes : ℕ → List Line → Life → Spot → List Line → List Shape
+life_shapes last all life.Same s after = []
+life_shapes last all (life.Made p) s after = bar last all p s.machine s after ∷ []
+life_shapes last all (life.From p) s after = bar last all p s.machine s after ∷ []
+life_shapes last all (life.Ends p) s after = []
+life_shapes last all (life.Leaves p) s after = moves_to p s (first_ahead (is_restart p) s after)
+life_shapes last all (life.Served i) s after = []
+
+-- what becomes of a packet where it is delivered; with its own message it is the message's arrow
+abbrev pub fate : ℕ → ℕ → ℕ → Bool → ℕ → Role → List Shape
+fate a b row own now (role.Taken c d n) = if own then [] else Came a b row now ∷ []
+fate a b row own now (role.Early c d n) = Early a b row now ∷ []
+fate a b row own now (role.Again c d n) = Again a b row now ∷ []
+fate a b row own now (role.Head e) = []
+fate a b row own now (role.Put x) = []
+fate a b row own now (role.Packet c d k n) = []
+fate a b row own now (role.Note l) = []
+fate a b row own now role.Unseen = []
+
+-- the line behind the head of a delivery says what becomes of it
+abbrev pub fate_here : Bool → ℕ → ℕ → ℕ → Bool → Spot → Role → List Shape
+fate_here false a b row own s r = []
+fate_here true a b row own s r = fate a b row own s.row r
+
+-- packet k of a pair, each time that it is delivered; `due` where the line before was the head of its delivery
+unfoldable pub deliveries : ℕ → ℕ → ℕ → ℕ → Bool → Bool → Spot → List Line → List Shape
+deliveries a b k row own due s [] = []
+deliveries a b k row own due s (l ∷ ls) =
+    fate_here due a b row own (next_spot s l) (role_of l) ++ deliveries a b k row own (is_delivery a b k (role_of l)) (next_spot s l) ls
+
+abbrev pub lost_unless : Bool → ℕ → ℕ → ℕ → List Shape
+lost_unless true a b row = []
+lost_unless false a b row = Lost a b row ∷ []
+
+-- a packet, each time that it is delivered, or that it never is
+abbrev pub sending_shapes : ℕ → ℕ → ℕ → ℕ → Bool → Spot → List Line → List Shape
+sending_shapes a b k row own s after = deliveries a b k row own false s after ++ lost_unless (is_some (first_ahead (is_delivery a b k) s after)) a b row
+
+-- a message that is put
+abbrev pub letter_shapes : Letter → List Line → Spot → List Line → List Shape
+letter_shapes x before s after = Arrow (style_of x.kind (was_put x.id before)) x s.row (comes_at x.from x.to before s after) ∷ []
+
+-- the shapes of a line itself, behind which the picture stands at s; `own` where the line before put a message
+abbrev pub own_shapes : ℕ → List Line → Bool → List Line → Spot → List Line → Role → List Shape
+own_shapes last all own before s after (role.Head e) = []
+own_shapes last all own before s after (role.Put x) = letter_shapes x before s after
+own_shapes last all own before s after (role.Packet a b k n) = sending_shapes a b k s.row own s after
+own_shapes last all own before s after (role.Taken a b n) = []
+own_shapes last all own before s after (role.Early a b n) = []
+own_shapes last all own before s after (role.Again a b n) = []
+own_shapes last all own before s after (role.Note way) = life_shapes last all way s after
+own_shapes last all own before s after role.Unseen = []
+
+-- the first row of a group has its number and its directive
+abbrev pub group_shapes : Spot → Spot → List Shape
+group_shapes before s = if not before.begun && s.begun then Group s.row (s.groups - 1) s.step ∷ [] else []
+
+abbrev pub line_shapes : ℕ → List Line → List Line → Spot → Line → List Line → List Shape
+line_shapes last all before s l after =
+    group_shapes s (next_spot s l) ++ own_shapes last all s.own before (next_spot s l) after (role_of l) ++ Beside (next_spot s l).machine (next_spot s l).row l ∷ []
+
+-- the shapes of lines, behind others
+unfoldable pub shapes_from : ℕ → List Line → List Line → Spot → List Line → List Shape
+shapes_from last all before s [] = []
+shapes_from last all before s (l ∷ ls) = line_shapes last all before s l ls ++ shapes_from last all (before ++ l ∷ []) (next_spot s l) ls
+
+-- the machines below n
+unfoldable pub columns : ℕ → List Shape
+columns zero = []
+columns (suc n) = columns n ++ Column n ∷ []
+
+-- the processes that are there from the start
+abbrev pub first_bar : ℕ → List Line → Pid → Shape
+first_bar last all p = bar last all p p.home first_spot all
+
+-- the whole picture: `last` is its last row
+abbrev pub shapes : ℕ → ℕ → List Pid → List Line → List Shape
+shapes machines last ps all = columns machines ++ map (first_bar last all) ps ++ shapes_from last all [] first_spot all

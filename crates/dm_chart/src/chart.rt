@@ -1,0 +1,325 @@
+//! The whole picture.
+ghost use Rattle.std.specs.Prelude.{◌≡◌, ◌-◌, [], ◌∷◌, ◌++◌, IfOk, OnOk, codes, length, map, option_to_list};
+ghost use Rattle.std.specs.List.{concat, flat_map};
+ghost use Rattle.dm_chart.specs.Drawn.{all_drawn};
+ghost use Rattle.dm_chart.specs.Picture.{extent, frame_of, head, left_out, left_words, made_in, made_with, picture_in, picture_of, processes_in, sheet, starts_of, title};
+ghost use Rattle.dm_chart.specs.Roles.{role_of};
+ghost use Rattle.dm_chart.specs.Shapes.{columns, first_bar, shapes};
+ghost use Rattle.dm_chart.specs.Spots.{first_spot};
+ghost use Rattle.dm_chart.specs.Xml.{opening};
+
+use crate::draw::{put_column, put_written};
+use crate::frame::{Frame, MOST_LANES, Point, breadth, height};
+use crate::kept::Kept;
+use crate::key::{put_marks, put_meanings, put_style_sheet};
+use crate::lines::{put_lines, put_living};
+use crate::role::{Life, Role, role_of};
+use crate::spot::first_spot;
+use crate::xml::{put_alone, put_closing, put_opening, with};
+use dm_line::line::Line;
+use dm_link::Pid;
+use dm_lists::Items;
+use dm_memory::NoMemory;
+use dm_onekernel::boot::Boot;
+use dm_text::word::Word::{Byte, Name, Number, Wide};
+use std::alloc::Global;
+
+/// The names of the processes that are there from the start.
+#[tactic(auto, using(crate::proofs::Pieces::pieces_lemmas))]
+pub fn starts_of(alloc: Global, boot: &Boot) -> Result<Items<Pid>, NoMemory>
+    ensures { IfOk result (λ ps. ps ≡ starts_of boot.now) }
+{
+    let mut starts = Items::new(alloc);
+    for process in boot.processes.as_slice() {
+        starts.push(process.pid)?;
+    }
+    Ok(starts)
+}
+
+/// The text of the picture of what is kept of a run, a document in the form SVG: for so many machines, and these
+/// processes from the start.
+#[tactic(auto, unfolding(crate::specs::Picture::picture_of))]
+pub fn picture(
+    alloc: Global,
+    machines: u8,
+    starts: &[Pid],
+    kept: &Kept,
+) -> Result<Vec<u8>, NoMemory>
+    ensures { IfOk result (λ text. text.items ≡ picture_of machines starts.now kept.now) }
+{
+    let frame = frame_of(alloc, machines, starts, kept)?;
+    let mut text = Vec::new(alloc);
+    put_picture(alloc, &mut text, &frame, starts, kept)?;
+    Ok(text)
+}
+
+/// What the picture is drawn in.
+fn frame_of(alloc: Global, machines: u8, starts: &[Pid], kept: &Kept) -> Result<Frame, NoMemory>
+    ensures { IfOk result (λ f. f ≡ frame_of machines starts.now kept.now) }
+{
+    let processes = processes_in(alloc, starts, kept.lines.as_slice())?;
+    let numbers = copied(alloc, kept.numbers.as_slice())?;
+    Ok(Frame {
+        machines,
+        processes,
+        numbers,
+        rows: kept.rows,
+    })
+}
+
+/// These numbers.
+fn copied(alloc: Global, numbers: &[u64]) -> Result<Items<u64>, NoMemory>
+    ensures { IfOk result (λ ns. ns ≡ numbers.now) }
+{
+    let mut all = Items::new(alloc);
+    for number in numbers {
+        all.push(*number)?;
+    }
+    Ok(all)
+}
+
+/// The processes that are there from the start, and those that are made.
+fn processes_in(alloc: Global, starts: &[Pid], lines: &[Line]) -> Result<Items<Pid>, NoMemory>
+    ensures { IfOk result (λ ps. ps ≡ processes_in starts.now lines.now) }
+{
+    let mut processes = Items::new(alloc);
+    push_starts(&mut processes, starts)?;
+    push_made(&mut processes, lines)?;
+    Ok(processes)
+}
+
+/// Adds the processes that are there from the start.
+#[tactic(auto, using(crate::proofs::Pieces::pieces_lemmas))]
+fn push_starts(processes: &mut Items<Pid>, starts: &[Pid]) -> Result<(), NoMemory>
+    ensures { OnOk result (processes.new ≡ processes.old ++ starts.now) }
+{
+    for start in starts {
+        processes.push(*start)?;
+    }
+    Ok(())
+}
+
+/// Adds the processes that are made.
+#[tactic(auto, using(crate::proofs::Pieces::pieces_lemmas))]
+fn push_made(processes: &mut Items<Pid>, lines: &[Line]) -> Result<(), NoMemory>
+    ensures { OnOk result (processes.new ≡ processes.old ++ flat_map (λ l. made_in (role_of l)) lines.now) }
+{
+    for line in lines {
+        add(processes, made_in(role_of(line)))?;
+    }
+    Ok(())
+}
+
+/// Adds a process, where there is one.
+fn add(processes: &mut Items<Pid>, found: Option<Pid>) -> Result<(), NoMemory>
+    ensures { OnOk result (processes.new ≡ processes.old ++ option_to_list found) }
+{
+    let Some(pid) = found else {
+        return Ok(());
+    };
+    processes.push(pid)
+}
+
+/// The process that a line of this role makes.
+fn made_in(role: Role) -> Option<Pid>
+    ensures { option_to_list result ≡ made_in role }
+{
+    match role {
+        Role::Note(life) => made_with(life),
+        _ => None,
+    }
+}
+
+fn made_with(life: Life) -> Option<Pid>
+    ensures { option_to_list result ≡ made_with life }
+{
+    match life {
+        Life::Made(pid) => Some(pid),
+        _ => None,
+    }
+}
+
+/// Writes the picture.
+fn put_picture(
+    alloc: Global,
+    into: &mut Vec<u8>,
+    frame: &Frame,
+    starts: &[Pid],
+    kept: &Kept,
+) -> Result<(), NoMemory>
+    ensures { OnOk result (into.new.items ≡ into.old.items ++ picture_in frame.now starts.now kept.now) }
+{
+    put_extent(into, frame)?;
+    put_head(into, frame, kept)?;
+    put_shapes(alloc, into, frame, starts, kept)?;
+    put_left_out(into, frame, kept)?;
+    put_closing(into, "svg")
+}
+
+/// Writes what stands before the shapes.
+#[tactic(auto, unfolding(crate::specs::Picture::head))]
+fn put_head(into: &mut Vec<u8>, frame: &Frame, kept: &Kept) -> Result<(), NoMemory>
+    ensures { OnOk result (into.new.items ≡ into.old.items ++ head frame.now kept.now) }
+{
+    put_style_sheet(into)?;
+    put_marks(into)?;
+    put_sheet(into, frame)?;
+    put_title(into, frame.machines, kept)?;
+    put_meanings(into)
+}
+
+/// Opens the picture.
+#[tactic(auto, unfolding(crate::specs::Xml::opening))]
+fn put_extent(into: &mut Vec<u8>, frame: &Frame) -> Result<(), NoMemory>
+    ensures { OnOk result (into.new.items ≡ into.old.items ++ opening (codes "svg") (extent frame.now)) }
+{
+    put_opening(
+        into,
+        "svg",
+        &[
+            with("xmlns", Name("http://www.w3.org/2000/svg")),
+            with("width", Number(breadth(frame))),
+            with("height", Number(height(frame.rows) + 44)),
+        ],
+    )
+}
+
+/// Draws a white ground.
+#[tactic(auto, unfolding(crate::specs::Picture::sheet))]
+fn put_sheet(into: &mut Vec<u8>, frame: &Frame) -> Result<(), NoMemory>
+    ensures { OnOk result (into.new.items ≡ into.old.items ++ sheet frame.now) }
+{
+    put_alone(
+        into,
+        "rect",
+        &[
+            with("width", Number(breadth(frame))),
+            with("height", Number(height(frame.rows) + 44)),
+            with("fill", Name("#fff")),
+        ],
+    )
+}
+
+/// Writes how much there was.
+#[tactic(auto, unfolding(crate::specs::Picture::title))]
+fn put_title(into: &mut Vec<u8>, machines: u8, kept: &Kept) -> Result<(), NoMemory>
+    ensures { OnOk result (into.new.items ≡ into.old.items ++ title machines kept.now) }
+{
+    put_written(
+        into,
+        "t",
+        Point { x: 10, y: 24 },
+        &[
+            Name("machines "),
+            Byte(machines),
+            Name(", groups "),
+            Wide(kept.groups),
+            Name(", messages "),
+            Wide(kept.messages),
+        ],
+    )
+}
+
+/// Writes what the picture leaves out.
+fn put_left_out(into: &mut Vec<u8>, frame: &Frame, kept: &Kept) -> Result<(), NoMemory>
+    ensures { OnOk result (into.new.items ≡ into.old.items ++ left_out frame.now kept.now) }
+{
+    let p = Point {
+        x: 10,
+        y: height(frame.rows) + 30,
+    };
+    put_left_words(
+        into,
+        p,
+        kept.left_groups,
+        kept.left_messages,
+        without_lane(frame),
+    )
+}
+
+/// Writes that so many groups, messages and bars are left out.
+#[tactic(auto, unfolding(crate::specs::Picture::left_words))]
+fn put_left_words(
+    into: &mut Vec<u8>,
+    p: Point,
+    groups: u64,
+    messages: u64,
+    bars: u64,
+) -> Result<(), NoMemory>
+    ensures { OnOk result (into.new.items ≡ into.old.items ++ left_words p groups messages bars) }
+{
+    put_written(
+        into,
+        "q",
+        p,
+        &[
+            Name("left out: "),
+            Wide(groups),
+            Name(" groups behind these, which put "),
+            Wide(messages),
+            Name(" messages; the bars of "),
+            Wide(bars),
+            Name(" processes"),
+        ],
+    )
+}
+
+/// How many processes have no lane.
+fn without_lane(frame: &Frame) -> u64
+    ensures { result ≡ length frame.now.processes - 12 }
+{
+    frame.processes.len().saturating_sub(MOST_LANES) as u64
+}
+
+/// Draws all shapes.
+fn put_shapes(
+    alloc: Global,
+    into: &mut Vec<u8>,
+    frame: &Frame,
+    starts: &[Pid],
+    kept: &Kept,
+) -> Result<(), NoMemory>
+    ensures { OnOk result (into.new.items ≡ into.old.items ++ all_drawn frame.now (shapes frame.now.machines frame.now.rows starts.now kept.now.lines)) }
+{
+    let lines = kept.lines.as_slice();
+    put_columns(into, frame)?;
+    put_starts(alloc, into, frame, starts, lines)?;
+    put_lines(alloc, into, frame, lines)
+}
+
+/// Draws the machines.
+#[tactic(auto, using(crate::proofs::Walks::column_lemmas))]
+fn put_columns(into: &mut Vec<u8>, frame: &Frame) -> Result<(), NoMemory>
+    ensures { OnOk result (into.new.items ≡ into.old.items ++ all_drawn frame.now (columns frame.now.machines)) }
+{
+    for m in 0..frame.machines {
+        put_column(into, frame, m)?;
+    }
+    Ok(())
+}
+
+/// Draws the processes that are there from the start.
+#[tactic(auto, using(crate::proofs::Pieces::mapped_lemmas))]
+fn put_starts(
+    alloc: Global,
+    into: &mut Vec<u8>,
+    frame: &Frame,
+    starts: &[Pid],
+    lines: &[Line],
+) -> Result<(), NoMemory>
+    ensures { OnOk result (into.new.items ≡ into.old.items ++ all_drawn frame.now (map (first_bar frame.now.rows lines.now) starts.now)) }
+{
+    for start in starts {
+        put_living(
+            alloc,
+            into,
+            frame,
+            *start,
+            start.home,
+            first_spot(),
+            lines,
+            lines,
+        )?;
+    }
+    Ok(())
+}

@@ -1,0 +1,326 @@
+//! The shapes of lines.
+ghost use Rattle.std.specs.Prelude.{◌≡◌, [], ◌∷◌, ◌++◌, OnOk, false};
+ghost use Rattle.dm_chart.specs.Ahead.{first_ahead, is_restart};
+ghost use Rattle.dm_chart.specs.Drawn.{all_drawn};
+ghost use Rattle.dm_chart.specs.Shapes.{bar, comes_at, deliveries, fate_here, group_shapes, letter_shapes, life_shapes, line_shapes, moves_to, own_shapes, sending_shapes, shapes_from};
+ghost use Rattle.dm_chart.specs.Spots.{first_spot};
+
+use crate::draw::{
+    put_arrow, put_bar, put_group, put_lost, put_marked_packet, put_moves, put_packet,
+};
+use crate::frame::{Frame, lane_of};
+use crate::notes::put_note;
+use crate::role::{Letter, Life, Role, role_of};
+use crate::scan::{Wanted, first_ahead, is_delivery, kills_of, number_among, was_put};
+use crate::spot::{Spot, first_spot, next_spot};
+use crate::style::style_of;
+use dm_line::line::Line;
+use dm_link::Pid;
+use dm_memory::NoMemory;
+use std::alloc::Global;
+
+/// The way of a packet: from a machine to a machine, as packet k, from a row on.
+#[derive(Clone, Copy, Debug, PartialEq, Eq)]
+struct Sending {
+    from: u8,
+    to: u8,
+    k: u64,
+    row: u32,
+    /// It goes out with its message.
+    own: bool,
+}
+
+/// All lines, and those before and after one of them.
+#[derive(Clone, Copy)]
+struct Page<'a> {
+    all: &'a [Line],
+    before: &'a [Line],
+    after: &'a [Line],
+}
+
+/// Draws all lines.
+pub fn put_lines(
+    alloc: Global,
+    into: &mut Vec<u8>,
+    frame: &Frame,
+    lines: &[Line],
+) -> Result<(), NoMemory>
+    ensures { OnOk result (into.new.items ≡ into.old.items ++ all_drawn frame.now (shapes_from frame.now.rows lines.now [] first_spot lines.now)) }
+{
+    let mut spot = first_spot();
+    for (i, line) in lines.iter().enumerate() {
+        let page = Page {
+            all: lines,
+            before: &lines[..i],
+            after: &lines[i + 1..],
+        };
+        put_line(alloc, into, frame, &page, spot, line)?;
+        spot = next_spot(spot, line);
+    }
+    Ok(())
+}
+
+/// Draws a line of a page.
+#[tactic(auto, using(crate::proofs::Walks::drawn_lemmas))]
+fn put_line(
+    alloc: Global,
+    into: &mut Vec<u8>,
+    frame: &Frame,
+    page: &Page,
+    before: Spot,
+    line: &Line,
+) -> Result<(), NoMemory>
+    ensures { OnOk result (into.new.items ≡ into.old.items ++ all_drawn frame.now (line_shapes frame.now.rows page.now.all.now page.now.before.now before line.now page.now.after.now)) }
+{
+    let spot = next_spot(before, line);
+    put_beginning(into, frame, before, spot)?;
+    put_role(alloc, into, frame, page, before.own, spot, role_of(line))?;
+    put_note(into, frame, spot.machine, spot.row, line)
+}
+
+/// Draws that a group begins, where this is its first row.
+fn put_beginning(
+    into: &mut Vec<u8>,
+    frame: &Frame,
+    before: Spot,
+    spot: Spot,
+) -> Result<(), NoMemory>
+    ensures { OnOk result (into.new.items ≡ into.old.items ++ all_drawn frame.now (group_shapes before spot)) }
+{
+    if !before.begun && spot.begun {
+        put_group(
+            into,
+            frame,
+            spot.row,
+            spot.groups.saturating_sub(1),
+            spot.step,
+        )
+    } else {
+        Ok(())
+    }
+}
+
+/// Draws what a line of this role is for the picture, behind which it stands at a place.
+fn put_role(
+    alloc: Global,
+    into: &mut Vec<u8>,
+    frame: &Frame,
+    page: &Page,
+    own: bool,
+    spot: Spot,
+    role: Role,
+) -> Result<(), NoMemory>
+    ensures { OnOk result (into.new.items ≡ into.old.items ++ all_drawn frame.now (own_shapes frame.now.rows page.now.all.now own page.now.before.now spot page.now.after.now role)) }
+{
+    match role {
+        Role::Put(letter) => put_letter(into, frame, letter, spot, page.before, page.after),
+        Role::Packet { from, to, k, .. } => {
+            let row = spot.row;
+            let sending = Sending {
+                from,
+                to,
+                k,
+                row,
+                own,
+            };
+            put_sending(into, frame, sending, spot, page.after)
+        }
+        Role::Note(life) => put_life(alloc, into, frame, life, spot, page.all, page.after),
+        Role::Head(_)
+        | Role::Taken { .. }
+        | Role::Early { .. }
+        | Role::Again { .. }
+        | Role::Unseen => Ok(()),
+    }
+}
+
+/// Draws a message that is put.
+fn put_letter(
+    into: &mut Vec<u8>,
+    frame: &Frame,
+    letter: Letter,
+    spot: Spot,
+    before: &[Line],
+    after: &[Line],
+) -> Result<(), NoMemory>
+    ensures { OnOk result (into.new.items ≡ into.old.items ++ all_drawn frame.now (letter_shapes letter before.now spot after.now)) }
+{
+    let style = style_of(letter.kind, was_put(before, letter.id));
+    let last = comes_at(letter.from, letter.to, before, spot, after);
+    put_arrow(into, frame, style, letter, spot.row, last)
+}
+
+/// The row at which a message enters an inbox.
+#[tactic(auto, unfolding(crate::specs::Ahead::is_wanted), using(crate::proofs::Walks::drawn_lemmas))]
+fn comes_at(from: u8, to: u8, before: &[Line], spot: Spot, after: &[Line]) -> Option<u32>
+    ensures { result ≡ comes_at from to before.now spot after.now }
+{
+    if from == to {
+        return Some(spot.row);
+    }
+    let n = number_among(before, from, to);
+    match first_ahead(Wanted::Taken { from, to, n }, spot, after) {
+        Some(found) => Some(found.row),
+        None => None,
+    }
+}
+
+/// Draws a packet, each time that it is delivered, or that it never is.
+#[tactic(auto, unfolding(crate::specs::Ahead::is_wanted), using(crate::proofs::Walks::drawn_lemmas))]
+fn put_sending(
+    into: &mut Vec<u8>,
+    frame: &Frame,
+    sending: Sending,
+    spot: Spot,
+    after: &[Line],
+) -> Result<(), NoMemory>
+    ensures { OnOk result (into.new.items ≡ into.old.items ++ all_drawn frame.now (sending_shapes sending.from sending.to sending.k sending.row sending.own spot after.now)) }
+{
+    let Sending {
+        from,
+        to,
+        k,
+        row,
+        ..
+    } = sending;
+    put_deliveries(into, frame, sending, spot, after)?;
+    if first_ahead(Wanted::Delivery { from, to, k }, spot, after).is_some() {
+        Ok(())
+    } else {
+        put_lost(into, frame, from, to, row)
+    }
+}
+
+/// Draws a packet, each time that it is delivered.
+fn put_deliveries(
+    into: &mut Vec<u8>,
+    frame: &Frame,
+    sending: Sending,
+    from: Spot,
+    lines: &[Line],
+) -> Result<(), NoMemory>
+    ensures { OnOk result (into.new.items ≡ into.old.items ++ all_drawn frame.now (deliveries sending.from sending.to sending.k sending.row sending.own false from lines.now)) }
+{
+    let mut due = false;
+    let mut spot = from;
+    for line in lines {
+        spot = next_spot(spot, line);
+        let role = role_of(line);
+        put_fate(into, frame, sending, due, spot, role)?;
+        due = is_delivery(sending.from, sending.to, sending.k, role);
+    }
+    Ok(())
+}
+
+/// Draws what becomes of a packet, where it is due.
+fn put_fate(
+    into: &mut Vec<u8>,
+    frame: &Frame,
+    sending: Sending,
+    due: bool,
+    spot: Spot,
+    role: Role,
+) -> Result<(), NoMemory>
+    ensures { OnOk result (into.new.items ≡ into.old.items ++ all_drawn frame.now (fate_here due sending.from sending.to sending.row sending.own spot role)) }
+{
+    let Sending {
+        from,
+        to,
+        row,
+        own,
+        ..
+    } = sending;
+    if !due {
+        return Ok(());
+    }
+    match role {
+        Role::Taken { .. } => {
+            if own {
+                Ok(())
+            } else {
+                put_packet(into, frame, from, to, row, spot.row)
+            }
+        }
+        Role::Early { .. } => { put_marked_packet(into, frame, "#early", from, to, row, spot.row) }
+        Role::Again { .. } => { put_marked_packet(into, frame, "#again", from, to, row, spot.row) }
+        Role::Head(_) | Role::Put(_) | Role::Packet { .. } | Role::Note(_) | Role::Unseen => Ok(()),
+    }
+}
+
+/// Draws what a line tells of a process's life on the machine of its group.
+fn put_life(
+    alloc: Global,
+    into: &mut Vec<u8>,
+    frame: &Frame,
+    life: Life,
+    spot: Spot,
+    lines: &[Line],
+    after: &[Line],
+) -> Result<(), NoMemory>
+    ensures { OnOk result (into.new.items ≡ into.old.items ++ all_drawn frame.now (life_shapes frame.now.rows lines.now life spot after.now)) }
+{
+    match life {
+        Life::Made(pid) | Life::From(pid) => put_living(
+            alloc,
+            into,
+            frame,
+            pid,
+            spot.machine,
+            spot,
+            lines,
+            after,
+        ),
+        Life::Leaves(pid) => put_moving(into, frame, pid, spot, after),
+        Life::Same | Life::Ends(_) | Life::Served(_) => Ok(()),
+    }
+}
+
+/// Draws a process's life on a machine, from a place on.
+#[tactic(auto, unfolding(crate::specs::Ahead::is_wanted), using(crate::proofs::Walks::drawn_lemmas))]
+pub fn put_living(
+    alloc: Global,
+    into: &mut Vec<u8>,
+    frame: &Frame,
+    pid: Pid,
+    m: u8,
+    spot: Spot,
+    lines: &[Line],
+    after: &[Line],
+) -> Result<(), NoMemory>
+    ensures { OnOk result (into.new.items ≡ into.old.items ++ all_drawn frame.now (bar frame.now.rows lines.now pid m spot after.now ∷ [])) }
+{
+    let kills = kills_of(alloc, lines, pid)?;
+    let kills = kills.as_slice();
+    let last = match first_ahead(Wanted::End { pid, kills }, spot, after) {
+        Some(found) => found.row,
+        None => frame.rows,
+    };
+    put_bar(into, frame, pid, m, spot.row, last, lane_of(frame, pid))
+}
+
+/// Draws where a process goes on that leaves, if it does.
+#[tactic(auto, unfolding(crate::specs::Ahead::is_wanted), using(crate::proofs::Walks::drawn_lemmas))]
+fn put_moving(
+    into: &mut Vec<u8>,
+    frame: &Frame,
+    pid: Pid,
+    spot: Spot,
+    after: &[Line],
+) -> Result<(), NoMemory>
+    ensures { OnOk result (into.new.items ≡ into.old.items ++ all_drawn frame.now (moves_to pid spot (first_ahead (is_restart pid) spot after.now))) }
+{
+    match first_ahead(Wanted::Restart(pid), spot, after) {
+        Some(found) => {
+            put_moves(
+                into,
+                frame,
+                spot.machine,
+                spot.row,
+                found.machine,
+                found.row,
+                lane_of(frame, pid),
+            )
+        }
+        None => Ok(()),
+    }
+}

@@ -1,0 +1,378 @@
+//! The notes beside machines, a row a line.
+ghost use Rattle.std.specs.Prelude.{◌≡◌, [], ◌∷◌, ◌++◌, OnOk, codes};
+ghost use Rattle.std.specs.Fmt.{decimal};
+ghost use Rattle.dm_onekernel.specs.Codes.{reply_code};
+ghost use Rattle.dm_text.specs.Words.{id_word, pid_word};
+ghost use Rattle.dm_chart.specs.Drawn.{draw_beside, draw_note};
+ghost use Rattle.dm_chart.specs.Notes.{call_note, label_note, note_of, resent_note, stage_words};
+
+use crate::draw::put_beside;
+use crate::frame::Frame;
+use dm_line::line::{Line, Stage};
+use dm_link::Pid;
+use dm_memory::NoMemory;
+use dm_message::MsgId;
+use dm_onekernel::{Label, Reply};
+use dm_text::word::Word::{Byte, Message, Name, Number, Process};
+
+/// What is done.
+const PLAIN: &str = "c0";
+
+/// What comes of it: what is put out, what is made, what ends.
+const RESULT: &str = "c1";
+
+/// What is held, goes on or is dropped.
+const HELD: &str = "c2";
+
+/// Steps of a migration.
+const STEP: &str = "c3";
+
+/// Packets.
+const PACKET: &str = "c4";
+
+/// A note of a message.
+fn note_message(
+    into: &mut Vec<u8>,
+    frame: &Frame,
+    m: u8,
+    row: u32,
+    class: &'static str,
+    name: &'static str,
+    id: MsgId,
+) -> Result<(), NoMemory>
+    ensures { OnOk result (into.new.items ≡ into.old.items ++ draw_beside frame.now m row class.now (name.now ∷ id_word id ∷ [])) }
+{
+    put_beside(into, frame, m, row, class, &[Name(name), Message(id)])
+}
+
+/// A note of a process.
+fn note_process(
+    into: &mut Vec<u8>,
+    frame: &Frame,
+    m: u8,
+    row: u32,
+    class: &'static str,
+    name: &'static str,
+    pid: Pid,
+) -> Result<(), NoMemory>
+    ensures { OnOk result (into.new.items ≡ into.old.items ++ draw_beside frame.now m row class.now (name.now ∷ pid_word pid ∷ [])) }
+{
+    put_beside(into, frame, m, row, class, &[Name(name), Process(pid)])
+}
+
+/// A note of a number.
+fn note_number(
+    into: &mut Vec<u8>,
+    frame: &Frame,
+    m: u8,
+    row: u32,
+    class: &'static str,
+    name: &'static str,
+    n: u32,
+) -> Result<(), NoMemory>
+    ensures { OnOk result (into.new.items ≡ into.old.items ++ draw_beside frame.now m row class.now (name.now ∷ decimal n ∷ [])) }
+{
+    put_beside(into, frame, m, row, class, &[Name(name), Number(n)])
+}
+
+/// A note of what a process does with a message.
+fn note_done(
+    into: &mut Vec<u8>,
+    frame: &Frame,
+    m: u8,
+    row: u32,
+    class: &'static str,
+    pid: Pid,
+    does: &'static str,
+    id: MsgId,
+) -> Result<(), NoMemory>
+    ensures { OnOk result (into.new.items ≡ into.old.items ++ draw_beside frame.now m row class.now (pid_word pid ∷ does.now ∷ id_word id ∷ [])) }
+{
+    put_beside(
+        into,
+        frame,
+        m,
+        row,
+        class,
+        &[Process(pid), Name(does), Message(id)],
+    )
+}
+
+/// A note of what a process does with a number.
+fn note_said(
+    into: &mut Vec<u8>,
+    frame: &Frame,
+    m: u8,
+    row: u32,
+    class: &'static str,
+    pid: Pid,
+    does: &'static str,
+    n: u32,
+) -> Result<(), NoMemory>
+    ensures { OnOk result (into.new.items ≡ into.old.items ++ draw_beside frame.now m row class.now (pid_word pid ∷ does.now ∷ decimal n ∷ [])) }
+{
+    put_beside(
+        into,
+        frame,
+        m,
+        row,
+        class,
+        &[Process(pid), Name(does), Number(n)],
+    )
+}
+
+/// Writes the note of a line beside a machine, where it has one.
+pub fn put_note(
+    into: &mut Vec<u8>,
+    frame: &Frame,
+    m: u8,
+    row: u32,
+    line: &Line,
+) -> Result<(), NoMemory>
+    ensures { OnOk result (into.new.items ≡ into.old.items ++ draw_note frame.now m row (note_of line.now)) }
+{
+    match *line {
+        Line::Head(_)
+        | Line::Idle(_)
+        | Line::Put { .. }
+        | Line::Packet { .. }
+        | Line::Taken { .. }
+        | Line::Acked { .. }
+        | Line::Nothing
+        | Line::Queued(_)
+        | Line::Proto(_) => Ok(()),
+        Line::Label(label) => put_label_note(into, frame, m, row, label),
+        Line::Old { n, .. } => note_number(into, frame, m, row, PACKET, "again: number ", n),
+        Line::Early { n, .. } => note_number(into, frame, m, row, PACKET, "early: number ", n),
+        Line::Resent { count, .. } => put_resent(into, frame, m, row, count),
+        Line::Held(id) => note_message(into, frame, m, row, HELD, "held: ", id),
+        Line::Forwarded { id, .. } => { note_message(into, frame, m, row, HELD, "forwarded: ", id) }
+        Line::Updated { count, .. } => {
+            note_number(into, frame, m, row, PLAIN, "links that follow: ", count)
+        }
+        Line::Migration { step, pid } => {
+            note_process(into, frame, m, row, STEP, stage_name(step), pid)
+        }
+        Line::SentOn { pid, count } => put_sent_on(into, frame, m, row, pid, count),
+        Line::Lacks {
+            pid,
+            free_slots,
+            free_blocks,
+        } => put_lacks(into, frame, m, row, pid, free_slots, free_blocks),
+        Line::Stays(pid) => note_process(into, frame, m, row, STEP, "stays: ", pid),
+        Line::Here(id) => note_message(into, frame, m, row, STEP, "is here already, ", id),
+        Line::NoMove(id) => note_message(into, frame, m, row, STEP, "has ended, ", id),
+        Line::NoChild(pid) => note_process(into, frame, m, row, STEP, "no child: ", pid),
+        Line::Pinned(pid) => note_process(into, frame, m, row, STEP, "can't move: ", pid),
+    }
+}
+
+/// The note of a tick that has something to send again.
+fn put_resent(
+    into: &mut Vec<u8>,
+    frame: &Frame,
+    m: u8,
+    row: u32,
+    count: u32,
+) -> Result<(), NoMemory>
+    ensures { OnOk result (into.new.items ≡ into.old.items ++ draw_note frame.now m row (resent_note count)) }
+{
+    if count == 0 {
+        return Ok(());
+    }
+    note_number(into, frame, m, row, PACKET, "sends again: ", count)
+}
+
+/// The words of a step of a migration.
+fn stage_name(step: Stage) -> &'static str
+    ensures { result.now ≡ stage_words step }
+{
+    match step {
+        Stage::Frozen => "1 is frozen: ",
+        Stage::Asked => "2 asks for room: ",
+        Stage::Accepted => "3 has room: ",
+        Stage::StateTaken => "4 state has come: ",
+        Stage::MemoryTaken => "5 memory has come: ",
+        Stage::Left => "7 has left: ",
+        Stage::Restarted => "8 goes on: ",
+    }
+}
+
+/// The note of step 6 of a migration.
+fn put_sent_on(
+    into: &mut Vec<u8>,
+    frame: &Frame,
+    m: u8,
+    row: u32,
+    pid: Pid,
+    count: u32,
+) -> Result<(), NoMemory>
+    ensures { OnOk result (into.new.items ≡ into.old.items ++ draw_beside frame.now m row (codes "c3") (codes "6 sends on " ∷ decimal count ∷ codes ": " ∷ pid_word pid ∷ [])) }
+{
+    put_beside(
+        into,
+        frame,
+        m,
+        row,
+        STEP,
+        &[Name("6 sends on "), Number(count), Name(": "), Process(pid)],
+    )
+}
+
+/// The note of a process that can't come.
+fn put_lacks(
+    into: &mut Vec<u8>,
+    frame: &Frame,
+    m: u8,
+    row: u32,
+    pid: Pid,
+    slots: u8,
+    blocks: u16,
+) -> Result<(), NoMemory>
+    ensures { OnOk result (into.new.items ≡ into.old.items ++ draw_beside frame.now m row (codes "c3") (codes "no room for " ∷ pid_word pid ∷ codes ": slots " ∷ decimal slots ∷ codes ", blocks " ∷ decimal blocks ∷ [])) }
+{
+    put_beside(
+        into,
+        frame,
+        m,
+        row,
+        STEP,
+        &[
+            Name("no room for "),
+            Process(pid),
+            Name(": slots "),
+            Byte(slots),
+            Name(", blocks "),
+            Number(u32::from(blocks)),
+        ],
+    )
+}
+
+/// The note of a step of the kernel without machines.
+fn put_label_note(
+    into: &mut Vec<u8>,
+    frame: &Frame,
+    m: u8,
+    row: u32,
+    label: Label,
+) -> Result<(), NoMemory>
+    ensures { OnOk result (into.new.items ≡ into.old.items ++ draw_note frame.now m row (label_note label)) }
+{
+    match label {
+        Label::Ran { .. } | Label::Send { .. } | Label::Wait { .. } | Label::Took { .. } => Ok(()),
+        Label::Call { pid, number, reply } => {
+            put_call(into, frame, m, row, pid, number, reply.code())
+        }
+        Label::Out { pid, word } => note_said(into, frame, m, row, RESULT, pid, " out ", word),
+        Label::End { pid, why } => {
+            note_said(
+                into,
+                frame,
+                m,
+                row,
+                RESULT,
+                pid,
+                " ends, why ",
+                u32::from(why.code()),
+            )
+        }
+        Label::Receive { pid, id } => {
+            note_done(into, frame, m, row, PLAIN, pid, " receives ", id)
+        }
+        Label::Refuse { pid, id, reply } => put_refuse(into, frame, m, row, pid, id, reply),
+        Label::Dropped { id } => note_message(into, frame, m, row, HELD, "dropped ", id),
+        Label::Served { id } => note_message(into, frame, m, row, PLAIN, "served ", id),
+        Label::Gone { id } => note_message(into, frame, m, row, PLAIN, "gone, for ", id),
+        Label::Created { pid, .. } => note_process(into, frame, m, row, RESULT, "makes ", pid),
+        Label::NoSpace {
+            free_slots,
+            free_blocks,
+            ..
+        } => put_no_space(into, frame, m, row, free_slots, free_blocks),
+    }
+}
+
+/// The note of a call that was refused.
+fn put_call(
+    into: &mut Vec<u8>,
+    frame: &Frame,
+    m: u8,
+    row: u32,
+    pid: Pid,
+    number: u8,
+    code: u8,
+) -> Result<(), NoMemory>
+    ensures { OnOk result (into.new.items ≡ into.old.items ++ draw_note frame.now m row (call_note pid number code)) }
+{
+    if code == 0 {
+        return Ok(());
+    }
+    put_beside(
+        into,
+        frame,
+        m,
+        row,
+        PLAIN,
+        &[
+            Process(pid),
+            Name(" call "),
+            Byte(number),
+            Name(" refused: "),
+            Byte(code),
+        ],
+    )
+}
+
+/// The note of a refused receive.
+fn put_refuse(
+    into: &mut Vec<u8>,
+    frame: &Frame,
+    m: u8,
+    row: u32,
+    pid: Pid,
+    id: MsgId,
+    reply: Reply,
+) -> Result<(), NoMemory>
+    ensures { OnOk result (into.new.items ≡ into.old.items ++ draw_beside frame.now m row (codes "c0") (pid_word pid ∷ codes " is refused " ∷ id_word id ∷ codes ": " ∷ decimal (reply_code reply) ∷ [])) }
+{
+    put_beside(
+        into,
+        frame,
+        m,
+        row,
+        PLAIN,
+        &[
+            Process(pid),
+            Name(" is refused "),
+            Message(id),
+            Name(": "),
+            Byte(reply.code()),
+        ],
+    )
+}
+
+/// The note of a process that could not be made.
+fn put_no_space(
+    into: &mut Vec<u8>,
+    frame: &Frame,
+    m: u8,
+    row: u32,
+    slots: u8,
+    blocks: u16,
+) -> Result<(), NoMemory>
+    ensures { OnOk result (into.new.items ≡ into.old.items ++ draw_beside frame.now m row (codes "c1") (codes "no room: slots " ∷ decimal slots ∷ codes ", blocks " ∷ decimal blocks ∷ [])) }
+{
+    put_beside(
+        into,
+        frame,
+        m,
+        row,
+        RESULT,
+        &[
+            Name("no room: slots "),
+            Byte(slots),
+            Name(", blocks "),
+            Number(u32::from(blocks)),
+        ],
+    )
+}

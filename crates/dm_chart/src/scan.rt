@@ -1,0 +1,203 @@
+//! What the lines ahead and behind tell of a line.
+ghost use Rattle.std.specs.Prelude.{◌≡◌, ◌++◌, IfOk, OnOk, option_to_list};
+ghost use Rattle.std.specs.List.{count_by, flat_map, list_any};
+ghost use Rattle.dm_link.specs.Names.{pid_eq};
+ghost use Rattle.dm_message.specs.Ids.{id_eq};
+ghost use Rattle.dm_chart.specs.Ahead.{first_ahead, is_delivery, is_end, is_restart, is_taken, is_wanted};
+ghost use Rattle.dm_chart.specs.Behind.{is_among, kill_in, kill_with, kills_of, number_among, puts_between, puts_id, was_put};
+
+use crate::role::{Letter, Life, Role, role_of};
+use crate::spot::{Spot, next_spot};
+use dm_line::line::Line;
+use dm_link::Pid;
+use dm_lists::Items;
+use dm_memory::NoMemory;
+use dm_message::{MessageKind, MsgId};
+use dm_schedule::Step;
+use std::alloc::Global;
+
+/// A line that is looked for.
+#[derive(Clone, Copy)]
+pub enum Wanted<'a> {
+    /// Message number n enters the inbox.
+    Taken { from: u8, to: u8, n: usize },
+    /// Packet k is delivered.
+    Delivery { from: u8, to: u8, k: u64 },
+    /// A process's life on a machine ends; these are the messages that kill it.
+    End { pid: Pid, kills: &'a [MsgId] },
+    /// A process goes on after it has moved.
+    Restart(Pid),
+}
+
+/// Behind the first line ahead that is looked for.
+#[tactic(auto, using(crate::proofs::Walks::ahead_lemmas))]
+pub fn first_ahead(wanted: Wanted, from: Spot, lines: &[Line]) -> Option<Spot>
+    ensures { result ≡ first_ahead (is_wanted wanted.entry) from lines.now }
+{
+    let mut spot = from;
+    for line in lines {
+        spot = next_spot(spot, line);
+        if is_wanted(wanted, role_of(line)) {
+            return Some(spot);
+        }
+    }
+    None
+}
+
+/// Whether a line of this role is the one that is looked for.
+#[tactic(auto, unfolding(crate::specs::Ahead::is_wanted))]
+fn is_wanted(wanted: Wanted, role: Role) -> bool
+    ensures { result ≡ is_wanted wanted.entry role }
+{
+    match wanted {
+        Wanted::Taken { from, to, n } => is_taken(from, to, n, role),
+        Wanted::Delivery { from, to, k } => is_delivery(from, to, k, role),
+        Wanted::End { pid, kills } => is_end(pid, kills, role),
+        Wanted::Restart(pid) => is_restart(pid, role),
+    }
+}
+
+fn is_taken(from: u8, to: u8, n: usize, role: Role) -> bool
+    ensures { result ≡ is_taken from to n role }
+{
+    match role {
+        Role::Taken {
+            from: a,
+            to: b,
+            n: k,
+        } => a == from && b == to && k as usize == n,
+        _ => false,
+    }
+}
+
+/// Whether a line of this role is the head of the delivery of packet k.
+pub fn is_delivery(from: u8, to: u8, k: u64, role: Role) -> bool
+    ensures { result ≡ is_delivery from to k role }
+{
+    match role {
+        Role::Head(Step::Deliver { a, b, k: j }) => a == from && b == to && j == k,
+        _ => false,
+    }
+}
+
+fn is_end(pid: Pid, kills: &[MsgId], role: Role) -> bool
+    ensures { result ≡ is_end pid kills.now role }
+{
+    match role {
+        Role::Note(Life::Ends(p)) => same_pid(p, pid),
+        Role::Note(Life::Leaves(p)) => same_pid(p, pid),
+        Role::Note(Life::Served(id)) => is_among(id, kills),
+        _ => false,
+    }
+}
+
+fn is_restart(pid: Pid, role: Role) -> bool
+    ensures { result ≡ is_restart pid role }
+{
+    match role {
+        Role::Note(Life::From(p)) => same_pid(p, pid),
+        _ => false,
+    }
+}
+
+/// Whether two names of processes are one.
+pub fn same_pid(p: Pid, q: Pid) -> bool
+    ensures { result ≡ pid_eq p q }
+{
+    p.home == q.home && p.num == q.num
+}
+
+/// Whether two names of messages are one.
+fn same_id(i: MsgId, j: MsgId) -> bool
+    ensures { result ≡ id_eq i j }
+{
+    same_pid(i.from, j.from) && i.n == j.n && i.answer == j.answer
+}
+
+fn is_among(id: MsgId, ids: &[MsgId]) -> bool
+    ensures { result ≡ is_among id ids.now }
+{
+    ids.iter().any(|i| same_id(*i, id))
+}
+
+/// The messages of these lines that kill a process.
+#[tactic(auto, using(crate::proofs::Pieces::pieces_lemmas))]
+pub fn kills_of(alloc: Global, lines: &[Line], pid: Pid) -> Result<Items<MsgId>, NoMemory>
+    ensures { IfOk result (λ ids. ids ≡ kills_of pid lines.now) }
+{
+    let mut ids = Items::new(alloc);
+    for line in lines {
+        add(&mut ids, kill_in(pid, role_of(line)))?;
+    }
+    Ok(ids)
+}
+
+/// Adds a message, where there is one.
+fn add(ids: &mut Items<MsgId>, found: Option<MsgId>) -> Result<(), NoMemory>
+    ensures { OnOk result (ids.new ≡ ids.old ++ option_to_list found) }
+{
+    let Some(id) = found else {
+        return Ok(());
+    };
+    ids.push(id)
+}
+
+/// The message that kills a process, where it is put.
+fn kill_in(pid: Pid, role: Role) -> Option<MsgId>
+    ensures { option_to_list result ≡ kill_in pid role }
+{
+    match role {
+        Role::Put(letter) => kill_with(pid, letter),
+        _ => None,
+    }
+}
+
+fn kill_with(pid: Pid, letter: Letter) -> Option<MsgId>
+    ensures { option_to_list result ≡ kill_with pid letter.id letter.kind letter.receiver }
+{
+    match letter.kind {
+        MessageKind::Kill => {
+            if same_pid(letter.receiver, pid) {
+                Some(letter.id)
+            } else {
+                None
+            }
+        }
+        _ => None,
+    }
+}
+
+/// Whether one of these lines put a message.
+pub fn was_put(lines: &[Line], id: MsgId) -> bool
+    ensures { result ≡ was_put id lines.now }
+{
+    lines.iter().any(|line| puts_id(id, line))
+}
+
+fn puts_id(id: MsgId, line: &Line) -> bool
+    ensures { result ≡ puts_id id line.now }
+{
+    match role_of(line) {
+        Role::Put(letter) => same_id(letter.id, id),
+        _ => false,
+    }
+}
+
+/// How many messages these lines put from one machine to another: the number of the next one on the stream.
+pub fn number_among(lines: &[Line], from: u8, to: u8) -> usize
+    ensures { result ≡ number_among from to lines.now }
+{
+    lines
+        .iter()
+        .filter(|line| puts_between(from, to, line))
+        .count()
+}
+
+fn puts_between(from: u8, to: u8, line: &Line) -> bool
+    ensures { result ≡ puts_between from to line.now }
+{
+    match role_of(line) {
+        Role::Put(letter) => letter.from == from && letter.to == to,
+        _ => false,
+    }
+}

@@ -1,0 +1,128 @@
+//! How far a picture has come with the lines.
+ghost use Rattle.std.specs.Prelude.{◌≡◌, ◌≤◌};
+ghost use Rattle.dm_chart.specs.Spots.{first_spot, machine_of, more, next_spot, spot_after, with_row, without_row};
+
+use crate::role::{Role, role_of};
+use dm_line::line::Line;
+use dm_schedule::Step;
+
+/// The most rows of a picture.
+pub const MOST_ROWS: u32 = 1200;
+
+/// Where a picture stands behind some lines.
+#[derive(Clone, Copy, Debug, PartialEq, Eq)]
+pub struct Spot {
+    /// How many rows there are so far; the last one is the line's.
+    pub row: u32,
+    /// How many groups have begun.
+    pub groups: u32,
+    /// The directive of the group, and the machine that acts on it.
+    pub step: Step,
+    pub machine: u8,
+    /// The group has a row.
+    pub begun: bool,
+    /// The last line put a message.
+    pub own: bool,
+}
+
+/// Before the first line.
+pub fn first_spot() -> Spot
+    ensures { result ≡ first_spot }
+{
+    Spot {
+        row: 0,
+        groups: 0,
+        step: Step::Turn(0),
+        machine: 0,
+        begun: false,
+        own: false,
+    }
+}
+
+/// Behind one more line.
+#[tactic(auto, unfolding(crate::specs::Spots::next_spot))]
+pub fn next_spot(spot: Spot, line: &Line) -> Spot
+    ensures spot { result ≡ next_spot spot line.now }
+    ensures most { spot.row ≤ 1200 → result.row ≤ 1200 }
+{
+    spot_after(spot, role_of(line))
+}
+
+/// Behind a line of this role.
+pub fn spot_after(spot: Spot, role: Role) -> Spot
+    ensures spot { result ≡ spot_after spot role }
+    ensures most { spot.row ≤ 1200 → result.row ≤ 1200 }
+{
+    match role {
+        Role::Head(step) => Spot {
+            row: spot.row,
+            groups: more(spot.groups),
+            step,
+            machine: machine_of(step),
+            begun: false,
+            own: false,
+        },
+        Role::Put(_) => with_row(spot, true),
+        Role::Taken { .. } | Role::Early { .. } | Role::Again { .. } | Role::Note(_) => {
+            with_row(spot, false)
+        }
+        Role::Packet { .. } => {
+            if spot.begun {
+                without_row(spot)
+            } else {
+                with_row(spot, false)
+            }
+        }
+        Role::Unseen => without_row(spot),
+    }
+}
+
+/// One row more.
+fn with_row(spot: Spot, own: bool) -> Spot
+    ensures spot { result ≡ with_row own spot }
+    ensures most { result.row ≤ 1200 }
+{
+    Spot {
+        row: more(spot.row),
+        groups: spot.groups,
+        step: spot.step,
+        machine: spot.machine,
+        begun: true,
+        own,
+    }
+}
+
+/// No row more.
+fn without_row(spot: Spot) -> Spot
+    ensures spot { result ≡ without_row spot }
+    ensures same { result.row ≡ spot.row }
+{
+    Spot {
+        row: spot.row,
+        groups: spot.groups,
+        step: spot.step,
+        machine: spot.machine,
+        begun: spot.begun,
+        own: false,
+    }
+}
+
+/// One more of what a picture has at most so many of.
+fn more(n: u32) -> u32
+    ensures more { result ≡ more n }
+    ensures most { result ≤ 1200 }
+{
+    if n < MOST_ROWS { n + 1 } else { MOST_ROWS }
+}
+
+/// The machine that acts on a directive; a request to move is the process manager's, on machine 0.
+fn machine_of(step: Step) -> u8
+    ensures { result ≡ machine_of step }
+{
+    match step {
+        Step::Turn(m) => m,
+        Step::Tick(m) => m,
+        Step::Deliver { b, .. } => b,
+        Step::Migrate { .. } => 0,
+    }
+}

@@ -1,0 +1,119 @@
+//! Writing the elements of a document.
+ghost use Rattle.std.specs.Prelude.{◌≡◌, ◌++◌, OnOk, codes, map};
+ghost use Rattle.std.specs.List.{concat};
+ghost use Rattle.dm_text.specs.Written.{word_text};
+ghost use Rattle.dm_chart.specs.Xml.{alone, around, attribute, attributes, closing, opening};
+ghost use Rattle.dm_chart.specs.Written.{seen};
+
+use dm_memory::NoMemory;
+use dm_text::word::{Word, put_bare};
+
+/// An attribute of an element.
+#[derive(Clone, Copy)]
+pub struct Attribute<'a> {
+    pub name: &'static str,
+    pub value: Word<'a>,
+}
+
+/// An attribute with this name and value.
+pub fn with<'a>(name: &'static str, value: Word<'a>) -> Attribute<'a>
+    ensures name { result.name.now ≡ name.now }
+    ensures value { result.value ≡ value.entry }
+{
+    Attribute { name, value }
+}
+
+/// Writes a text.
+pub fn put_text(into: &mut Vec<u8>, text: &'static str) -> Result<(), NoMemory>
+    ensures { OnOk result (into.new.items ≡ into.old.items ++ text.now) }
+{
+    put_bare(into, &Word::Name(text))
+}
+
+/// Writes words, one behind another.
+#[tactic(auto, using(crate::proofs::Pieces::pieces_lemmas))]
+pub fn put_words(into: &mut Vec<u8>, words: &[Word]) -> Result<(), NoMemory>
+    ensures { OnOk result (into.new.items ≡ into.old.items ++ concat (map word_text words.now)) }
+{
+    for word in words {
+        put_bare(into, word)?;
+    }
+    Ok(())
+}
+
+/// Writes an attribute.
+#[tactic(auto, using(crate::proofs::Pieces::pieces_lemmas))]
+fn put_attribute(into: &mut Vec<u8>, one: &Attribute) -> Result<(), NoMemory>
+    ensures { OnOk result (into.new.items ≡ into.old.items ++ attribute (seen one.now)) }
+{
+    put_text(into, " ")?;
+    put_text(into, one.name)?;
+    put_text(into, "='")?;
+    put_bare(into, &one.value)?;
+    put_text(into, "'")
+}
+
+/// Writes attributes.
+#[tactic(auto, using(crate::proofs::Pieces::mapped_lemmas))]
+fn put_attributes(into: &mut Vec<u8>, all: &[Attribute]) -> Result<(), NoMemory>
+    ensures { OnOk result (into.new.items ≡ into.old.items ++ attributes (map seen all.now)) }
+{
+    for one in all {
+        put_attribute(into, one)?;
+    }
+    Ok(())
+}
+
+/// Writes an element with nothing in it.
+#[tactic(auto, unfolding(crate::specs::Xml::alone), using(crate::proofs::Pieces::pieces_lemmas))]
+pub fn put_alone(
+    into: &mut Vec<u8>,
+    name: &'static str,
+    attributes: &[Attribute],
+) -> Result<(), NoMemory>
+    ensures { OnOk result (into.new.items ≡ into.old.items ++ alone name.now (map seen attributes.now)) }
+{
+    put_text(into, "<")?;
+    put_text(into, name)?;
+    put_attributes(into, attributes)?;
+    put_text(into, "/>\n")
+}
+
+/// Writes an element round words.
+#[tactic(auto, unfolding(crate::specs::Xml::around), using(crate::proofs::Pieces::pieces_lemmas))]
+pub fn put_around(
+    into: &mut Vec<u8>,
+    name: &'static str,
+    attributes: &[Attribute],
+    words: &[Word],
+) -> Result<(), NoMemory>
+    ensures { OnOk result (into.new.items ≡ into.old.items ++ around name.now (map seen attributes.now) (concat (map word_text words.now))) }
+{
+    put_opening(into, name, attributes)?;
+    put_words(into, words)?;
+    put_closing(into, name)
+}
+
+/// Writes what opens an element.
+#[tactic(auto, unfolding(crate::specs::Xml::opening))]
+pub fn put_opening(
+    into: &mut Vec<u8>,
+    name: &'static str,
+    attributes: &[Attribute],
+) -> Result<(), NoMemory>
+    ensures { OnOk result (into.new.items ≡ into.old.items ++ opening name.now (map seen attributes.now)) }
+{
+    put_text(into, "<")?;
+    put_text(into, name)?;
+    put_attributes(into, attributes)?;
+    put_text(into, ">")
+}
+
+/// Writes what closes an element.
+pub fn put_closing(into: &mut Vec<u8>, name: &'static str) -> Result<(), NoMemory>
+    ensures { OnOk result (into.new.items ≡ into.old.items ++ closing name.now) }
+{
+    put_text(into, "</")?;
+    put_text(into, name)?;
+    put_text(into, ">\n")
+}
