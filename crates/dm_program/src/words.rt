@@ -5,7 +5,9 @@ ghost use Rattle.clap.specs.Built.{AddsSubcommand};
 ghost use Rattle.clap.specs.Words.{app_of, found_of, kind_of, rows_of, rule_of, subcommand_rows_of, with_subcommand};
 ghost use Rattle.clap.specs.declared.builder.command.Command.{Command as TheCommand};
 ghost use Rattle.dm_program.specs.Status.{status_of_no};
-ghost use Rattle.dm_program.specs.RunWords.{file_option, run_command as run_shape, run_request as run_asked};
+ghost use Rattle.dm_program.specs.CheckWords.{check_command as check_shape, check_request as check_asked};
+ghost use Rattle.dm_program.specs.FileWords.{file_option};
+ghost use Rattle.dm_program.specs.RunWords.{run_command as run_shape, run_request as run_asked};
 ghost use Rattle.dm_program.specs.Words.{IsTaken, demosmp, request_at, request_of, request_said};
 
 use crate::status::Status;
@@ -40,6 +42,8 @@ impl WordsNo {
 pub enum Request<'a> {
     /// To run the schedule of a file on the system of a boot file.
     Run { boot: &'a str, schedule: &'a str },
+    /// To check that the trace of a file is what the system of a boot file prints.
+    Check { boot: &'a str, trace: &'a str },
 }
 
 /// What the words ask for, where they are those of a command.
@@ -68,7 +72,8 @@ fn command<'a>(alloc: Global) -> Result<Command<'a>, AllocError>
     Command::new(alloc, "demosmp")
         .disable_help_subcommand(true)
         .subcommand_required(true)
-        .subcommand(run_command(alloc)?)
+        .subcommand(run_command(alloc)?)?
+        .subcommand(check_command(alloc)?)
 }
 
 /// The command `run`: whatever command line takes it in has its shape behind the others.
@@ -79,6 +84,16 @@ fn run_command<'a>(alloc: Global) -> Result<Command<'a>, AllocError>
         .arg(file(alloc, "boot"))?
         .arg(file(alloc, "schedule"))?;
     Ok(run)
+}
+
+/// The command `check`: whatever command line takes it in has its shape behind the others.
+fn check_command<'a>(alloc: Global) -> Result<Command<'a>, AllocError>
+    ensures { IfOk result (λ c. (old new : TheCommand) → AddsSubcommand old c new → app_of new ≡ with_subcommand (app_of old) check_shape) }
+{
+    let check = Command::new(alloc, "check")
+        .arg(file(alloc, "boot"))?
+        .arg(file(alloc, "trace"))?;
+    Ok(check)
 }
 
 /// The option `--name FILE`, which has to be there.
@@ -106,6 +121,9 @@ fn request_of_command<'a>(name: &str, found: &ArgMatches<'a>) -> Option<Request<
     if name == "run" {
         return run_request(found);
     }
+    if name == "check" {
+        return check_request(found);
+    }
     None
 }
 
@@ -116,6 +134,15 @@ fn run_request<'a>(matches: &ArgMatches<'a>) -> Option<Request<'a>>
     let boot = matches.get_str("boot")?;
     let schedule = matches.get_str("schedule")?;
     Some(Request::Run { boot, schedule })
+}
+
+/// The two files that the matches of `check` name.
+fn check_request<'a>(matches: &ArgMatches<'a>) -> Option<Request<'a>>
+    ensures { option_map request_said result ≡ check_asked (rows_of (found_of matches.now)) }
+{
+    let boot = matches.get_str("boot")?;
+    let trace = matches.get_str("trace")?;
+    Some(Request::Check { boot, trace })
 }
 
 /// What an error of the parse comes to. The parse tells want of memory by a kind of its own, and hands no allocation's
