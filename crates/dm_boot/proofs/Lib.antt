@@ -1,5 +1,6 @@
 pub mod Keys
 pub mod Elements
+pub mod Named
 pub mod Rows
 pub mod Texts
 pub mod Counted

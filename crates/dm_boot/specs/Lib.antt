@@ -1,5 +1,6 @@
 pub mod Before
 pub mod Tables
+pub mod Named
 pub mod Text
 pub mod Build
 pub mod Rules

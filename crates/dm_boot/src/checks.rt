@@ -5,9 +5,10 @@ ghost use Rattle.toml.specs.View.{items_view, view};
 ghost use Rattle.dm_boot.specs.Tables.{first_failing};
 ghost use Rattle.dm_boot.specs.Rules.{broken_at, first_broken, is_of_tables, keeps};
 
+use crate::document::Document;
 use crate::limits::{
-    has_good_image_count, has_good_machine_count, has_good_room, has_good_settings, has_link_count,
-    has_machine, has_own_name, has_process_name, image_blocks, image_place,
+    has_good_image_count, has_good_machine_count, has_good_room, has_good_settings, has_image_name,
+    has_link_count, has_machine, has_process_name, image_blocks, image_place,
 };
 use crate::rules::BootRule;
 use crate::shapes::{is_image, is_machine, is_process, is_top};
@@ -17,12 +18,12 @@ use toml::Value;
 
 /// The first of these rules that is broken, and its first place.
 #[tactic(auto, using(crate::proofs::Rows::row_lemmas))]
-pub fn first_broken(top: &Value, rules: &[BootRule]) -> Option<(BootRule, u64)>
+pub fn first_broken(document: &Document<'_>, rules: &[BootRule]) -> Option<(BootRule, u64)>
     requires { list_all is_of_tables rules.now ≡ true }
-    ensures { result ≡ first_broken rules.now (view top.now) }
+    ensures { result ≡ first_broken rules.now (view document.now.top.now) }
 {
     for rule in rules {
-        if let Some(place) = broken_at(top, *rule) {
+        if let Some(place) = broken_at(document, *rule) {
             return Some((*rule, place as u64));
         }
     }
@@ -31,23 +32,24 @@ pub fn first_broken(top: &Value, rules: &[BootRule]) -> Option<(BootRule, u64)>
 
 /// The first place where a rule is broken.
 #[tactic(auto, unfolding(crate::specs::Rules::broken_at, crate::specs::Rules::subjects, crate::specs::Rules::is_of_tables, crate::specs::Tables::first_failing))]
-fn broken_at(top: &Value, rule: BootRule) -> Option<usize>
+fn broken_at(document: &Document<'_>, rule: BootRule) -> Option<usize>
     requires { is_of_tables rule ≡ true }
-    ensures { result ≡ broken_at rule (view top.now) }
+    ensures { result ≡ broken_at rule (view document.now.top.now) }
 {
+    let top = document.top;
     match rule {
         BootRule::TopKeys | BootRule::Settings | BootRule::MachineCount | BootRule::ImageCount => {
-            if keeps(top, rule, 0, top) {
+            if keeps(document, rule, 0, top) {
                 None
             } else {
                 Some(0)
             }
         }
         BootRule::MachineKeys | BootRule::MachineRoom => {
-            first_failing(top, rule, items_at(top, "machine"))
+            first_failing(document, rule, items_at(top, "machine"))
         }
         BootRule::ImageKeys | BootRule::ImageName | BootRule::ImageBlocks => {
-            first_failing(top, rule, items_at(top, "image"))
+            first_failing(document, rule, items_at(top, "image"))
         }
         BootRule::ProcessKeys
         | BootRule::ProcessName
@@ -55,7 +57,7 @@ fn broken_at(top: &Value, rule: BootRule) -> Option<usize>
         | BootRule::ProcessImage
         | BootRule::LinkCount
         | BootRule::LinkTarget
-        | BootRule::LinkLimits => first_failing(top, rule, items_at(top, "process")),
+        | BootRule::LinkLimits => first_failing(document, rule, items_at(top, "process")),
         BootRule::Document | BootRule::ImageText | BootRule::ImageBytes | BootRule::ProcessRoom =>
             unreachable!(),
     }
@@ -63,12 +65,12 @@ fn broken_at(top: &Value, rule: BootRule) -> Option<usize>
 
 /// The place of the first of these elements that breaks a rule.
 #[tactic(auto, using(crate::proofs::Elements::failing_lemmas))]
-fn first_failing(top: &Value, rule: BootRule, elements: &[Value]) -> Option<usize>
+fn first_failing(document: &Document<'_>, rule: BootRule, elements: &[Value]) -> Option<usize>
     requires { is_of_tables rule ≡ true }
-    ensures { result ≡ first_failing (keeps rule (view top.now)) 0 (items_view elements.now) }
+    ensures { result ≡ first_failing (keeps rule (view document.now.top.now)) 0 (items_view elements.now) }
 {
     for (i, element) in elements.iter().enumerate() {
-        if !keeps(top, rule, i, element) {
+        if !keeps(document, rule, i, element) {
             return Some(i);
         }
     }
@@ -77,9 +79,9 @@ fn first_failing(top: &Value, rule: BootRule, elements: &[Value]) -> Option<usiz
 
 /// Whether an element at its place is what a rule says.
 #[tactic(auto, unfolding(crate::specs::Rules::keeps, crate::specs::Rules::is_of_tables))]
-fn keeps(top: &Value, rule: BootRule, place: usize, element: &Value) -> bool
+fn keeps(document: &Document<'_>, rule: BootRule, place: usize, element: &Value) -> bool
     requires { is_of_tables rule ≡ true }
-    ensures { result ≡ keeps rule (view top.now) place (view element.now) }
+    ensures { result ≡ keeps rule (view document.now.top.now) place (view element.now) }
 {
     match rule {
         BootRule::TopKeys => is_top(element),
@@ -89,15 +91,15 @@ fn keeps(top: &Value, rule: BootRule, place: usize, element: &Value) -> bool
         BootRule::MachineRoom => has_good_room(element),
         BootRule::ImageCount => has_good_image_count(element),
         BootRule::ImageKeys => is_image(element),
-        BootRule::ImageName => has_own_name(items_at(top, "image"), place, element),
+        BootRule::ImageName => has_image_name(document, place, element),
         BootRule::ImageBlocks => image_blocks(element).is_some(),
         BootRule::ProcessKeys => is_process(element),
-        BootRule::ProcessName => has_process_name(items_at(top, "process"), place, element),
-        BootRule::ProcessMachine => has_machine(top, element),
-        BootRule::ProcessImage => image_place(top, element).is_some(),
-        BootRule::LinkCount => has_link_count(top, element),
-        BootRule::LinkTarget => have_targets(top, items_at(element, "links")),
-        BootRule::LinkLimits => are_limited(top, items_at(element, "links")),
+        BootRule::ProcessName => has_process_name(document, place, element),
+        BootRule::ProcessMachine => has_machine(document.top, element),
+        BootRule::ProcessImage => image_place(document, element).is_some(),
+        BootRule::LinkCount => has_link_count(document.top, element),
+        BootRule::LinkTarget => have_targets(document, items_at(element, "links")),
+        BootRule::LinkLimits => are_limited(document, items_at(element, "links")),
         BootRule::Document | BootRule::ImageText | BootRule::ImageBytes | BootRule::ProcessRoom =>
             unreachable!(),
     }

@@ -7,6 +7,7 @@ ghost use Rattle.toml.specs.View.{table_view};
 ghost use Rattle.dm_boot.specs.Boot.{Answers, IsUnread, boot_of, boot_of_document};
 
 mod checks;
+mod document;
 mod images;
 mod limits;
 mod links;

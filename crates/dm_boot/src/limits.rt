@@ -1,12 +1,13 @@
 //! What the elements of a boot file must be, one function for each rule.
 ghost use Rattle.std.specs.Prelude.{◌≡◌, ◌<◌, ◌≤◌, IfSome};
-ghost use Rattle.toml.specs.View.{items_view, view};
-ghost use Rattle.dm_boot.specs.Tables.{count};
-ghost use Rattle.dm_boot.specs.Build.{format_number, format_of, image_blocks, image_place, image_tables, machine_number, numbers_of, quantum_of};
+ghost use Rattle.toml.specs.View.{view};
+ghost use Rattle.dm_boot.specs.Tables.{count, is_place};
+ghost use Rattle.dm_boot.specs.Build.{format_number, format_of, image_blocks, image_place, image_tables, machine_number, numbers_of, process_tables, quantum_of};
 ghost use Rattle.dm_boot.specs.Rules.{has_good_image_count, has_good_machine_count, has_good_room, has_good_settings, has_link_count, has_machine, has_own_name, has_process_name};
 
+use crate::document::Document;
 use crate::names::{is_name, is_server};
-use crate::tables::{items_at, number_at, place_of, text_at};
+use crate::tables::{items_at, number_at, text_at};
 use dm_onekernel::boot::Format;
 use toml::Value;
 
@@ -76,25 +77,32 @@ pub fn has_good_room(machine: &Value) -> bool
         && number_at(machine, "blocks", 0, 0, 4096).is_some()
 }
 
-/// Whether an element has a name that no earlier one of these has.
+/// Whether an image has a name that no earlier one has.
 #[tactic(auto, unfolding(crate::specs::Rules::has_own_name))]
-pub fn has_own_name(items: &[Value], place: usize, value: &Value) -> bool
-    ensures { result ≡ has_own_name (items_view items.now) place (view value.now) }
+pub fn has_image_name(document: &Document<'_>, place: usize, image: &Value) -> bool
+    ensures { result ≡ has_own_name (image_tables (view document.now.top.now)) place (view image.now) }
 {
-    let name = text_at(value, "name");
-    is_name(name)
-        && match place_of(items, name) {
-            Some(first) => first == place,
-            None => false,
-        }
+    let name = text_at(image, "name");
+    is_name(name) && is_place(document.image_named(name), place)
+}
+
+/// Whether a place is the first that was found.
+fn is_place(first: Option<usize>, place: usize) -> bool
+    ensures { result ≡ is_place place first }
+{
+    match first {
+        Some(first) => first == place,
+        None => false,
+    }
 }
 
 /// Whether a process has a name that no server and no earlier process has.
-#[tactic(auto, unfolding(crate::specs::Rules::has_process_name))]
-pub fn has_process_name(items: &[Value], place: usize, value: &Value) -> bool
-    ensures { result ≡ has_process_name (items_view items.now) place (view value.now) }
+#[tactic(auto, unfolding(crate::specs::Rules::has_own_name, crate::specs::Rules::has_process_name))]
+pub fn has_process_name(document: &Document<'_>, place: usize, process: &Value) -> bool
+    ensures { result ≡ has_process_name (process_tables (view document.now.top.now)) place (view process.now) }
 {
-    has_own_name(items, place, value) && !is_server(text_at(value, "name"))
+    let name = text_at(process, "name");
+    is_name(name) && is_place(document.process_named(name), place) && !is_server(name)
 }
 
 /// The blocks of an image's memory, 1 to 256.
@@ -126,12 +134,12 @@ pub fn has_machine(top: &Value, process: &Value) -> bool
 }
 
 /// The place of a process's image.
-#[tactic(auto, using(crate::proofs::Elements::count_lemmas))]
-pub fn image_place(top: &Value, process: &Value) -> Option<usize>
-    ensures place { result ≡ image_place (view top.now) (view process.now) }
-    ensures within { IfSome result (λ k. k < count (image_tables (view top.now))) }
+#[tactic(auto, using(crate::proofs::Named::named_lemmas))]
+pub fn image_place(document: &Document<'_>, process: &Value) -> Option<usize>
+    ensures place { result ≡ image_place (view document.now.top.now) (view process.now) }
+    ensures within { IfSome result (λ k. k < count (image_tables (view document.now.top.now))) }
 {
-    place_of(items_at(top, "image"), text_at(process, "image"))
+    document.image_named(text_at(process, "image"))
 }
 
 /// Whether a process has no more links than its format lets it have.

@@ -4,8 +4,9 @@ ghost use Rattle.toml.specs.View.{view};
 ghost use Rattle.dm_boot.specs.Tables.{count};
 ghost use Rattle.dm_boot.specs.Build.{control_of, kind_with, link_of, link_to, links_of, pid_named, pid_of_start, process_tables};
 
+use crate::document::Document;
 use crate::names::{is_manager, is_switchboard};
-use crate::tables::{items_at, place_of, text_at, truth_at};
+use crate::tables::{items_at, text_at, truth_at};
 use crate::targets::{MEMORY, base_in, channel_in, code_in, is_control, len_in};
 use dm_link::{Addr, Area, Kind, Link, Pid};
 use dm_lists::Items;
@@ -24,39 +25,39 @@ const MANAGER: Pid = Pid { home: 0, num: 2 };
 #[tactic(auto, using(crate::proofs::Elements::map_lemmas))]
 pub fn links_of(
     alloc: Global,
-    top: &Value,
+    document: &Document<'_>,
     starts: &[BootProcess],
     process: &Value,
 ) -> Result<Items<Link>, NoMemory>
-    requires { count (process_tables (view top.now)) ≤ 4294967294 }
-    ensures { IfOk result (λ links. links ≡ links_of (view top.now) starts.now (view process.now)) }
+    requires { count (process_tables (view document.now.top.now)) ≤ 4294967294 }
+    ensures { IfOk result (λ links. links ≡ links_of (view document.now.top.now) starts.now (view process.now)) }
 {
     let mut links = Items::new(alloc);
     let tables = items_at(process, "links");
     for table in tables {
-        links.push(link_of(top, starts, table))?;
+        links.push(link_of(document, starts, table))?;
     }
     Ok(links)
 }
 
 /// A link, as its table says.
-#[tactic(auto, unfolding(crate::specs::Build::link_of), using(crate::proofs::Elements::count_lemmas))]
-fn link_of(top: &Value, starts: &[BootProcess], link: &Value) -> Link
-    requires { count (process_tables (view top.now)) ≤ 4294967294 }
-    ensures { result ≡ link_of (view top.now) starts.now (view link.now) }
+#[tactic(auto, unfolding(crate::specs::Build::link_of), using(crate::proofs::Named::named_lemmas))]
+fn link_of(document: &Document<'_>, starts: &[BootProcess], link: &Value) -> Link
+    requires { count (process_tables (view document.now.top.now)) ≤ 4294967294 }
+    ensures { result ≡ link_of (view document.now.top.now) starts.now (view link.now) }
 {
     if is_control(link) {
-        let child = place_of(items_at(top, "process"), text_at(link, "control"));
+        let child = document.process_named(text_at(link, "control"));
         control_of(child.unwrap_or(0) as u32 + 1)
     } else {
-        link_to(pid_named(top, starts, text_at(link, "to")), link)
+        link_to(pid_named(document, starts, text_at(link, "to")), link)
     }
 }
 
 /// The process or server with a name.
 #[tactic(auto, unfolding(crate::specs::Build::pid_named))]
-fn pid_named(top: &Value, starts: &[BootProcess], name: &str) -> Pid
-    ensures { result ≡ pid_named (view top.now) starts.now name.now }
+fn pid_named(document: &Document<'_>, starts: &[BootProcess], name: &str) -> Pid
+    ensures { result ≡ pid_named (view document.now.top.now) starts.now name.now }
 {
     if is_switchboard(name) {
         return SWITCHBOARD;
@@ -64,7 +65,7 @@ fn pid_named(top: &Value, starts: &[BootProcess], name: &str) -> Pid
     if is_manager(name) {
         return MANAGER;
     }
-    let place = place_of(items_at(top, "process"), name).unwrap_or(0);
+    let place = document.process_named(name).unwrap_or(0);
     pid_of_start(starts, place)
 }
 

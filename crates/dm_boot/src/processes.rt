@@ -4,6 +4,7 @@ ghost use Rattle.toml.specs.View.{view};
 ghost use Rattle.dm_boot.specs.Tables.{count};
 ghost use Rattle.dm_boot.specs.Build.{linked_all, process_tables};
 
+use crate::document::Document;
 use crate::links::links_of;
 use crate::tables::items_at;
 use dm_lists::Items;
@@ -16,19 +17,19 @@ use toml::Value;
 #[tactic(auto, using(crate::proofs::Linked::linked_lemmas))]
 pub fn processes_of(
     alloc: Global,
-    top: &Value,
+    document: &Document<'_>,
     starts: &[BootProcess],
 ) -> Result<Items<BootProcess>, NoMemory>
-    requires few { count (process_tables (view top.now)) ≤ 4080 }
-    ensures { IfOk result (λ ps. ps ≡ linked_all (view top.now) starts.now starts.now (process_tables (view top.now))) }
+    requires few { count (process_tables (view document.now.top.now)) ≤ 4080 }
+    ensures { IfOk result (λ ps. ps ≡ linked_all (view document.now.top.now) starts.now starts.now (process_tables (view document.now.top.now))) }
 {
-    let tables = items_at(top, "process");
+    let tables = items_at(document.top, "process");
     let mut processes = Items::new(alloc);
     for (i, start) in starts.iter().enumerate() {
         if i >= tables.len() {
             return Ok(processes);
         }
-        let links = links_of(alloc, top, starts, &tables[i])?;
+        let links = links_of(alloc, document, starts, &tables[i])?;
         processes.push(BootProcess {
             pid: start.pid,
             image: start.image,

@@ -9,6 +9,7 @@ ghost use Rattle.dm_boot.specs.Rules.{fits_after, has_place};
 ghost use Rattle.dm_boot.specs.Boot.{Answers, unless_at};
 ghost use Rattle.dm_boot.specs.declared.rules.BootRule.TheVariants as rules;
 
+use crate::document::Document;
 use crate::limits::{image_place, machine_number};
 use crate::rules::{BootNo, BootRule};
 use crate::tables::items_at;
@@ -24,20 +25,20 @@ const FIRST_NUMBER: u32 = 3;
 /// The processes without their links, unless one doesn't fit its machine with the earlier ones.
 pub fn starts_of(
     alloc: Global,
-    top: &Value,
+    document: &Document<'_>,
     machines: &[BootMachine],
     images: &[BootImage],
 ) -> Result<Items<BootProcess>, BootNo>
-    requires machines { machines.now ≡ machines_of (view top.now) }
-    requires images { images.now ≡ images_of (view top.now) }
-    requires few { count (image_tables (view top.now)) ≤ 256 }
-    ensures starts { Answers (unless_at rules.ProcessRoom (first_failing (has_place (view top.now)) 0 (process_tables (view top.now))) (starts_of (view top.now))) result }
-    ensures few { OnOk result (count (process_tables (view top.now)) ≤ 4080) }
+    requires machines { machines.now ≡ machines_of (view document.now.top.now) }
+    requires images { images.now ≡ images_of (view document.now.top.now) }
+    requires few { count (image_tables (view document.now.top.now)) ≤ 256 }
+    ensures starts { Answers (unless_at rules.ProcessRoom (first_failing (has_place (view document.now.top.now)) 0 (process_tables (view document.now.top.now))) (starts_of (view document.now.top.now))) result }
+    ensures few { OnOk result (count (process_tables (view document.now.top.now)) ≤ 4080) }
 {
-    let tables = items_at(top, "process");
+    let tables = items_at(document.top, "process");
     let mut starts = Items::new(alloc);
     for (i, table) in tables.iter().enumerate() {
-        let start = start_of(alloc, top, starts.as_slice(), table);
+        let start = start_of(alloc, document, starts.as_slice(), table);
         if !fits_after(machines, images, starts.as_slice(), &start) {
             return Err(BootNo::Refused {
                 rule: BootRule::ProcessRoom,
@@ -53,10 +54,15 @@ pub fn starts_of(
 
 /// A process without its links, after the earlier ones.
 #[tactic(auto, unfolding(crate::specs::Build::start_of))]
-fn start_of(alloc: Global, top: &Value, earlier: &[BootProcess], table: &Value) -> BootProcess
+fn start_of(
+    alloc: Global,
+    document: &Document<'_>,
+    earlier: &[BootProcess],
+    table: &Value,
+) -> BootProcess
     requires few { (m : ℕ) → starting_at m earlier.now ≤ 255 }
-    requires few_images { count (image_tables (view top.now)) ≤ 256 }
-    ensures start { result ≡ start_of (view top.now) earlier.now (view table.now) }
+    requires few_images { count (image_tables (view document.now.top.now)) ≤ 256 }
+    ensures start { result ≡ start_of (view document.now.top.now) earlier.now (view table.now) }
     ensures home { result.pid.home ≤ 15 }
 {
     let home = machine_number(table).unwrap_or(0) as u8;
@@ -66,7 +72,7 @@ fn start_of(alloc: Global, top: &Value, earlier: &[BootProcess], table: &Value) 
             home,
             num: FIRST_NUMBER + others,
         },
-        image: image_place(top, table).unwrap_or(0) as u16,
+        image: image_place(document, table).unwrap_or(0) as u16,
         links: Items::new(alloc),
     }
 }

@@ -8,6 +8,7 @@ ghost use Rattle.dm_boot.specs.Rules.{first_broken, image_rules, link_rules, pro
 ghost use Rattle.dm_boot.specs.Boot.{Answers, boot_of_table, unless};
 
 use crate::checks::first_broken;
+use crate::document::Document;
 use crate::images::{first_long, images_of};
 use crate::limits::{format_of, numbers_of, quantum_of};
 use crate::machines::machines_of;
@@ -24,20 +25,30 @@ use toml::Value;
 pub fn system_of(alloc: Global, top: &Value) -> Result<Boot, BootNo>
     ensures { Answers (boot_of_table (view top.now)) result }
 {
-    let images = match read_images(alloc, top) {
+    match Document::new(alloc, top) {
+        Ok(document) => read_system(alloc, &document),
+        Err(none) => Err(BootNo::NoMemory(none)),
+    }
+}
+
+/// The system of a document, or the first rule that it breaks.
+fn read_system(alloc: Global, document: &Document<'_>) -> Result<Boot, BootNo>
+    ensures { Answers (boot_of_table (view document.now.top.now)) result }
+{
+    let images = match read_images(alloc, document) {
         Ok(images) => images,
         Err(e) => return Err(e),
     };
-    let machines = match machines_of(alloc, items_at(top, "machine")) {
+    let machines = match machines_of(alloc, items_at(document.top, "machine")) {
         Ok(machines) => machines,
         Err(none) => return Err(BootNo::NoMemory(none)),
     };
-    let starts = match read_starts(alloc, top, machines.as_slice(), images.as_slice()) {
+    let starts = match read_starts(alloc, document, machines.as_slice(), images.as_slice()) {
         Ok(starts) => starts,
         Err(e) => return Err(e),
     };
-    match read_processes(alloc, top, starts.as_slice()) {
-        Ok(processes) => Ok(system_with(top, machines, images, processes)),
+    match read_processes(alloc, document, starts.as_slice()) {
+        Ok(processes) => Ok(system_with(document.top, machines, images, processes)),
         Err(e) => Err(e),
     }
 }
@@ -81,15 +92,15 @@ fn before_images() -> [BootRule; 9]
 
 /// The images, where no rule before those of the processes is broken.
 #[tactic(auto, unfolding(crate::specs::Rules::is_of_tables))]
-fn read_images(alloc: Global, top: &Value) -> Result<Items<BootImage>, BootNo>
-    ensures images { Answers (unless (first_broken image_rules (view top.now)) (images_of (view top.now))) result }
-    ensures few { OnOk result (count (image_tables (view top.now)) ≤ 256) }
+fn read_images(alloc: Global, document: &Document<'_>) -> Result<Items<BootImage>, BootNo>
+    ensures images { Answers (unless (first_broken image_rules (view document.now.top.now)) (images_of (view document.now.top.now))) result }
+    ensures few { OnOk result (count (image_tables (view document.now.top.now)) ≤ 256) }
 {
     let before = before_images();
-    if let Some((rule, place)) = first_broken(top, &before) {
+    if let Some((rule, place)) = first_broken(document, &before) {
         return Err(BootNo::Refused { rule, place });
     }
-    let images = match images_of(alloc, items_at(top, "image")) {
+    let images = match images_of(alloc, items_at(document.top, "image")) {
         Ok(images) => images,
         Err(e) => return Err(e),
     };
@@ -106,15 +117,15 @@ fn read_images(alloc: Global, top: &Value) -> Result<Items<BootImage>, BootNo>
 #[tactic(auto, unfolding(crate::specs::Rules::is_of_tables))]
 fn read_starts(
     alloc: Global,
-    top: &Value,
+    document: &Document<'_>,
     machines: &[BootMachine],
     images: &[BootImage],
 ) -> Result<Items<BootProcess>, BootNo>
-    requires machines { machines.now ≡ machines_of (view top.now) }
-    requires images { images.now ≡ images_of (view top.now) }
-    requires few { count (image_tables (view top.now)) ≤ 256 }
-    ensures starts { Answers (unless (first_broken process_rules (view top.now)) (starts_of (view top.now))) result }
-    ensures few { OnOk result (count (process_tables (view top.now)) ≤ 4080) }
+    requires machines { machines.now ≡ machines_of (view document.now.top.now) }
+    requires images { images.now ≡ images_of (view document.now.top.now) }
+    requires few { count (image_tables (view document.now.top.now)) ≤ 256 }
+    ensures starts { Answers (unless (first_broken process_rules (view document.now.top.now)) (starts_of (view document.now.top.now))) result }
+    ensures few { OnOk result (count (process_tables (view document.now.top.now)) ≤ 4080) }
 {
     let before = [
         BootRule::ProcessKeys,
@@ -122,10 +133,10 @@ fn read_starts(
         BootRule::ProcessMachine,
         BootRule::ProcessImage,
     ];
-    if let Some((rule, place)) = first_broken(top, &before) {
+    if let Some((rule, place)) = first_broken(document, &before) {
         return Err(BootNo::Refused { rule, place });
     }
-    match starts_of(alloc, top, machines, images) {
+    match starts_of(alloc, document, machines, images) {
         Ok(starts) => Ok(starts),
         Err(e) => Err(e),
     }
@@ -135,22 +146,22 @@ fn read_starts(
 #[tactic(auto, unfolding(crate::specs::Rules::is_of_tables))]
 fn read_processes(
     alloc: Global,
-    top: &Value,
+    document: &Document<'_>,
     starts: &[BootProcess],
 ) -> Result<Items<BootProcess>, BootNo>
-    requires starts { starts.now ≡ starts_of (view top.now) }
-    requires few { count (process_tables (view top.now)) ≤ 4080 }
-    ensures { Answers (unless (first_broken link_rules (view top.now)) (processes_of (view top.now))) result }
+    requires starts { starts.now ≡ starts_of (view document.now.top.now) }
+    requires few { count (process_tables (view document.now.top.now)) ≤ 4080 }
+    ensures { Answers (unless (first_broken link_rules (view document.now.top.now)) (processes_of (view document.now.top.now))) result }
 {
     let rules = [
         BootRule::LinkCount,
         BootRule::LinkTarget,
         BootRule::LinkLimits,
     ];
-    if let Some((rule, place)) = first_broken(top, &rules) {
+    if let Some((rule, place)) = first_broken(document, &rules) {
         return Err(BootNo::Refused { rule, place });
     }
-    match processes_of(alloc, top, starts) {
+    match processes_of(alloc, document, starts) {
         Ok(processes) => Ok(processes),
         Err(none) => Err(BootNo::NoMemory(none)),
     }

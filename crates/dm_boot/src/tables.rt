@@ -1,10 +1,10 @@
 //! What a table of the boot file holds at its keys.
-ghost use Rattle.std.specs.Prelude.{◌≡◌, ◌≤◌, ◌<◌, IfSome, length, map, option_map, string_bytes};
+ghost use Rattle.std.specs.Prelude.{◌≡◌, ◌≤◌, IfSome, map, string_bytes};
 ghost use Rattle.std.specs.List.{list_all, list_any};
 ghost use Rattle.std.specs.Str.{bytes_eq};
 ghost use Rattle.std.specs.BTreeMap.{keys};
 ghost use Rattle.toml.specs.View.{items_view, table_view, view};
-ghost use Rattle.dm_boot.specs.Tables.{all_known, has, has_only, in_range, is_array, is_integer, is_known, is_named, is_text, is_truth, items_at, may_have, named, number_at, place_of, text_at, truth_at};
+ghost use Rattle.dm_boot.specs.Tables.{all_known, has, has_only, in_range, is_array, is_integer, is_known, is_text, is_truth, items_at, may_have, number_at, text_at, truth_at};
 
 use toml::{Table, Value};
 
@@ -160,37 +160,5 @@ pub fn items_at<'a>(value: &'a Value, key: &str) -> &'a [Value]
     match value.get(key) {
         Some(Value::Array(items)) => items.as_slice(),
         _ => &[],
-    }
-}
-
-/// The place of the first element with this name.
-#[tactic(auto, unfolding(crate::specs::Tables::place_of), using(crate::proofs::Elements::element_at))]
-pub fn place_of(items: &[Value], name: &str) -> Option<usize>
-    ensures place { result ≡ place_of name.now (items_view items.now) }
-    ensures within { IfSome result (λ i. i < length items.now) }
-{
-    for (i, item) in items.iter().enumerate() {
-        if is_named(item, name) {
-            return Some(i);
-        }
-    }
-    None
-}
-
-/// Whether a table's name is this one.
-fn is_named(value: &Value, name: &str) -> bool
-    ensures { result ≡ is_named name.now (view value.now) }
-{
-    text_at(value, "name") == name
-}
-
-/// The first element with this name.
-#[tactic(auto, unfolding(crate::specs::Tables::named), using(crate::proofs::Elements::found_lemmas))]
-pub fn named<'a>(items: &'a [Value], name: &str) -> Option<&'a Value>
-    ensures { option_map (λ v. view v.now) result ≡ named name.now (items_view items.now) }
-{
-    match place_of(items, name) {
-        Some(place) => Some(&items[place]),
-        None => None,
     }
 }

@@ -5,9 +5,10 @@ ghost use Rattle.dm_boot.specs.Tables.{all_items};
 ghost use Rattle.dm_boot.specs.Build.{base_in, channel_in, code_in, is_control, len_in};
 ghost use Rattle.dm_boot.specs.Rules.{blocks_of_named, blocks_of_process, has_area, has_target, is_limited, is_plain, memory_of};
 
+use crate::document::Document;
 use crate::limits::image_blocks;
 use crate::names::is_server;
-use crate::tables::{has_text, items_at, named, number_at, place_of, text_at, truth_at};
+use crate::tables::{has_text, number_at, text_at, truth_at};
 use toml::Value;
 
 /// The greatest size of a memory in bytes.
@@ -22,24 +23,23 @@ pub fn is_control(link: &Value) -> bool
 
 /// Whether a link leads to a process or a server, and a control link to a process.
 #[tactic(auto, unfolding(crate::specs::Rules::has_target))]
-fn has_target(top: &Value, link: &Value) -> bool
-    ensures { result ≡ has_target (view top.now) (view link.now) }
+fn has_target(document: &Document<'_>, link: &Value) -> bool
+    ensures { result ≡ has_target (view document.now.top.now) (view link.now) }
 {
-    let processes = items_at(top, "process");
     if is_control(link) {
-        return place_of(processes, text_at(link, "control")).is_some();
+        return document.process_named(text_at(link, "control")).is_some();
     }
     let name = text_at(link, "to");
-    is_server(name) || place_of(processes, name).is_some()
+    is_server(name) || document.process_named(name).is_some()
 }
 
 /// Whether each of these links leads somewhere.
 #[tactic(auto, using(crate::proofs::Elements::all_lemmas))]
-pub fn have_targets(top: &Value, links: &[Value]) -> bool
-    ensures { result ≡ all_items (has_target (view top.now)) (items_view links.now) }
+pub fn have_targets(document: &Document<'_>, links: &[Value]) -> bool
+    ensures { result ≡ all_items (has_target (view document.now.top.now)) (items_view links.now) }
 {
     for link in links {
-        if !has_target(top, link) {
+        if !has_target(document, link) {
             return false;
         }
     }
@@ -109,13 +109,13 @@ fn blocks_of_named(image: Option<&Value>) -> u32
 }
 
 /// The blocks of a process that was found.
-fn blocks_of_process(top: &Value, process: Option<&Value>) -> u32
-    ensures blocks { result ≡ blocks_of_process (view top.now) (option_map (λ v. view v.now) process.entry) }
+fn blocks_of_process(document: &Document<'_>, process: Option<&Value>) -> u32
+    ensures blocks { result ≡ blocks_of_process (view document.now.top.now) (option_map (λ v. view v.now) process.entry) }
     ensures few { result ≤ 256 }
 {
     match process {
         Some(process) => {
-            let image = named(items_at(top, "image"), text_at(process, "image"));
+            let image = document.image(text_at(process, "image"));
             blocks_of_named(image)
         }
         None => 0,
@@ -124,16 +124,16 @@ fn blocks_of_process(top: &Value, process: Option<&Value>) -> u32
 
 /// The bytes of the memory of the process with a name.
 #[tactic(auto, unfolding(crate::specs::Rules::memory_of))]
-fn memory_of(top: &Value, name: &str) -> u32
-    ensures { result ≡ memory_of (view top.now) name.now }
+fn memory_of(document: &Document<'_>, name: &str) -> u32
+    ensures { result ≡ memory_of (view document.now.top.now) name.now }
 {
-    256 * blocks_of_process(top, named(items_at(top, "process"), name))
+    256 * blocks_of_process(document, document.process(name))
 }
 
 /// Whether a link's numbers are within their limits.
 #[tactic(auto, unfolding(crate::specs::Rules::is_limited))]
-fn is_limited(top: &Value, link: &Value) -> bool
-    ensures { result ≡ is_limited (view top.now) (view link.now) }
+fn is_limited(document: &Document<'_>, link: &Value) -> bool
+    ensures { result ≡ is_limited (view document.now.top.now) (view link.now) }
 {
     if channel_in(link).is_none() {
         return false;
@@ -142,17 +142,17 @@ fn is_limited(top: &Value, link: &Value) -> bool
     if is_control(link) || is_server(name) {
         is_plain(link)
     } else {
-        code_in(link, u32::MAX).is_some() && has_area(memory_of(top, name), link)
+        code_in(link, u32::MAX).is_some() && has_area(memory_of(document, name), link)
     }
 }
 
 /// Whether the numbers of each of these links are within their limits.
 #[tactic(auto, using(crate::proofs::Elements::all_lemmas))]
-pub fn are_limited(top: &Value, links: &[Value]) -> bool
-    ensures { result ≡ all_items (is_limited (view top.now)) (items_view links.now) }
+pub fn are_limited(document: &Document<'_>, links: &[Value]) -> bool
+    ensures { result ≡ all_items (is_limited (view document.now.top.now)) (items_view links.now) }
 {
     for link in links {
-        if !is_limited(top, link) {
+        if !is_limited(document, link) {
             return false;
         }
     }

@@ -1,5 +1,5 @@
 -- How far a drill has come, and what it has printed and counted.
-use Rattle.std.specs.Prelude.{◌≡◌, ◌↔◌, IsTrue, ℕ, ◌<◌, ◌⊎◌, Bool, true, false, List, [], ◌∷◌, ◌++◌, length}
+use Rattle.std.specs.Prelude.{◌≡◌, ◌↔◌, ℕ, ◌<◌, ◌⊎◌, Bool, true, false, List, [], ◌∷◌, ◌++◌, length}
 use Rattle.std.specs.List.{All}
 use Rattle.std.specs.declared.option.Option.{Option}
 use Rattle.std.specs.declared.option.Option.TheVariants.{Some}
@@ -70,7 +70,7 @@ pub record IsOfFirst (trace : Bool) (b : Boot) (ds : List Directive) (old new : 
 
 -- whether all is quiet is told right
 pub record TellsQuiet (quiet : Bool) (end : Point) : Type 0 where
-  pub tells : IsTrue quiet ↔ IsQuiet end.kernel.machines end.view
+  pub tells : (quiet ≡ true) ↔ IsQuiet end.kernel.machines end.view
 
 -- the summary of such groups, where all directives are done
 pub record SumsUp (d : Drill) (groups : List (List Line)) (end : Point) (left : Todo) (text : List ℕ) : Type 0 where

@@ -1,10 +1,6 @@
 -- Values that are told one by one are all told.
-use Rattle.std.proofs.Common.{◌≡◌, ◌≤◌, ◌<◌, ℕ, zero, suc, ◌+◌, Bool, if◌then◌else◌, List, [], ◌∷◌, length, drop, get_or, set, None, Some, map, count_by, refl, ap, ◌∙◌, arith}
+use Rattle.std.proofs.Common.{◌≡◌, ◌≤◌, ◌<◌, ℕ, zero, suc, ◌+◌, Bool, if◌then◌else◌, List, [], ◌∷◌, length, get_or, set, map, count_by, refl, ap, arith}
 use Rattle.std.proofs.lemmas.Grind.{common_steps}
-use Rattle.dm_link.specs.declared.Pid.{Pid}
-use Rattle.dm_link.specs.declared.Addr.{Addr}
-use Rattle.dm_link.specs.Names.{pid_eq}
-use Rattle.dm_procman.specs.Moving.{child_named}
 
 module _ {X : Type 0} (f : X → X) where
   -- the first n are told
@@ -50,16 +46,3 @@ module _ {X : Type 0} (p : X → Bool) where
   pub all_counted : (xs : List X) → counted (length xs) xs ≡ count_by p xs
   all_counted [] = refl
   all_counted (x ∷ xs) = grind (arith, common_steps, all_counted xs)
-
-found_suc : (p : Pid) (cs : List Addr) (i : ℕ) (d : Addr) → i < length cs → child_named p (drop i cs) ≡ (if pid_eq (get_or cs i d).pid p then Some (get_or cs i d) else child_named p (drop (suc i) cs))
-found_suc p [] i d lt = absurd (omega (arith, lt))
-found_suc p (c ∷ cs) zero d lt = refl
-found_suc p (c ∷ cs) (suc i) d lt = found_suc p cs i d (grind (arith, common_steps, lt))
-
-pub found_next : (p : Pid) (cs : List Addr) (i : ℕ) (d : Addr) → i < length cs → child_named p (drop i cs) ≡ (if pid_eq (get_or cs i d).pid p then Some (get_or cs i d) else child_named p (drop (i + 1) cs))
-found_next p cs i d lt =
-    let e : suc i ≡ i + 1 = omega arith in
-    found_suc p cs i d lt ∙ ap (λ n. if pid_eq (get_or cs i d).pid p then Some (get_or cs i d) else child_named p (drop n cs)) e
-
-pub found_none : (p : Pid) (cs : List Addr) (i : ℕ) → length cs ≤ i → child_named p (drop i cs) ≡ None
-found_none p cs i le = grind (arith, common_steps, le)

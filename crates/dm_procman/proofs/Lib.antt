@@ -3,3 +3,4 @@ pub mod Following
 pub mod Hearing
 pub mod Plain
 pub mod Lawful
+pub mod Naming

@@ -2,5 +2,6 @@ pub mod Managing
 pub mod Making
 pub mod Taking
 pub mod Moving
+pub mod Named
 pub mod Plainly
 pub mod Lawful

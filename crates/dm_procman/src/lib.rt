@@ -13,19 +13,21 @@ ghost use Rattle.dm_procman.specs.Moving.{moves_child};
 ghost use Rattle.dm_procman.specs.Plainly.{plain_taken, plainly_taken};
 ghost use Rattle.dm_procman.specs.Taking.{IsForManager, takes, takes_created, takes_no_room, takes_user, pending_numbered};
 
+mod children;
 mod making;
 mod moving;
 mod pending;
 mod requests;
 mod starting;
 
+use children::Children;
 use dm_link::{Addr, Link, Pid};
 use dm_memory::NoMemory;
 use dm_message::{Message, MsgId, What};
 use dm_onekernel::Boot;
 use making::{answer_over, control_link};
 pub use moving::MoveNo;
-use moving::{move_child, retarget_children, retarget_pending};
+use moving::{move_child, retarget_pending};
 pub use pending::Pending;
 use pending::take_pending;
 use std::alloc::Global;
@@ -37,7 +39,7 @@ use std::marker::Model;
 /// were sent, and how many machines and images there are.
 #[derive(Drop)]
 pub struct ProcMan {
-    children: Vec<Addr>,
+    children: Children,
     pending: Vec<Pending>,
     sent: u32,
     machines: u8,
@@ -49,7 +51,7 @@ impl Model for ProcMan {
 
     ghost Value = { Managing };
 
-    ghost view = { λ g. record { children = g.children.items; pending = g.pending.items; sent = g.sent; machines = g.machines; images = g.images } };
+    ghost view = { λ g. record { children = g.children; pending = g.pending.items; sent = g.sent; machines = g.machines; images = g.images } };
 }
 
 impl ProcMan {
@@ -184,7 +186,7 @@ impl ProcMan {
         ensures exact { result ≡ moves_child self.now.children pid to id }
         ensures lawful { IsLawfulManager self.now → IsMachine to → IsMachine id.from.home → id.answer ≡ false → IfOk result IsLawfulMessage }
     {
-        move_child(self.children.as_slice(), pid, to, id)
+        move_child(&self.children, pid, to, id)
     }
 
     /// Sets the children's addresses and the links for answers that lead to a process and know fewer moves of it than
@@ -205,7 +207,7 @@ impl ProcMan {
         ensures manager { self.new ≡ retargeted_manager about at moves self.old }
         ensures changed { result ≡ count_by (is_behind about moves) self.old.children + count_by (pending_is_behind about moves) self.old.pending }
     {
-        retarget_children(self.children.as_mut_slice(), about, at, moves)
+        self.children.retarget(about, at, moves)
             + retarget_pending(self.pending.as_mut_slice(), about, at, moves)
     }
 }

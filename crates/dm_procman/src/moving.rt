@@ -2,9 +2,10 @@
 ghost use Rattle.std.specs.Prelude.{◌≡◌, ◌<◌, ◌^◌, count_by, length, map};
 ghost use Rattle.dm_link.specs.Places.{is_behind, retargeted};
 ghost use Rattle.dm_procman.specs.Managing.{pending_is_behind, retargeted_pending};
-ghost use Rattle.dm_procman.specs.Moving.{child_named, moves_child};
+ghost use Rattle.dm_procman.specs.Moving.{moves_child};
 
 use crate::Pending;
+use crate::children::Children;
 use crate::making::ADDRESS;
 use dm_link::{Addr, Pid};
 use dm_message::{Message, MsgId, What};
@@ -22,26 +23,14 @@ pub enum MoveNo {
 /// The switchboard.
 const SWITCHBOARD: Pid = Pid { home: 0, num: 1 };
 
-/// The address of the child of this name.
-fn child_named(children: &[Addr], pid: Pid) -> Option<Addr>
-    ensures { result ≡ child_named pid children.now }
-{
-    for child in children {
-        if child.pid == pid {
-            return Some(*child);
-        }
-    }
-    None
-}
-
 /// The message that tells a child to move to machine `to`, under the name `id`.
-pub fn move_child(children: &[Addr], pid: Pid, to: u8, id: MsgId) -> Result<Message, MoveNo>
+pub fn move_child(children: &Children, pid: Pid, to: u8, id: MsgId) -> Result<Message, MoveNo>
     ensures { result ≡ moves_child children.now pid to id }
 {
     if pid == SWITCHBOARD || pid == ADDRESS.pid {
         return Err(MoveNo::Pinned);
     }
-    match child_named(children, pid) {
+    match children.named(pid) {
         Some(child) => Ok(Message {
             id,
             to: child,

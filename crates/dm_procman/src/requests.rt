@@ -34,14 +34,6 @@ fn control_of(operation: u8) -> Option<What>
     }
 }
 
-/// Where child number `number` is; they are numbered from 1.
-fn child_numbered(children: &[Addr], number: u32) -> Option<Addr>
-    ensures { result ≡ child_numbered children.now number }
-{
-    let index = number.checked_sub(1)?;
-    children.get(index as usize).copied()
-}
-
 impl ProcMan {
     /// Counts a message as sent.
     fn send(&mut self, to: Addr, what: What) -> Message
@@ -150,7 +142,7 @@ impl ProcMan {
         requires { self.old.sent < 4294967295 }
         ensures { controls self.old (child_numbered self.old.children code) body.now links.now ≡ record { manager = self.new; message = result } }
     {
-        let Some(child) = child_numbered(self.children.as_slice(), code) else {
+        let Some(child) = self.children.numbered(code) else {
             return self.bad_request(links);
         };
         let [operation] = body else {

@@ -2,16 +2,17 @@
 ghost use Rattle.std.specs.Prelude.{◌≡◌, IfOk, map};
 ghost use Rattle.dm_procman.specs.Managing.{child_of};
 
+use crate::children::Children;
 use dm_link::Addr;
 use dm_memory::NoMemory;
 use dm_onekernel::Boot;
 use std::alloc::Global;
 
 /// Where the processes of the boot file start, in its order.
-pub fn children_of(alloc: Global, boot: &Boot) -> Result<Vec<Addr>, NoMemory>
-    ensures { IfOk result (λ children. children.items ≡ map child_of boot.now.processes) }
+pub fn children_of(alloc: Global, boot: &Boot) -> Result<Children, NoMemory>
+    ensures { IfOk result (λ children. children ≡ map child_of boot.now.processes) }
 {
-    let mut children = Vec::new(alloc);
+    let mut children = Children::new(alloc);
     for process in boot.processes.as_slice() {
         children.push(Addr {
             pid: process.pid,

@@ -1,19 +1,15 @@
 -- The words, as the command takes them.
-use Rattle.std.proofs.Common.{◌≡◌, List, [], ◌∷◌, true, false, arith, refl, ap, sym, subst, ◌∙◌, inl, inr, None, if◌then◌else◌, option_map, codes, ap₂}
+use Rattle.std.proofs.Common.{◌≡◌, List, [], ◌∷◌, true, false, arith, refl, ap, sym, subst, ◌∙◌, inl, inr, None, Some, if◌then◌else◌, option_map, codes, ap₂}
 use Rattle.std.proofs.lemmas.Bool.{ne_eqb}
-use Rattle.std.specs.Prelude.{Box, option_and_then}
-use Rattle.std.specs.Box.{box_value}
+use Rattle.std.specs.Prelude.{option_and_then}
 use Rattle.std.specs.declared.option.Option.{Option}
-use Rattle.clap.specs.Words.{App, HasKind, HasMatchesOf, IsAmong, Kinds, Text, fault_of, first_value, found_of, is_simple, is_simple_and_free, kind_of, rows_of, subcommand_of, subcommand_rows, subcommand_rows_of}
-use Rattle.clap.specs.Matches.{subcommand_name_of}
+use Rattle.clap.specs.Words.{App, HasKind, HasMatchesOf, IsAmong, Kinds, Text, fault_of, first_value, found_of, is_simple, is_simple_and_free, kind_of, rows_of, subcommand_of, subcommand_rows_of}
 use Rattle.clap.specs.Walk.{Row, first_of, is_empty}
 use Rattle.clap.specs.declared.error.Error.{Error}
 use Rattle.clap.specs.declared.error.kind.ErrorKind.{ErrorKind}
 use Rattle.clap.specs.declared.error.kind.ErrorKind.TheVariants.{OutOfMemory}
 use Rattle.clap.specs.declared.parser.matches.ArgMatches.{ArgMatches}
-use Rattle.clap.specs.declared.parser.matches.ArgMatches.TheViews.{out-ArgMatches, out-SubCommand}
 use Rattle.clap.specs.declared.parser.matches.Found.{Found}
-use Rattle.clap.specs.declared.parser.matches.SubCommand.{SubCommand}
 use Rattle.clap.proofs.OnLiterals.{clap_on_literals}
 use Rattle.clap.proofs.WalkLemmas.{first_value-rows}
 use Rattle.dm_program.specs.Request.{Request}
@@ -63,20 +59,14 @@ no_boot f boot b none = ap (λ o. both o (first_of (codes "schedule") (rows_of f
 pub both_found : (f : Found) (boot schedule : Option Text) → boot ≡ first_value f (codes "boot") → schedule ≡ first_value f (codes "schedule") → run_request (rows_of f) ≡ both boot schedule
 both_found f boot schedule b s = sym (ap₂ both (b ∙ first_value-rows f (codes "boot")) (s ∙ first_value-rows f (codes "schedule")))
 
--- the name and the matches of the subcommand that was used
-pub used_rows : (m : ArgMatches) (name : Text) (f : Found) → Some name ≡ subcommand_name_of m → Some (rows_of f) ≡ option_map (λ p. p.1) (subcommand_rows_of m) → option_and_then request_at (subcommand_rows_of m) ≡ request_at (name, rows_of f)
-used_rows m name f e r = go (out-ArgMatches m).subcommand e r
-  where
-    go : {Z : Type 0} (o : Option (Box SubCommand Z)) → Some name ≡ option_map (λ b. (out-SubCommand (box_value b)).name.now) o → Some (rows_of f) ≡ option_map (λ p. p.1) (subcommand_rows o) → option_and_then request_at (subcommand_rows o) ≡ request_at (name, rows_of f)
-    go None e r = cc
-    go (Some b) e r =
-        let one : name ≡ (out-SubCommand (box_value b)).name.now = cc in
-        let two : rows_of f ≡ rows_of (found_of (out-SubCommand (box_value b)).matches) = cc in
-        ap₂ (λ (n : Text) (rs : List Row). request_at (n, rs)) (sym one) (sym two)
+-- what is asked for by the name and the matches of the subcommand that was used
+pub used_rows : {B : Type 0} (name : B → Text) (rows : B → List Row) (o : Option B) (n : Text) (rs : List Row) → Some n ≡ option_map name o → Some rs ≡ option_map (λ p. p.1) (option_map (λ b. (name b, rows b)) o) → option_and_then request_at (option_map (λ b. (name b, rows b)) o) ≡ request_at (n, rs)
+used_rows name rows None n rs e f = cc
+used_rows name rows (Some b) n rs e f =
+    let one : n ≡ name b = cc in
+    let two : rs ≡ rows b = cc in
+    ap₂ (λ (m : Text) (ms : List Row). request_at (m, ms)) (sym one) (sym two)
 
-pub unused : (m : ArgMatches) → None ≡ subcommand_name_of m → option_and_then request_at (subcommand_rows_of m) ≡ None
-unused m e = go (out-ArgMatches m).subcommand e
-  where
-    go : {Z : Type 0} (o : Option (Box SubCommand Z)) → None ≡ option_map (λ b. (out-SubCommand (box_value b)).name.now) o → option_and_then request_at (subcommand_rows o) ≡ None
-    go None e = refl
-    go (Some b) e = cc
+pub unused : {B : Type 0} (name : B → Text) (rows : B → List Row) (o : Option B) → None ≡ option_map name o → option_and_then request_at (option_map (λ b. (name b, rows b)) o) ≡ None
+unused name rows None e = refl
+unused name rows (Some b) e = cc

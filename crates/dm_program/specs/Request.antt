@@ -4,4 +4,4 @@ use Rattle.std.specs.Prelude.{ℕ, List}
 -- a row a command
 pub data Request : Type 0 where
   -- to run the schedule of the second name on the system of the boot file of the first
-  pub Run : List ℕ → List ℕ → Request
+  Run : (boot : List ℕ) → (schedule : List ℕ) → Request

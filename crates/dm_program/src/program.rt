@@ -7,7 +7,7 @@ ghost use Rattle.dm_program.specs.Words.{IsTaken, request_of};
 
 use crate::commands::run::run_files;
 use crate::status::Status;
-use crate::words::{Request, request};
+use crate::words::{Request, read_words};
 use dm_outside::{Shelf, Sink};
 use dm_world::World;
 use std::alloc::Global;
@@ -30,7 +30,7 @@ pub fn run_program<F: Shelf, K: Sink>(
     ensures writes { K.faults out.old ≤ K.faults out.new }
 {
     *world = None;
-    match request(alloc, words) {
+    match read_words(alloc, words) {
         Ok(Request::Run { boot, schedule }) => {
             run_files(alloc, boot, schedule, shelf, out, world)
         }

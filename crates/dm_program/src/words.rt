@@ -1,7 +1,9 @@
 //! The words of the command line, and what they ask for.
 ghost use Rattle.std.specs.Prelude.{◌≡◌, map, option_and_then, option_map, false, Some, None, IfOk, IfErr};
 ghost use Rattle.dm_memory.specs.declared.NoMemory.{NoMemory as TheNoMemory};
-ghost use Rattle.clap.specs.Words.{app_of, fields_of, found_of, kind_of, rows_of, rule_of, subcommand_rows_of};
+ghost use Rattle.clap.specs.Built.{AddsSubcommand};
+ghost use Rattle.clap.specs.Words.{app_of, found_of, kind_of, rows_of, rule_of, subcommand_rows_of, with_subcommand};
+ghost use Rattle.clap.specs.declared.builder.command.Command.{Command as TheCommand};
 ghost use Rattle.dm_program.specs.Status.{status_of_no};
 ghost use Rattle.dm_program.specs.RunWords.{file_option, run_command as run_shape, run_request as run_asked};
 ghost use Rattle.dm_program.specs.Words.{IsTaken, demosmp, request_at, request_of, request_said};
@@ -41,7 +43,7 @@ pub enum Request<'a> {
 }
 
 /// What the words ask for, where they are those of a command.
-pub fn request<'a>(alloc: Global, words: &'a [&'a str]) -> Result<Request<'a>, WordsNo>
+pub fn read_words<'a>(alloc: Global, words: &'a [&'a str]) -> Result<Request<'a>, WordsNo>
     ensures asks { IfOk result (λ r. request_of (map (λ w. w.now) words.now) ≡ Some (request_said r)) }
     ensures refused { IfErr result (λ e. e ≡ WordsNo.Usage → IsTaken (map (λ w. w.now) words.now) → ⊥) }
     ensures usage { IfErr result (λ e. e ≡ WordsNo.Usage → request_of (map (λ w. w.now) words.now) ≡ None) }
@@ -69,14 +71,14 @@ fn command<'a>(alloc: Global) -> Result<Command<'a>, AllocError>
         .subcommand(run_command(alloc)?)
 }
 
-/// The command `run`.
+/// The command `run`: whatever command line takes it in has its shape behind the others.
 fn run_command<'a>(alloc: Global) -> Result<Command<'a>, AllocError>
-    ensures shape { IfOk result (λ c. (app_of c).top ≡ run_shape) }
-    ensures local { IfOk result (λ c. (fields_of c).has_globals ≡ false) }
+    ensures { IfOk result (λ c. (old new : TheCommand) → AddsSubcommand old c new → app_of new ≡ with_subcommand (app_of old) run_shape) }
 {
-    Command::new(alloc, "run")
+    let run = Command::new(alloc, "run")
         .arg(file(alloc, "boot"))?
-        .arg(file(alloc, "schedule"))
+        .arg(file(alloc, "schedule"))?;
+    Ok(run)
 }
 
 /// The option `--name FILE`, which has to be there.

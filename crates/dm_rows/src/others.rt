@@ -59,7 +59,8 @@ pub fn step_flat(rt: &HostRuntime) -> Result<()> {
     let mut regs = Regs::new();
     for _ in 0..4 {
         let stepped = step(&mut regs, &mut memory);
-        println!(rt; "flat: {stepped:?}, r1 {}, pc {}", regs.r[1], regs.pc)?;
+        let (r1, pc) = (regs.r[1], regs.pc);
+        println!(rt; "flat: {stepped:?}, r1 {r1}, pc {pc}")?;
     }
     Ok(())
 }

@@ -6,6 +6,6 @@ use Rattle.dm_boot.proofs.checks.first_broken.Given as goal
 
 abbrev pub invariant-loop-rule : goal.invariant-loop-rule
 invariant-loop-rule l = record {
-  same : first_broken (drop l.rule-index l.rules) (view l.top) ≡ first_broken l.rules (view l.top);
+  same : first_broken (drop l.rule-index l.rules) (view l.document.top.now) ≡ first_broken l.rules (view l.document.top.now);
   allowed : list_all is_of_tables (drop l.rule-index l.rules) ≡ true;
 }

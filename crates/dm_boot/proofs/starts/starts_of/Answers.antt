@@ -27,7 +27,7 @@ loop-i-init c =
 
 pub returns-then-not-fits_after-clause-starts : goal.returns-then-not-fits_after-clause-starts
 returns-then-not-fits_after-clause-starts c =
-    let d = view c.args.top.now in
+    let d = view c.args.document.now.top.now in
     let vs = c.items_at-tables.result.now in
     let i = c.loop-i.i in
     let rest = starts_from d c.loop-i.starts (items_view (drop i vs)) in
@@ -46,7 +46,7 @@ returns-then-not-fits_after-clause-starts c =
 
 pub loop-i-preserved : goal.loop-i-preserved
 loop-i-preserved c =
-    let d = view c.args.top.now in
+    let d = view c.args.document.now.top.now in
     let vs = c.items_at-tables.result.now in
     let i = c.loop-i.i in
     let s = c.start_of-start.result in
@@ -75,7 +75,7 @@ loop-i-preserved c =
 
 pub returns-clause-starts : goal.returns-clause-starts
 returns-clause-starts c =
-    let d = view c.args.top.now in
+    let d = view c.args.document.now.top.now in
     let vs = c.items_at-tables.result.now in
     let past : length vs ≤ c.loop-i.i = c.loop-i-test.false in
     let same : starts_of d ≡ c.loop-i.starts = sym c.loop-i.invariant.built ∙ starts-end d c.loop-i.starts vs c.loop-i.i past in
@@ -85,7 +85,7 @@ returns-clause-starts c =
 
 pub returns-clause-few : goal.returns-clause-few
 returns-clause-few c =
-    let d = view c.args.top.now in
+    let d = view c.args.document.now.top.now in
     let vs = c.items_at-tables.result.now in
     let same : count (process_tables d) ≡ length vs = ap count (sym c.items_at-tables.ensures) ∙ count-view vs in
     let most : starting_below 16 c.loop-i.starts ≤ 255 * 16 = below-most 16 c.loop-i.starts c.loop-i.invariant.slots in

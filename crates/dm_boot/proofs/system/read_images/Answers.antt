@@ -14,13 +14,13 @@ use Rattle.dm_boot.proofs.system.read_images.Goals as goal
 
 pub returns-in-Some-clause-images : goal.returns-in-Some-clause-images
 returns-in-Some-clause-images c =
-    let d = view c.args.top.now in
+    let d = view c.args.document.now.top.now in
     let broken : first_broken before_images d ≡ Some (c.in-Some.rule, c.in-Some.place) = cc in
     rw (images-whole d, broken)
 
 pub returns-in-Err-clause-images : goal.returns-in-Err-clause-images
 returns-in-Err-clause-images c =
-    let d = view c.args.top.now in
+    let d = view c.args.document.now.top.now in
     let none : first_broken before_images d ≡ None = cc in
     let ts = items_view c.items_at.result.now in
     let same : ts ≡ image_tables d = c.items_at.ensures in
@@ -34,7 +34,7 @@ returns-in-Err-clause-images c =
 
 pub returns-in-Some-first_long-clause-images : goal.returns-in-Some-first_long-clause-images
 returns-in-Some-first_long-clause-images c =
-    let d = view c.args.top.now in
+    let d = view c.args.document.now.top.now in
     let none : first_broken before_images d ≡ None = cc in
     let ts = items_view c.items_at.result.now in
     let same : ts ≡ image_tables d = c.items_at.ensures in
@@ -45,7 +45,7 @@ returns-in-Some-first_long-clause-images c =
 
 pub returns-clause-images : goal.returns-clause-images
 returns-clause-images c =
-    let d = view c.args.top.now in
+    let d = view c.args.document.now.top.now in
     let none : first_broken before_images d ≡ None = cc in
     let ts = items_view c.items_at.result.now in
     let same : ts ≡ image_tables d = c.items_at.ensures in
@@ -57,6 +57,6 @@ returns-clause-images c =
 
 pub returns-clause-few : goal.returns-clause-few
 returns-clause-few c =
-    let d = view c.args.top.now in
+    let d = view c.args.document.now.top.now in
     let none : first_broken before_images d ≡ None = cc in
     few-images d none

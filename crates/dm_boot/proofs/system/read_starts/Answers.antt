@@ -12,20 +12,20 @@ use Rattle.dm_boot.proofs.system.read_starts.Goals as goal
 
 pub returns-in-Some-clause-starts : goal.returns-in-Some-clause-starts
 returns-in-Some-clause-starts c =
-    let d = view c.args.top.now in
+    let d = view c.args.document.now.top.now in
     let broken : first_broken before_room d ≡ Some (c.in-Some.rule, c.in-Some.place) = cc in
     rw (starts-whole d, broken)
 
 pub returns-in-Ok-clause-starts : goal.returns-in-Ok-clause-starts
 returns-in-Ok-clause-starts c =
-    let d = view c.args.top.now in
+    let d = view c.args.document.now.top.now in
     let none : first_broken before_room d ≡ None = cc in
     let (all, built) = at-ok ProcessRoom (first_failing (has_place d) 0 (process_tables d)) (starts_of d) c.in-Ok.starts c.in-Ok.ensures.starts in
     rw (starts-whole d, none, all) (ap (λ (l : List BootProcess). Ok l) built)
 
 pub returns-in-Err-clause-starts : goal.returns-in-Err-clause-starts
 returns-in-Err-clause-starts c =
-    let d = view c.args.top.now in
+    let d = view c.args.document.now.top.now in
     let none : first_broken before_room d ≡ None = cc in
     let o = first_failing (has_place d) 0 (process_tables d) in
     pass-err (unless_at ProcessRoom o (starts_of d)) (unless (first_broken process_rules d) (starts_of d)) c.in-Err.e

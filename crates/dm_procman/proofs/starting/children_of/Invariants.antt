@@ -3,4 +3,4 @@ use Rattle.dm_procman.specs.Managing.{child_of}
 use Rattle.dm_procman.proofs.starting.children_of.Given as goal
 
 abbrev pub invariant-loop-process : goal.invariant-loop-process
-invariant-loop-process l = l.children.items ≡ map child_of (take l.process-index l.process-items)
+invariant-loop-process l = l.children ≡ map child_of (take l.process-index l.process-items)

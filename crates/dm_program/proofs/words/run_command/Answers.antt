@@ -1,10 +1,10 @@
-use Rattle.std.proofs.Common.{rules, ◌≡◌, true, ap, ap₂, ◌∙◌, codes}
-use Rattle.std.proofs.lemmas.Result.{IfOk-weaker}
-use Rattle.clap.specs.Words.{App, app_of, new_app, with_rule}
+use Rattle.std.proofs.Common.{rules, ◌≡◌, refl, true, ap, ap₂, ◌∙◌, codes}
+use Rattle.clap.specs.Words.{App, app_of, new_app, with_rule, with_subcommand}
 use Rattle.dm_program.specs.RunWords.{file_option}
 use Rattle.dm_program.proofs.words.run_command.Goals as goal
 
-pub returns-clause-shape : goal.returns-clause-shape
-returns-clause-shape c =
-    let first : app_of c.in_ok-arg.arg ≡ with_rule (new_app (codes "run")) (file_option (codes "boot")) = c.in_ok-arg.ensures.shape (search rules) ∙ ap₂ with_rule c.new.ensures.app c.file.ensures.rule in
-    IfOk-weaker c.arg-2.result _ _ (λ r h. ap (λ (a : App). a.top) (h.shape (search rules) ∙ ap₂ with_rule first c.file-2.ensures.rule)) c.arg-2.ensures
+pub returns : goal.returns
+returns c = λ old new adds.
+    let run_is : app_of c.in_ok-run.run' ≡ with_rule (with_rule (new_app (codes "run")) (file_option (codes "boot"))) (file_option (codes "schedule")) = c.in_ok-run.ensures.shape (search rules)
+    ∙ ap₂ with_rule (c.in_ok-arg.ensures.shape (search rules) ∙ ap₂ with_rule c.new.ensures.app c.file.ensures.rule) c.file-2.ensures.rule in
+    adds.shape (search rules) ∙ ap (λ (a : App). with_subcommand (app_of old) a.top) run_is

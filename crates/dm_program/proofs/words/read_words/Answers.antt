@@ -3,7 +3,7 @@ use Rattle.clap.specs.Words.{app_of}
 use Rattle.dm_program.specs.Words.{request_of}
 use Rattle.dm_program.proofs.Names.{taken}
 use Rattle.dm_program.proofs.Given.{only_refused}
-use Rattle.dm_program.proofs.words.request.Goals as goal
+use Rattle.dm_program.proofs.words.read_words.Goals as goal
 
 pub returns-in-Ok-try_get_matches_from-clause-refused : goal.returns-in-Ok-try_get_matches_from-clause-refused
 returns-in-Ok-try_get_matches_from-clause-refused c = λ usage is_taken.

@@ -1,0 +1,8 @@
+-- Nothing is found before the first element.
+use Rattle.std.proofs.Common.{refl}
+use Rattle.dm_boot.specs.Tables.{place_of}
+use Rattle.dm_boot.proofs.document.places_of.Goals as goal
+
+pub loop-i-init : goal.loop-i-init
+unfolding place_of
+loop-i-init c = λ q. rw c.new-places.ensures.empty refl

@@ -1,0 +1,10 @@
+use Rattle.std.proofs.Common.{◌≡◌, ℕ, List, drop}
+use Rattle.std.specs.Option.{option_or}
+use Rattle.toml.specs.View.{items_view}
+use Rattle.dm_boot.specs.Named.{place_in}
+use Rattle.dm_boot.specs.Tables.{place_from, place_of}
+use Rattle.dm_boot.proofs.document.places_of.Given as goal
+
+-- what is found so far, or else among those that are left, is what is found among all
+abbrev pub invariant-loop-i : goal.invariant-loop-i
+invariant-loop-i l = (q : List ℕ) → option_or (place_in l.places q) (place_from l.i q (items_view (drop l.i l.items))) ≡ place_of q (items_view l.items)

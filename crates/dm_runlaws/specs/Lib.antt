@@ -1,0 +1,3 @@
+pub mod Order
+pub mod Through
+pub mod Packets
