@@ -15,7 +15,7 @@ use Rattle.dm_schedule.specs.declared.Directive.TheVariants as directive
 use Rattle.dm_schedule.specs.declared.LineFault.{LineFault}
 use Rattle.dm_schedule.specs.declared.LineFault.TheVariants.{SameMachine, WrongCount}
 use Rattle.dm_schedule.specs.declared.keywords.Keyword.{Keyword}
-use Rattle.dm_schedule.specs.declared.keywords.Keyword.TheVariants.{Turn, Tick, Deliver, Migrate, Round, Spin}
+use Rattle.dm_schedule.specs.declared.keywords.Keyword.TheVariants.{Turn, Tick, Deliver, Migrate, Round, Spin, Settle}
 use Rattle.dm_schedule.specs.Keywords.{keyword_of, operands, Operand, Machine, Process, Packet, Rounds}
 use Rattle.dm_schedule.specs.Lines.{lines, words, onto_first, ends_line, is_return, line_ends}
 use Rattle.dm_schedule.specs.Numbers.{number_of, process_of}
@@ -104,6 +104,7 @@ made_has machines Deliver v h = deliver_has machines v.0 v.1.0 v.1.1.0 (v.0 == v
 made_has machines Migrate v h = is_below v.1.0 machines h.1.0
 made_has machines Round v h = tt
 made_has machines Spin v h = in_range v.0 h.0
+made_has machines Settle v h = tt
 
 counted_has : (machines : ℕ) (k : Keyword) (ws : List (List ℕ)) (b : Bool) → OkHas (IsFor machines) (if b then values_of machines (operands k) ws >>= made k else Err WrongCount)
 counted_has machines k ws true = then_has (ValuesFit machines (operands k)) (IsFor machines) (values_of machines (operands k) ws) (made k) (values_has machines (operands k) ws) (made_has machines k)

@@ -1,5 +1,5 @@
 -- Where nothing is on its way, the lines of the end say so.
-use Rattle.std.proofs.Common.{◌≡◌, ℕ, zero, suc, ◌+◌, Bool, true, false, List, [], ◌∷◌, ◌++◌, take, drop, length, refl, ap, ◌∙◌, sym, subst}
+use Rattle.std.proofs.Common.{◌≡◌, ℕ, zero, suc, ◌+◌, true, false, List, [], ◌∷◌, ◌++◌, take, drop, length, refl, sym, subst}
 use Rattle.std.specs.Prelude.{◌/◌, ◌*◌}
 use Rattle.std.specs.List.{All}
 use Rattle.std.specs.declared.option.Option.{Option}
@@ -11,12 +11,10 @@ use Rattle.dm_link.specs.Names.{pid_of}
 use Rattle.dm_link.specs.Plain.{PlainLink}
 use Rattle.dm_message.specs.declared.MsgId.{MsgId}
 use Rattle.dm_message.specs.Ids.{id_of}
-use Rattle.dm_onekernel.specs.declared.boot.Boot.{Boot}
-use Rattle.dm_onekernel.specs.Boot.{IsValid, first_number, manager, switchboard}
+use Rattle.dm_onekernel.specs.Boot.{first_number, manager, switchboard}
 use Rattle.dm_onekernel.specs.PlainProcess.{PlainProcess}
 use Rattle.dm_onekernel.specs.Kernel.{Life, Alive, NamedLink, Pending}
 use Rattle.dm_onekernel.specs.Kernel as kernel
-use Rattle.dm_schedule.specs.declared.Step.{Step}
 use Rattle.dm_line.specs.declared.end_line.EndLine.{EndLine}
 use Rattle.dm_line.specs.declared.end_line.EndLine.TheVariants as end
 use Rattle.dm_line.specs.declared.end_line.Standing.{Standing}
@@ -25,9 +23,7 @@ use Rattle.dm_line.specs.Ends.{block_line, each_machine, home_with, list_line, m
 use Rattle.dm_line.specs.Todo.{or}
 use Rattle.dm_rule.specs.Addresses.{Addresses, Child, Name, Slot}
 use Rattle.dm_rule.specs.Ends.{Stood, alive_lines, awaits, child_lines, doing_of, each_process, end_lines, first_with, has, holding_lines, homes_with, inbox_lines, leading, link_lines, name_lines, pending_lines, process_lines, queue_at, queue_lines, server_lines, slot_line, state_lines, stood, stood_at, stream_lines}
-use Rattle.dm_rule.specs.Laws.{Leads}
-use Rattle.dm_rule.specs.Point.{Point, first_point}
-use Rattle.dm_rule.specs.Quiet.{IsQuiet}
+use Rattle.dm_rule.specs.Point.{Point}
 use Rattle.dm_rule.specs.Spots.{untaken}
 use Rattle.dm_rule.specs.View.{Known, View}
 use Rattle.dm_rule.specs.View as view

@@ -18,7 +18,7 @@ use Rattle.dm_line.specs.Todo.{Next, Todo, Two, all_of, begin_pass, below, in_pa
 use Rattle.dm_rule.specs.Good.{IsRun, next_step, undelivered}
 use Rattle.dm_rule.specs.Laws.{Leads}
 use Rattle.dm_rule.specs.Point.{Point, first_point}
-use Rattle.dm_rule.specs.Quiet.{IsQuiet, has_mail, is_quiet}
+use Rattle.dm_rule.specs.Quiet.{has_mail, is_quiet}
 use Rattle.dm_rule.specs.View.{View}
 use Rattle.dm_rule.proofs.QuietTests.{passes_quiet}
 use Rattle.dm_rulelaws.proofs.Based.Always.{based_always}

@@ -6,3 +6,16 @@ pub mod RestsAlways
 pub mod PassHas
 pub mod EndsQuiet
 pub mod EndsAtRest
+pub mod Weights
+pub mod Effects
+pub mod Handles
+pub mod Grows
+pub mod TurnFalls
+pub mod Totals
+pub mod Delivers
+pub mod DeliverFalls
+pub mod LeftFalls
+pub mod Less
+pub mod Far
+pub mod Covers
+pub mod Few

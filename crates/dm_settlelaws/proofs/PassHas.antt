@@ -1,19 +1,17 @@
 -- Where not all is quiet a pass of a settle has something to do.
-use Rattle.std.proofs.Common.{◌≡◌, ◌≢◌, ◌⊎◌, ℕ, zero, suc, ◌+◌, ◌<◌, ◌≤◌, ◌==◌, not, Bool, true, false, List, [], ◌∷◌, ◌++◌, length, nat_le, nat_lt, refl, ap, ◌∙◌, sym, subst, inl, inr, arith}
+use Rattle.std.proofs.Common.{◌≡◌, ◌≢◌, ◌⊎◌, ℕ, zero, suc, ◌<◌, ◌≤◌, ◌==◌, Bool, true, false, List, [], ◌∷◌, ◌++◌, length, nat_lt, refl, ap, ◌∙◌, sym, subst, inl, inr, arith}
 use Rattle.std.specs.Prelude.{if◌then◌else◌}
 use Rattle.std.specs.declared.option.Option.{Option}
 use Rattle.std.specs.declared.option.Option.TheVariants.{None, Some}
-use Rattle.std.proofs.lemmas.Bool.{cases_Bool, false≢true}
+use Rattle.std.proofs.lemmas.Bool.{false≢true}
 use Rattle.std.proofs.lemmas.Bool.Decides.{leb_tells, nat_tests}
-use Rattle.dm_message.specs.declared.MsgId.{MsgId}
 use Rattle.dm_onekernel.specs.declared.boot.Boot.{Boot}
-use Rattle.dm_onekernel.specs.Boot.{IsValid}
 use Rattle.dm_schedule.specs.declared.Directive.{Directive}
 use Rattle.dm_schedule.specs.declared.Step.{Step}
 use Rattle.dm_schedule.specs.declared.Step.TheVariants as step
 use Rattle.dm_line.specs.declared.line.Load.TheVariants as load
 use Rattle.dm_line.specs.declared.pass.Pass.{Pass}
-use Rattle.dm_line.specs.declared.pass.Pass.TheVariants.{Round, Settle}
+use Rattle.dm_line.specs.declared.pass.Pass.TheVariants.{Settle}
 use Rattle.dm_line.specs.Todo.{Next, Todo, Two, all_of, begin_pass, below, here_or_later, in_pass, is_over, next, next_delivery, next_directive, next_pass, next_turn, or, pairs_of, pairs_with, pass_begun, settles, takes_turn}
 use Rattle.dm_rule.specs.Good.{first_undelivered, next_step, undelivered}
 use Rattle.dm_rule.specs.Laws.{Leads}
@@ -23,10 +21,9 @@ use Rattle.dm_rule.specs.Quiet.{IsQuiet, has_mail, is_quiet}
 use Rattle.dm_rule.specs.View.{Pair, View}
 use Rattle.dm_rule.proofs.Pairs.{pairs_stand_always}
 use Rattle.dm_rule.proofs.QuietTests.{passes_quiet, quiet_passes}
-use Rattle.dm_rulelaws.proofs.Based.Always.{based_always}
-use Rattle.dm_settlelaws.specs.Laws.{Settles, SettlesAlways}
+use Rattle.dm_settlelaws.specs.Laws.{SettlesAlways}
 use Rattle.dm_settlelaws.specs.Passes.{IsSettleStep, SettleGoes}
-use Rattle.dm_settlelaws.specs.Rests.{HasCome, HasPacket, PairRests}
+use Rattle.dm_settlelaws.specs.Rests.{PairRests}
 use Rattle.dm_settlelaws.proofs.RestsAlways.{pairs_rest_always}
 use Rattle.dm_settlelaws.proofs.Wires.{all_come}
 

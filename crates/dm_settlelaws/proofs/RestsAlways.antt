@@ -1,27 +1,24 @@
 -- Wherever the rule leads, on each pair of machines each has done its part.
-use Rattle.std.proofs.Common.{◌≡◌, ◌≢◌, ℕ, ◌<◌, ◌≤◌, ◌==◌, Bool, true, false, List, [], ◌∷◌, refl, ap, ◌∙◌, sym, subst, inl, arith}
+use Rattle.std.proofs.Common.{◌≡◌, ℕ, ◌≤◌, ◌==◌, Bool, true, false, List, [], ◌∷◌, refl, ap, ◌∙◌, subst, inl, arith}
 use Rattle.std.specs.Prelude.{slice_get}
 use Rattle.std.specs.declared.option.Option.TheVariants.{Some}
 use Rattle.std.proofs.lemmas.Bool.Decides.{nat_tests}
-use Rattle.dm_link.specs.declared.Pid.{Pid}
 use Rattle.dm_onekernel.specs.declared.boot.Boot.{Boot}
 use Rattle.dm_schedule.specs.declared.Step.{Step}
 use Rattle.dm_schedule.specs.declared.Step.TheVariants as step
 use Rattle.dm_line.specs.declared.line.Line.TheVariants as line
-use Rattle.dm_line.specs.Sets.{at_pair}
 use Rattle.dm_rule.specs.Laws.{IsStep, Leads}
 use Rattle.dm_rule.specs.Migrating.{migrates}
-use Rattle.dm_rule.specs.Parts.{Part, Says, Spelled, spelled}
+use Rattle.dm_rule.specs.Parts.{Says, Spelled, spelled}
 use Rattle.dm_rule.specs.Point.{Point, first_point, moved}
 use Rattle.dm_rule.specs.Rule.{arrives, group_of, outstanding, resends}
-use Rattle.dm_rule.specs.View.{Pair, View, first_view, marked}
+use Rattle.dm_rule.specs.View.{View, first_view}
 use Rattle.dm_rule.proofs.Groups.{arrives_net, group_is}
 use Rattle.dm_rule.proofs.Pairs.{Pairs, Pairs-group, Pairs-start}
 use Rattle.dm_rule.proofs.Pairs.Lines.{AllFit}
 use Rattle.dm_rule.proofs.Pairs.Migrating.{migrates_fit}
 use Rattle.dm_rule.proofs.Pairs.Turns.{resends_fit, turns_fit}
 use Rattle.dm_settlelaws.specs.Laws.{PairsRestAlways}
-use Rattle.dm_settlelaws.specs.Rests.{PairRests}
 use Rattle.dm_settlelaws.proofs.RestsComes.{arrives_rest, net_pairs}
 use Rattle.dm_settlelaws.proofs.RestsParts.{Rest, parts_rest}
 

@@ -1,9 +1,9 @@
 -- A delivery keeps what has been done on each pair of machines.
-use Rattle.std.proofs.Common.{◌≡◌, ◌≢◌, ◌⊎◌, ℕ, zero, suc, ◌+◌, ◌-◌, ◌<◌, ◌≤◌, ◌==◌, ◌&&◌, ◌||◌, not, filter, Bool, true, false, List, [], ◌∷◌, ◌++◌, length, nat_lt, refl, ap, ◌∙◌, sym, subst, inl, inr, arith}
+use Rattle.std.proofs.Common.{◌≡◌, ◌≢◌, ◌⊎◌, ℕ, zero, suc, ◌+◌, ◌<◌, ◌≤◌, ◌==◌, ◌&&◌, ◌||◌, not, Bool, true, false, List, [], ◌∷◌, ◌++◌, length, nat_lt, refl, ap, ◌∙◌, sym, subst, inl, inr, arith}
 use Rattle.std.specs.Prelude.{if◌then◌else◌, slice_get}
 use Rattle.std.specs.declared.option.Option.{Option}
 use Rattle.std.specs.declared.option.Option.TheVariants.{None, Some}
-use Rattle.std.proofs.lemmas.Bool.{cases_Bool, false≢true}
+use Rattle.std.proofs.lemmas.Bool.{false≢true}
 use Rattle.std.proofs.lemmas.Bool.Decides.{eqb_tells, nat_tests}
 use Rattle.dm_line.specs.declared.line.Line.{Line}
 use Rattle.dm_line.specs.declared.line.Line.TheVariants as line
@@ -12,31 +12,31 @@ use Rattle.dm_line.specs.declared.line.Load.TheVariants as load
 use Rattle.dm_line.specs.Sets.{at_pair}
 use Rattle.dm_rule.specs.Parts.{Part, Says, Routes, Again, Owns, Transmits, Spelled, spelled, window}
 use Rattle.dm_rule.specs.Point.{Point}
-use Rattle.dm_rule.specs.Rule.{arrives, comes, data_comes, has, kept_from, let_go, more, numbers_from, repeats, takes, takes_on}
+use Rattle.dm_rule.specs.Rule.{arrives, comes, has, kept_from, let_go, more, repeats, takes, takes_on}
 use Rattle.dm_rule.specs.View.{Pair, Sent, View, at_least, marked, view_after}
 use Rattle.dm_rule.specs.View as view
 use Rattle.dm_rule.proofs.Pairs.Stand.{Apart, KeptStands, set_other, set_same}
 use Rattle.dm_rule.proofs.Pairs.Moves.{off, off_has, or_cases}
-use Rattle.dm_rule.proofs.Pairs.Lines.{onward, pair_same, says_view, taken_pair, transmits_view}
+use Rattle.dm_rule.proofs.Pairs.Lines.{onward, says_view, taken_pair, transmits_view}
 use Rattle.dm_rule.proofs.Groups.{IsNet, IsNetLine}
 use Rattle.dm_settlelaws.specs.Rests.{PairRests}
 use Rattle.dm_settlelaws.proofs.RestsPairs.{Comes, ack_back, ack_rests, acknowledged, data_back, data_rests, heard_of, repeated, sent_all}
 use Rattle.dm_settlelaws.proofs.RestsParts.{Rest, Two, rest_two}
 
 -- the pairs behind the parts of a delivery
-abbrev took : ℕ → Pair → Pair
+abbrev pub took : ℕ → Pair → Pair
 took n p = record p { taken = p.taken + 1; kept = off n p.kept }
 
-abbrev early : ℕ → Pair → Pair
+abbrev pub early : ℕ → Pair → Pair
 early n p = record p { kept = n ∷ off n p.kept }
 
-abbrev pairs_line : (ℕ → ℕ → Pair) → Line → ℕ → ℕ → Pair
+abbrev pub pairs_line : (ℕ → ℕ → Pair) → Line → ℕ → ℕ → Pair
 pairs_line f (line.Taken a b n) = at_pair f a b (took n (f a b))
 pairs_line f (line.Early a b n) = at_pair f a b (early n (f a b))
 pairs_line f (line.Acked a b n) = at_pair f b a (acknowledged n (f b a))
 pairs_line f l = f
 
-abbrev pairs_part : (ℕ → ℕ → Pair) → Part → ℕ → ℕ → Pair
+abbrev pub pairs_part : (ℕ → ℕ → Pair) → Part → ℕ → ℕ → Pair
 pairs_part f (Says l) = pairs_line f l
 pairs_part f (Transmits a b l) = at_pair f a b (repeated l (f a b))
 pairs_part f (Routes i) = f
@@ -87,7 +87,7 @@ net_pairs (Routes i ∷ ps) pt w is e = absurd is.0
 net_pairs (Again i b ∷ ps) pt w is e = absurd is.0
 net_pairs (Owns k q b ∷ ps) pt w is e = absurd is.0
 
-parts_both : (f : ℕ → ℕ → Pair) (ps qs : List Part) → pairs_parts f (ps ++ qs) ≡ pairs_parts (pairs_parts f ps) qs
+pub parts_both : (f : ℕ → ℕ → Pair) (ps qs : List Part) → pairs_parts f (ps ++ qs) ≡ pairs_parts (pairs_parts f ps) qs
 parts_both f [] qs = refl
 parts_both f (p ∷ ps) qs = parts_both (pairs_part f p) ps qs
 

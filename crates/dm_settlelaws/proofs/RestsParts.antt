@@ -1,9 +1,8 @@
 -- The pairs behind the parts of a group, and what the parts of a turn keep of what has been done on them.
-use Rattle.std.proofs.Common.{◌≡◌, ◌≢◌, ◌⊎◌, ℕ, ◌+◌, ◌-◌, ◌<◌, ◌≤◌, ◌==◌, ◌&&◌, Bool, true, false, List, [], ◌∷◌, ◌++◌, length, refl, ap, ◌∙◌, sym, subst, inl, inr, arith}
-use Rattle.std.specs.Prelude.{⊤, if◌then◌else◌, slice_get}
-use Rattle.std.specs.declared.option.Option.{Option}
-use Rattle.std.specs.declared.option.Option.TheVariants.{None, Some}
-use Rattle.std.proofs.lemmas.Bool.{cases_Bool, false≢true}
+use Rattle.std.proofs.Common.{◌≡◌, ℕ, ◌+◌, ◌<◌, ◌==◌, ◌&&◌, Bool, true, false, List, [], ◌∷◌, ◌++◌, length, refl, ap, ◌∙◌, sym, subst, inl, inr, arith}
+use Rattle.std.specs.Prelude.{if◌then◌else◌}
+use Rattle.std.specs.declared.option.Option.TheVariants.{Some}
+use Rattle.std.proofs.lemmas.Bool.{cases_Bool}
 use Rattle.std.proofs.lemmas.Bool.Decides.{nat_tests}
 use Rattle.dm_link.specs.declared.Pid.{Pid}
 use Rattle.dm_message.specs.declared.MsgId.{MsgId}
@@ -20,7 +19,7 @@ use Rattle.dm_rule.specs.Point.{Point, after}
 use Rattle.dm_rule.specs.View.{Pair, View, gone_after, own_id, routed_on}
 use Rattle.dm_rule.proofs.Pairs.Stand.{set_other, set_same, two_of}
 use Rattle.dm_rule.proofs.Pairs.Moves.{Paired}
-use Rattle.dm_rule.proofs.Pairs.Lines.{AllFit, AllFit-later, Fits, Onward, bind-is, fitting_goes, one_view, onward, pair_same, says_view, touches, transmits_view, two_views}
+use Rattle.dm_rule.proofs.Pairs.Lines.{AllFit, AllFit-later, Fits, Onward, bind-is, fitting_goes, one_view, onward, pair_same, says_view, transmits_view, two_views}
 use Rattle.dm_settlelaws.specs.Rests.{PairRests}
 use Rattle.dm_settlelaws.proofs.RestsPairs.{out_rests, repeat_back, repeat_rests, repeated, rests_back, route_rests, routed, routed_out}
 

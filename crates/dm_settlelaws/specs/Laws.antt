@@ -1,21 +1,25 @@
 -- What holds of a settle wherever the rule leads.
-use Rattle.std.specs.Prelude.{◌≡◌, ◌≢◌, ℕ, true, List}
+use Rattle.std.specs.Prelude.{◌≡◌, ◌≢◌, ℕ, ◌^◌, ◌<◌, ◌≤◌, true, List}
 use Rattle.std.specs.List.{All}
-use Rattle.std.specs.declared.option.Option.TheVariants.{None}
+use Rattle.std.specs.declared.option.Option.TheVariants.{None, Some}
 use Rattle.dm_onekernel.specs.declared.boot.Boot.{Boot}
 use Rattle.dm_onekernel.specs.Boot.{IsValid}
 use Rattle.dm_schedule.specs.declared.Directive.{Directive}
 use Rattle.dm_schedule.specs.declared.Step.{Step}
+use Rattle.dm_schedule.specs.declared.Step.TheVariants as step
 use Rattle.dm_line.specs.declared.end_line.EndLine.{EndLine}
 use Rattle.dm_line.specs.declared.line.Line.{Line}
 use Rattle.dm_line.specs.declared.pass.Pass.TheVariants.{Settle}
 use Rattle.dm_line.specs.Todo.{Todo, all_of}
 use Rattle.dm_rule.specs.Ends.{end_lines}
-use Rattle.dm_rule.specs.Good.{IsRun, next_step}
-use Rattle.dm_rule.specs.Laws.{Leads}
+use Rattle.dm_rule.specs.Good.{IsKept, IsRun, next_step}
+use Rattle.dm_rule.specs.Laws.{IsStep, Leads}
+use Rattle.dm_rule.specs.Parts.{Spelled}
 use Rattle.dm_rule.specs.Point.{Point, first_point}
 use Rattle.dm_rule.specs.Quiet.{IsQuiet}
-use Rattle.dm_settlelaws.specs.Passes.{SettleGoes, ends_settled, is_at_rest}
+use Rattle.dm_rule.specs.Rule.{group_of}
+use Rattle.dm_settlelaws.specs.Left.{IsLess, left, turns_left}
+use Rattle.dm_settlelaws.specs.Passes.{IsSettleStep, SettleGoes, ends_settled, is_at_rest}
 use Rattle.dm_settlelaws.specs.Rests.{PairRests}
 
 -- wherever the rule leads, each machine has done its part on each pair
@@ -40,3 +44,25 @@ EndsQuiet =
 -- where it is
 abbrev pub EndsAtRest : Type 0
 EndsAtRest = (b : Boot) (es : List Step) (pt : Point) → IsValid b → Leads b (first_point b) es pt → IsQuiet pt.kernel.machines pt.view → All (λ (l : EndLine). is_at_rest l ≡ true) (end_lines pt)
+
+-- each group of a settle leaves less to do: so it ends, whatever was lost, repeated or reordered, and however many processes move
+abbrev pub LeftFalls : Type 0
+LeftFalls =
+    (b : Boot) (es : List Step) (pt : Point) (e : Step) (w : Spelled) → IsValid b → Leads b (first_point b) es pt → IsStep pt.kernel.machines e → IsSettleStep pt.view e → group_of b pt e ≡ Some w → IsKept b w.point
+    → IsLess (left b.numbers pt.kernel.machines w.point.view) (left b.numbers pt.kernel.machines pt.view)
+
+-- and what it leaves to turns is never more than this
+abbrev pub TurnsLeftFew : Type 0
+TurnsLeftFew = (b : Boot) (es : List Step) (pt : Point) → IsValid b → Leads b (first_point b) es pt → IsKept b pt → turns_left (left b.numbers pt.kernel.machines pt.view) < 2 ^ 89
+
+-- so the turns of a settle leave less of that, and its deliveries no more
+abbrev pub FallsBy : Step → ℕ → ℕ → Type 0
+FallsBy (step.Turn m) now before = now < before
+FallsBy (step.Tick m) now before = now ≤ before
+FallsBy (step.Deliver a c k) now before = now ≤ before
+FallsBy (step.Migrate p m) now before = now ≤ before
+
+abbrev pub TurnsLeftFall : Type 0
+TurnsLeftFall =
+    (b : Boot) (es : List Step) (pt : Point) (e : Step) (w : Spelled) → IsValid b → Leads b (first_point b) es pt → IsStep pt.kernel.machines e → IsSettleStep pt.view e → group_of b pt e ≡ Some w → IsKept b w.point
+    → FallsBy e (turns_left (left b.numbers pt.kernel.machines w.point.view)) (turns_left (left b.numbers pt.kernel.machines pt.view))

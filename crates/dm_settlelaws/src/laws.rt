@@ -1,5 +1,5 @@
 //! What holds of a settle wherever the rule leads, whoever ran by it.
-ghost use Rattle.dm_settlelaws.specs.Laws.{EndsAtRest, EndsQuiet, PairsRestAlways, SettlesAlways};
+ghost use Rattle.dm_settlelaws.specs.Laws.{EndsAtRest, EndsQuiet, LeftFalls, PairsRestAlways, SettlesAlways, TurnsLeftFall, TurnsLeftFew};
 
 /// Wherever the rule leads from a boot file, on each ordered pair of machines what may go out has gone, each number that went out
 /// has a packet, a data packet that came was taken or is kept, the next number isn't kept, the count of what was taken was
@@ -24,4 +24,22 @@ pub fn ends_quiet()
 /// message, none is held back, and each process that lives is on one machine, and neither leaves nor comes.
 pub fn ends_at_rest()
     ensures { EndsAtRest }
+{}
+
+/// Wherever the rule leads from a boot file, each group of a settle leaves less to do: fewer messages that may still be routed, or
+/// as many and fewer restarts and refusals that are on their way, or as many and fewer messages that are, or as many and less for
+/// the wires. So a settle ends, whatever was lost, repeated or reordered before, and however many processes move.
+pub fn left_falls()
+    ensures { LeftFalls }
+{}
+
+/// Wherever the rule leads from a boot file, while no pair of machines counts more messages than the boot file allows, what is left
+/// for turns is below this.
+pub fn turns_left_few()
+    ensures { TurnsLeftFew }
+{}
+
+/// And each turn of a settle leaves less of that, and each delivery no more.
+pub fn turns_left_fall()
+    ensures { TurnsLeftFall }
 {}

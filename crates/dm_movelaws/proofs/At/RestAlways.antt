@@ -56,7 +56,7 @@ within_by b pt i z None there h least =
     let (t, told) = told_of (pt.view.told i) (h.found.told i z least) in
     h.found.own_within i t told (own_by (is_kernels i) (standing pt.view i) z least (stands_right pt i h.based.phased.state None there))
 
-within : (b : Boot) (pt : Point) (i : MsgId) (z : Spot) → Run b pt → 1 ≤ standing pt.view i z → machine_of z < pt.kernel.machines
+pub within : (b : Boot) (pt : Point) (i : MsgId) (z : Spot) → Run b pt → 1 ≤ standing pt.view i z → machine_of z < pt.kernel.machines
 within b pt i z h least = subst (λ (n : ℕ). n < pt.kernel.machines) (h.found.at_ i z least) (within_by b pt i z (pt.kernel.bag i) refl h least)
 
 first_times : (i : MsgId) (is xs : List MsgId) → xs ≡ i ∷ is → 1 ≤ times i xs

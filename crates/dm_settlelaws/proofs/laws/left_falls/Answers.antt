@@ -1,0 +1,5 @@
+use Rattle.dm_settlelaws.proofs.LeftFalls.{left_falls}
+use Rattle.dm_settlelaws.proofs.laws.left_falls.Goals as goal
+
+pub returns : goal.returns
+returns c = left_falls
