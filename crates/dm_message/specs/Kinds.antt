@@ -1,5 +1,5 @@
--- The kinds of message: the word and the number of each.
-use Rattle.std.specs.Prelude.{◌≡◌, ⊤, ℕ, List, [], ◌∷◌, ◌==◌, Option, None, Some, codes}
+-- The kinds of message: the word and the number of each, and whose senders are told where it went.
+use Rattle.std.specs.Prelude.{◌≡◌, ⊤, ℕ, Bool, true, false, List, [], ◌∷◌, ◌==◌, Option, None, Some, codes}
 use Rattle.std.specs.List.{find}
 use Rattle.dm_message.specs.declared.What.{What}
 use Rattle.dm_message.specs.declared.What.TheVariants as what
@@ -125,3 +125,33 @@ plain_kind (plain.Moved outcome) = kind.Moved
 abbrev pub IsKindOfPlain : What → Option PlainWhat → Type 0
 IsKindOfPlain w None = ⊤
 IsKindOfPlain w (Some v) = plain_kind v ≡ kind_of w
+
+-- the kinds whose senders hold a link or an address that they may use again: where such a message goes on, its sender is told where
+-- the receiver went; a row a kind
+abbrev pub is_told_back : MessageKind → Bool
+is_told_back kind.User = true
+is_told_back kind.Stop = true
+is_told_back kind.Resume = true
+is_told_back kind.Kill = true
+is_told_back kind.Read = true
+is_told_back kind.Write = true
+is_told_back kind.Block = false
+is_told_back kind.Written = false
+is_told_back kind.Gone = false
+is_told_back kind.Create = false
+is_told_back kind.Created = false
+is_told_back kind.NoRoom = false
+is_told_back kind.Migrate = true
+is_told_back kind.Update = false
+is_told_back kind.Ask = false
+is_told_back kind.Refuse = false
+is_told_back kind.PullState = false
+is_told_back kind.State = false
+is_told_back kind.PullBlock = false
+is_told_back kind.Memory = false
+is_told_back kind.AllTaken = false
+is_told_back kind.Restart = false
+is_told_back kind.Move = true
+is_told_back kind.Moved = false
+is_told_back kind.CallOff = false
+is_told_back kind.Bury = false

@@ -203,6 +203,7 @@ module _ (b : Boot) (w : WorldState) (pt : Point) (l : Placed) (h : History) (a 
       let come = MayCome-stands (stream_with (ends_of w h a c)) (there_pair b w pt l h a c s a_in c_in apart).stream in
       may_read p (Data n m) (packet.Data a c n x.message) is loads x.read (
         refl,
+        sym (s.nodes c c_in).kernel.here,
         record {
           acts = acts;
           from = (low_a, λ same. apart (same ∙ (s.nodes c c_in).kernel.here));
@@ -214,6 +215,7 @@ module _ (b : Boot) (w : WorldState) (pt : Point) (l : Placed) (h : History) (a 
       let come = MayCome-stands (stream_with (ends_of w h c a)) (back_pair b w pt l h a c s a_in c_in apart).stream in
       may_read p (Ack n) (packet.Ack a c n) is loads (reads_ack a c n low_a low_c apart (small_ack b w pt l h a c k s counted a_in c_in apart n e)) (
         refl,
+        sym (s.nodes c c_in).kernel.here,
         record {
           acts = acts;
           from = (low_a, λ same. apart (same ∙ (s.nodes c c_in).kernel.here));

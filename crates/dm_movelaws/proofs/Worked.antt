@@ -1,4 +1,4 @@
--- Lines of migrations in and out of order, and what ends a directive, computed.
+-- Lines of migrations in and out of order, what ends a directive, what is routed, and which lines say that a process lives, computed.
 use Rattle.std.proofs.Common.{◌≡◌, true, false, List, [], ◌∷◌, refl}
 use Rattle.std.specs.declared.option.Option.{Option}
 use Rattle.std.specs.declared.option.Option.TheVariants.{None, Some}
@@ -7,13 +7,21 @@ use Rattle.dm_link.specs.Names.{pid_of}
 use Rattle.dm_message.specs.declared.MsgId.{MsgId}
 use Rattle.dm_message.specs.declared.kind.MessageKind.TheVariants as kind
 use Rattle.dm_message.specs.Ids.{id_of}
+use Rattle.dm_onekernel.specs.declared.label.Why.TheVariants as why
 use Rattle.dm_schedule.specs.declared.Step.TheVariants as step
 use Rattle.dm_line.specs.declared.line.Line.{Line}
 use Rattle.dm_line.specs.declared.line.Line.TheVariants as line
+use Rattle.dm_line.specs.declared.line.Load.TheVariants as load
 use Rattle.dm_line.specs.declared.line.Stage.TheVariants as stage
+use Rattle.dm_line.specs.declared.end_line.EndLine.{EndLine}
+use Rattle.dm_line.specs.declared.end_line.EndLine.TheVariants as end
+use Rattle.dm_line.specs.declared.end_line.Doing.TheVariants as doing
+use Rattle.dm_line.specs.declared.end_line.Standing.TheVariants as standing
 use Rattle.dm_rule.specs.View.{Told, Target}
 use Rattle.dm_movelaws.specs.Stages.{marks, in_order}
 use Rattle.dm_movelaws.specs.Ends.{count, asks, ends}
+use Rattle.dm_movelaws.specs.LifeLines.{life_lines}
+use Rattle.dm_movelaws.specs.Routed.{routed}
 
 abbrev p : Pid
 p = pid_of 0 3
@@ -77,3 +85,22 @@ asked_one = refl
 
 ended_one : count (ends told q) lines ≡ 1
 ended_one = refl
+
+-- a request that is routed and goes on counts once, and so does a message of a process's own
+abbrev puts : List Line
+puts =
+    line.Head (step.Turn 0) ∷ line.Put 0 1 request kind.Migrate p ∷ line.Packet 0 1 0 (load.Data 0) ∷ line.Forwarded request 1 ∷ line.Head (step.Turn 1) ∷ line.Put 1 0 (id_of q 0) kind.User p
+    ∷ line.Queued (id_of q 0) ∷ []
+
+routed_two : routed puts ≡ request ∷ id_of q 0 ∷ []
+routed_two = refl
+
+-- of the lines at the end, the one of a process that lives, and of one that has ended
+abbrev at_end : List EndLine
+at_end = end.Final ∷ end.Ended q why.Exit ∷ end.Process p 1 standing.Arriving doing.Ready false 3 ∷ end.Queue p (request ∷ []) ∷ end.Holding 1 p (request ∷ []) ∷ []
+
+p_lives : life_lines p at_end ≡ end.Process p 1 standing.Arriving doing.Ready false 3 ∷ []
+p_lives = refl
+
+q_ended : life_lines q at_end ≡ end.Ended q why.Exit ∷ []
+q_ended = refl

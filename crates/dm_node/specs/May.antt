@@ -1,5 +1,5 @@
 -- What the events of a machine count on, as every machine of a good run has it.
-use Rattle.std.specs.Prelude.{ℕ, ◌+◌, ◌-◌, ◌^◌, ◌<◌, ◌≤◌, ◌≢◌}
+use Rattle.std.specs.Prelude.{◌≡◌, ℕ, ◌+◌, ◌-◌, ◌^◌, ◌<◌, ◌≤◌, ◌≢◌}
 use Rattle.std.specs.List.{All}
 use Rattle.dm_message.specs.declared.Message.{Message}
 use Rattle.dm_message.specs.Lawful.{IsLawfulMessage}
@@ -36,6 +36,7 @@ pub record MayArrive (n : NodeState) (a : ℕ) (l : Load Message) : Type 0 where
   pub from : (a < 16) × (a ≢ here n)
   pub fits : FitsLoad n a l
 
+-- a packet is for the machine that it names
 abbrev pub MayArrivePacket : NodeState → Packet → Type 0
-MayArrivePacket n (packet.Data from to seq m) = MayArrive n from (Data seq m)
-MayArrivePacket n (packet.Ack from to count) = MayArrive n from (Ack count)
+MayArrivePacket n (packet.Data from to seq m) = (to ≡ here n) × MayArrive n from (Data seq m)
+MayArrivePacket n (packet.Ack from to count) = (to ≡ here n) × MayArrive n from (Ack count)

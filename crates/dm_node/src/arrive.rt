@@ -19,7 +19,7 @@ use dm_stream::Arrived;
 const WINDOW: usize = 8;
 
 impl Node {
-    /// Takes what a packet from another machine carries. A message is taken if it is the next, with those behind it
+    /// Takes what a packet from another machine to this one carries. A message is taken if it is the next, with those behind it
     /// that came early, kept if it is early, and dropped if it is old; how many were taken is acknowledged. An
     /// acknowledgement lets messages go out that wait.
     pub fn arrive(&mut self, packet: Packet, outs: &mut Vec<Out>) -> Result<(), NoMemory>

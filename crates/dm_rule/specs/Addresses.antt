@@ -21,6 +21,7 @@ use Rattle.dm_line.specs.declared.line.Line.{Line}
 use Rattle.dm_line.specs.declared.line.Line.TheVariants as line
 use Rattle.dm_rule.specs.View.{View, Told, About, NothingElse, Target, Of, Known, Unknown, Here, Frozen, Incoming, Forward, Ended}
 use Rattle.dm_rule.specs.View as view
+pub use Rattle.dm_message.specs.Kinds.{is_told_back}
 pub use Rattle.dm_rule.specs.Holders.{Holder, Slot, Owner, Receiver, Sender, Enclosed, Child, Name, Answer, Addresses, is_slot, is_owner, is_receiver, is_sender, is_enclosed, is_child, is_name, is_answer, holder_eq, Gets, gets, given, here, unmoved}
 pub use Rattle.dm_rule.specs.Given.{encloses, enclosed_from, requests, sends_what, sends_next, sends, fills, fills_by, made, slot_after, receives_links, receives_what, receives, answers, lands, serves_what, serves_alive, serves, child_links, creates_what, creates, place_named, board_finds, board_keeps, board_asks, board_takes, manager_controls, manager_tells, manager_sends, manager_answers, manager_takes, takes, gives}
 
@@ -43,36 +44,8 @@ abbrev pub all_follow : View → Addresses → Pid → List MsgId → List Gets
 all_follow v a p [] = []
 all_follow v a p (i ∷ is) = follows v a i (Some p) ++ all_follow v a p is
 
--- a forward of these tells the sender where the receiver went; answers and what kernels tell each other don't
-abbrev pub is_told_back : MessageKind → Bool
-is_told_back kind.User = true
-is_told_back kind.Stop = true
-is_told_back kind.Resume = true
-is_told_back kind.Kill = true
-is_told_back kind.Read = true
-is_told_back kind.Write = true
-is_told_back kind.Migrate = true
-is_told_back kind.Block = false
-is_told_back kind.Written = false
-is_told_back kind.Gone = false
-is_told_back kind.Create = false
-is_told_back kind.Created = false
-is_told_back kind.NoRoom = false
-is_told_back kind.Update = false
-is_told_back kind.Ask = false
-is_told_back kind.Refuse = false
-is_told_back kind.PullState = false
-is_told_back kind.State = false
-is_told_back kind.PullBlock = false
-is_told_back kind.Memory = false
-is_told_back kind.AllTaken = false
-is_told_back kind.Restart = false
-is_told_back kind.Move = false
-is_told_back kind.Moved = false
-is_told_back kind.CallOff = false
-is_told_back kind.Bury = false
-
--- that update goes to where the message came from, as the next message of the acting machine's kernel
+-- where the sender of a message that goes on is told where the receiver went, that update goes to where the message came from, as
+-- the next message of the acting machine's kernel
 abbrev pub tells_back : View → Addresses → MsgId → Bool → List Gets
 tells_back v a id true = gets (Receiver (view.own_id v)) (a (Sender id)) ∷ gets (Sender (view.own_id v)) (unmoved v.acting) ∷ []
 tells_back v a id false = []
