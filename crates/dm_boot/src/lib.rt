@@ -7,19 +7,19 @@ ghost use Rattle.toml.specs.View.{table_view};
 ghost use Rattle.dm_boot.specs.Boot.{Answers, IsUnread, boot_of, boot_of_document};
 
 mod checks;
-mod document;
+pub mod document;
 mod images;
-mod limits;
+pub mod limits;
 mod links;
 mod machines;
-mod names;
+pub mod names;
 mod processes;
 mod rules;
-mod shapes;
+pub mod shapes;
 mod starts;
 mod system;
-mod tables;
-mod targets;
+pub mod tables;
+pub mod targets;
 
 use dm_memory::NoMemory;
 use dm_onekernel::boot::Boot;

@@ -24,10 +24,17 @@ met_by w (Some d) = is_sort w.sort d
 abbrev pub is_met : Wish → Data → Bool
 is_met w d = met_by w (get w.key d)
 
+-- what is said of the first that isn't good, or something else
+unfoldable pub first_bad : {W : Type 0} → (W → Bool) → (W → List ℕ) → List ℕ → List W → List ℕ
+first_bad good told other [] = other
+first_bad good told other (w ∷ ws) = if good w then first_bad good told other ws else told w
+
+abbrev pub wish_told : Wish → List ℕ
+wish_told w = concat (w.key ∷ codes " must be " ∷ sort_words w.sort ∷ [])
+
 -- the first wish that isn't met, or something else
-unfoldable pub wish_fault : List Wish → List ℕ → Data → List ℕ
-wish_fault [] other d = other
-wish_fault (w ∷ ws) other d = if is_met w d then wish_fault ws other d else concat (w.key ∷ codes " must be " ∷ sort_words w.sort ∷ [])
+abbrev pub wish_fault : List Wish → List ℕ → Data → List ℕ
+wish_fault ws other d = first_bad (λ w. is_met w d) wish_told other ws
 
 -- the keys, each behind a space
 abbrev pub keys_text : List Wish → List ℕ
@@ -50,6 +57,5 @@ abbrev pub is_within : Limit → Data → Bool
 is_within l d = is_some (number_at l.most l.least l.most l.key d)
 
 -- the first number that is outside its limits, or something else
-unfoldable pub number_fault : List Limit → List ℕ → Data → List ℕ
-number_fault [] other d = other
-number_fault (l ∷ ls) other d = if is_within l d then number_fault ls other d else limit_told l d
+abbrev pub number_fault : List Limit → List ℕ → Data → List ℕ
+number_fault ls other d = first_bad (λ l. is_within l d) (λ l. limit_told l d) other ls

@@ -1,6 +1,6 @@
-pub mod Said
+pub mod Parts
+pub mod LineAt
 pub mod Wanted
-pub mod Seen
 pub mod Faults
 pub mod Told
 pub mod System

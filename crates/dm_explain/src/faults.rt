@@ -3,7 +3,7 @@ ghost use Rattle.std.specs.Prelude.{◌≡◌, ◌++◌, OnOk, map};
 ghost use Rattle.std.specs.List.{concat};
 ghost use Rattle.toml.specs.View.{view};
 ghost use Rattle.dm_boot.specs.Tables.{has_only};
-ghost use Rattle.dm_explain.specs.Faults.{integer_at, is_met, is_sort, is_within, key_fault, keys_text, limit_told, number_fault, wish_fault};
+ghost use Rattle.dm_explain.specs.Faults.{integer_at, is_met, is_sort, is_within, key_fault, keys_text, limit_told, number_fault, wish_fault, wish_told};
 ghost use Rattle.dm_explain.specs.Parts.{part_text};
 ghost use Rattle.dm_explain.specs.Wanted.{limit_of, wish_of};
 
@@ -33,7 +33,7 @@ pub fn put_key_fault(
 }
 
 /// Writes the first wish that isn't met, or something else.
-#[tactic(auto, unfolding(crate::specs::Faults::wish_fault), using(crate::proofs::Loops::wish_lemmas))]
+#[tactic(auto, using(crate::proofs::Loops::bad_lemmas))]
 fn put_wish_fault(
     into: &mut Vec<u8>,
     table: &Value,
@@ -52,7 +52,7 @@ fn put_wish_fault(
 
 /// Writes what a key must be.
 fn put_wish(into: &mut Vec<u8>, key: &Key) -> Result<(), NoMemory>
-    ensures { OnOk result (into.new.items ≡ into.old.items ++ concat (key.now.name.now ∷ codes " must be " ∷ sort_words key.now.sort ∷ [])) }
+    ensures { OnOk result (into.new.items ≡ into.old.items ++ wish_told (wish_of key.now)) }
 {
     put_parts(
         into,
@@ -98,7 +98,7 @@ fn put_keys(into: &mut Vec<u8>, keys: &[Key]) -> Result<(), NoMemory>
 }
 
 /// Writes the first number of a table that is outside its limits, or something else.
-#[tactic(auto, unfolding(crate::specs::Faults::number_fault), using(crate::proofs::Loops::limit_lemmas))]
+#[tactic(auto, using(crate::proofs::Loops::bad_lemmas))]
 pub fn put_number_fault(
     into: &mut Vec<u8>,
     table: &Value,
