@@ -37,7 +37,8 @@ pub(crate) fn follow_lines<'a>(
     requires room { number + length text.now < 2 ^ 62 }
     ensures read { IfOk result (λ rest. text.now ≡ text_of_lines lines.now ++ rest.now) }
     ensures goes { (b : TheBoot) (pt : Point) (n : ℕ) → IfOk result (λ rest.
-        judged_from b (behind_line lines.now pt n) number (pieces 10 text.now) ≡ judged_from b (judge.Head pt n) (number + length lines.now) (pieces 10 rest.now)) }
+        judged_from b (behind_line lines.now pt n) number (pieces 10 text.now)
+        ≡ judged_from b (judge.Head pt n) (number + length lines.now) (pieces 10 rest.now)) }
     ensures refused { (b : TheBoot) (pt : Point) (n : ℕ) → b.quantum ≡ quantum →
         IfErr result (RefusedSo (judged_from b (behind_line lines.now pt n) number (pieces 10 text.now))) }
 {

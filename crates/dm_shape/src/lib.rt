@@ -14,6 +14,5 @@ mod sort;
 pub mod split;
 mod table;
 
-
 pub use shape::{Shape, has_shape};
 pub use sort::Sort;
