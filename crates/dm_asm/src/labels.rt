@@ -9,7 +9,7 @@ ghost use Rattle.dm_asm.specs.Places.{behind_label, first_of, has_label, label_i
 use crate::forms::Form;
 use crate::lines::{count_words, first_line, next_word, uncommented};
 use crate::numbers::{is_label, number};
-use dm_memory::NoMemory;
+use dm_memory::{NoMemory, insert};
 use std::alloc::Global;
 use std::collections::BTreeMap;
 
@@ -51,7 +51,7 @@ impl<'t> Labels<'t> {
         if self.map.contains_key(name) {
             return Ok(());
         }
-        self.map.insert(name, place)?;
+        insert(&mut self.map, name, place)?;
         Ok(())
     }
 }

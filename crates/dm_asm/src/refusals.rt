@@ -4,7 +4,6 @@ ghost use Rattle.dm_asm.specs.Refusals.{IsWant, why_code};
 ghost use Rattle.dm_asm.specs.declared.refusals.Stop.TheVariants as stops;
 
 use dm_memory::NoMemory;
-use std::alloc::{AllocError, AllocFailed};
 
 /// Why a line is refused.
 #[derive(Clone, Copy, Debug, PartialEq, Eq)]
@@ -71,18 +70,10 @@ impl From<Why> for Stop {
     }
 }
 
-impl From<AllocError> for Stop {
+impl From<NoMemory> for Stop {
     ghost from_gives = { λ _ stop. IsWant stop };
 
-    fn from(failed: AllocError) -> Stop {
-        Stop::NoMemory(NoMemory::from(failed))
-    }
-}
-
-impl<T: Drop> From<AllocFailed<T>> for Stop {
-    ghost from_gives = { λ _ stop. IsWant stop };
-
-    fn from(failed: AllocFailed<T>) -> Stop {
-        Stop::NoMemory(NoMemory::from(failed))
+    fn from(none: NoMemory) -> Stop {
+        Stop::NoMemory(none)
     }
 }

@@ -12,6 +12,7 @@ use crate::lines::{count_words, next_word};
 use crate::operands::{last_bytes, next_number, next_value, number_within};
 use crate::refusals::{Stop, Why};
 use byteorder::{BigEndian, ByteOrder};
+use dm_memory::{append_zeros, extend_from_slice, push};
 use dm_processor::Opcode;
 
 /// Adds an instruction.
@@ -27,7 +28,7 @@ fn add_instruction(
     let at = image.len();
     let last = last_bytes(labels, at, Shape::of(op), operands)?;
     let [a, b, c] = last;
-    image.extend_from_slice(&[op.code(), a, b, c])?;
+    extend_from_slice(image, &[op.code(), a, b, c])?;
     Ok(())
 }
 
@@ -39,7 +40,7 @@ fn add_word(labels: &Labels, image: &mut Vec<u8>, operands: &[u8]) -> Result<(),
     let (word, _) = next_value(labels, operands, u32::MAX)?;
     let mut bytes = [0; 4];
     BigEndian::write_u32(&mut bytes, word);
-    image.extend_from_slice(&bytes)?;
+    extend_from_slice(image, &bytes)?;
     Ok(())
 }
 
@@ -50,7 +51,7 @@ fn add_listed(image: &mut Vec<u8>, operands: &[u8]) -> Result<(), Stop>
     let mut rest = operands;
     while let Some((word, others)) = next_word(rest) {
         match number_within(word, 255) {
-            Ok(byte) => image.push(byte as u8)?,
+            Ok(byte) => push(image, byte as u8)?,
             Err(why) => return Err(Stop::Fault(why)),
         }
         rest = others;
@@ -64,8 +65,7 @@ fn add_zeros(labels: &Labels, image: &mut Vec<u8>, operands: &[u8]) -> Result<()
         (behind image.old.items (form_bytes (place_in labels.now) (length image.old.items) Zero (words operands.now))) }
 {
     let (n, _) = next_number(operands, 65_536)?;
-    let len = image.len();
-    image.resize(len + n as usize, 0)?;
+    append_zeros(image, n)?;
     Ok(())
 }
 

@@ -6,8 +6,6 @@ use Rattle.std.specs.declared.result.Result.{Result}
 use Rattle.std.specs.declared.result.Result.TheVariants.{Ok, Err}
 use Rattle.toml.specs.Data.{Data, table, Members}
 use Rattle.toml.specs.Parse.{parse_document}
-use Rattle.toml.specs.Errors.{IsMemory}
-use Rattle.toml.specs.declared.de.error.Error.{Error}
 use Rattle.dm_onekernel.specs.declared.boot.Boot.{Boot}
 use Rattle.dm_boot.specs.declared.rules.BootRule.{BootRule}
 use Rattle.dm_boot.specs.declared.rules.BootRule.TheVariants.{Document}
@@ -48,8 +46,3 @@ abbrev pub Answers : {A : Type 0} → Result A (BootRule × ℕ) → Result A Bo
 Answers wanted (Ok x) = wanted ≡ Ok x
 Answers wanted (Err (Refused rule place)) = wanted ≡ Err (rule, place)
 Answers wanted (Err (NoMemory _)) = Unit {0}
-
--- a document wasn't read: for want of memory exactly where its reader says so
-abbrev pub IsUnread : Error → BootNo → Type 0
-IsUnread why (Refused rule place) = (¬ (IsMemory why)) × (rule ≡ Document) × (place ≡ 0)
-IsUnread why (NoMemory _) = IsMemory why

@@ -8,7 +8,7 @@ ghost use Rattle.dm_boot.specs.Build.{image_tables, process_tables};
 ghost use Rattle.dm_boot.specs.Tables.{named, place_of};
 
 use crate::tables::{items_at, text_at};
-use dm_memory::NoMemory;
+use dm_memory::{NoMemory, insert};
 use std::alloc::Global;
 use std::collections::BTreeMap;
 use toml::Value;
@@ -96,7 +96,7 @@ fn set_place<'a>(
     ensures err { OnErr result ((q : List ℕ) → place_in places.new q ≡ place_in places.old q) }
 {
     if !places.contains_key(name) {
-        places.insert(name, place)?;
+        insert(places, name, place)?;
     }
     Ok(())
 }

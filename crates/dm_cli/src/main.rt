@@ -2,12 +2,12 @@
 #![tactic(auto)]
 
 use dm_outside::{RealShelf, RealSink};
-use dm_program::{finish, words_of};
+use dm_program::{args, finish, words_of};
+use std::io;
 use std::process::ExitCode;
-use std::{env, io};
 
 fn main(rt: HostRuntime) -> ExitCode {
-    let given = words_of(rt.alloc(), env::args(&rt));
+    let given = words_of(rt.alloc(), args(&rt));
     let (mut shelf, mut out) = (RealShelf::new(&rt), RealSink::new(io::writer(&rt)));
     finish(
         rt.alloc(),

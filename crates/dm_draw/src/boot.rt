@@ -5,7 +5,7 @@ ghost use Rattle.dm_draw.specs.Boot.{boot_of, image, link_to, machines_of, pid_a
 
 use dm_link::{Addr, Area, Kind, Link, Pid};
 use dm_lists::Items;
-use dm_memory::NoMemory;
+use dm_memory::{NoMemory, from_slice};
 use dm_onekernel::Boot;
 use dm_onekernel::boot::{BootImage, BootMachine, BootProcess, Format};
 use std::alloc::Global;
@@ -54,7 +54,7 @@ fn machines_of(alloc: Global, machines: u8) -> Result<Items<BootMachine>, NoMemo
 fn images_of(alloc: Global) -> Result<Items<BootImage>, NoMemory>
     ensures { IfOk result (λ images. images ≡ image ∷ []) }
 {
-    let bytes = Items::from_vec(Vec::from_slice(alloc, &PROGRAM)?);
+    let bytes = Items::from_vec(from_slice(alloc, &PROGRAM)?);
     let mut images = Items::new(alloc);
     images.push(BootImage { bytes, blocks: 1 })?;
     Ok(images)

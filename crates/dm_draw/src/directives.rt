@@ -6,7 +6,7 @@ ghost use Rattle.dm_draw.specs.Directives.{deliver_drawn, directive_drawn, direc
 
 use crate::draw::Generator;
 use dm_link::Pid;
-use dm_memory::NoMemory;
+use dm_memory::{NoMemory, push};
 use dm_schedule::{Directive, Step};
 use std::alloc::Global;
 
@@ -26,7 +26,7 @@ pub fn drill_directives(
     let mut generator = Generator::new(seed);
     let mut directives = Vec::new(alloc);
     for _ in 0..lines {
-        directives.push(draw_directive(machines, &mut generator))?;
+        push(&mut directives, draw_directive(machines, &mut generator))?;
     }
     Ok(directives)
 }

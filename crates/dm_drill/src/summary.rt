@@ -6,7 +6,7 @@ ghost use Rattle.dm_drill.specs.Summary.{arrivals, counted_line, first_line, mov
 
 use crate::counts::Counts;
 use crate::tally::Tally;
-use dm_memory::NoMemory;
+use dm_memory::{NoMemory, extend_from_slice};
 use itoa::Buffer;
 
 /// Writes the summary at the end of a text: what the drill was drawn from, its counts, and whether all is quiet.
@@ -61,13 +61,13 @@ fn write_moves(counts: &Counts, into: &mut Vec<u8>) -> Result<(), NoMemory>
 fn write_first(seed: u32, machines: u8, lines: u32, into: &mut Vec<u8>) -> Result<(), NoMemory>
     ensures { OnOk result (into.new.items ≡ into.old.items ++ first_line seed machines lines) }
 {
-    into.extend_from_slice(b"drill ")?;
+    extend_from_slice(into, b"drill ")?;
     write_number(u64::from(seed), into)?;
-    into.extend_from_slice(b" ")?;
+    extend_from_slice(into, b" ")?;
     write_number(u64::from(machines), into)?;
-    into.extend_from_slice(b" ")?;
+    extend_from_slice(into, b" ")?;
     write_number(u64::from(lines), into)?;
-    into.extend_from_slice(b"\n")?;
+    extend_from_slice(into, b"\n")?;
     Ok(())
 }
 
@@ -75,10 +75,10 @@ fn write_first(seed: u32, machines: u8, lines: u32, into: &mut Vec<u8>) -> Resul
 fn write_count(word: &str, tally: &Tally, into: &mut Vec<u8>) -> Result<(), NoMemory>
     ensures { OnOk result (into.new.items ≡ into.old.items ++ counted_line word.now (vec_len tally.now.marks)) }
 {
-    into.extend_from_slice(word.as_bytes())?;
-    into.extend_from_slice(b" ")?;
+    extend_from_slice(into, word.as_bytes())?;
+    extend_from_slice(into, b" ")?;
     write_number(tally.count(), into)?;
-    into.extend_from_slice(b"\n")?;
+    extend_from_slice(into, b"\n")?;
     Ok(())
 }
 
@@ -87,9 +87,9 @@ fn write_quiet(quiet: bool, into: &mut Vec<u8>) -> Result<(), NoMemory>
     ensures { OnOk result (into.new.items ≡ into.old.items ++ quiet_line quiet) }
 {
     if quiet {
-        into.extend_from_slice(b"quiet yes\n")?;
+        extend_from_slice(into, b"quiet yes\n")?;
     } else {
-        into.extend_from_slice(b"quiet no\n")?;
+        extend_from_slice(into, b"quiet no\n")?;
     }
     Ok(())
 }
@@ -99,6 +99,6 @@ fn write_number(n: u64, into: &mut Vec<u8>) -> Result<(), NoMemory>
     ensures { OnOk result (into.new.items ≡ into.old.items ++ decimal n) }
 {
     let mut buffer = Buffer::new();
-    into.extend_from_slice(buffer.format(n).as_bytes())?;
+    extend_from_slice(into, buffer.format(n).as_bytes())?;
     Ok(())
 }

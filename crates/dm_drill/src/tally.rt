@@ -1,7 +1,7 @@
 //! Counting.
 ghost use Rattle.std.specs.Prelude.{◌≡◌, ◌+◌, OnErr, OnOk, vec_len};
 
-use dm_memory::NoMemory;
+use dm_memory::{NoMemory, push};
 use std::alloc::Global;
 
 /// A count, as a list of nothing: its places take no room, and the library says where a list's length ends.
@@ -25,8 +25,7 @@ impl Tally {
         ensures more { OnOk result (vec_len self.new.marks ≡ vec_len self.old.marks + 1) }
         ensures same { OnErr result (vec_len self.new.marks ≡ vec_len self.old.marks) }
     {
-        self.marks.push(())?;
-        Ok(())
+        push(&mut self.marks, ())
     }
 
     /// How many.

@@ -20,7 +20,7 @@ use crate::part::Part;
 use dm_line::line::{Line, Stage};
 use dm_link::Pid;
 use dm_lists::Queue;
-use dm_memory::NoMemory;
+use dm_memory::{NoMemory, list_of};
 use dm_message::{Message, MsgId, What};
 use dm_migrate::{Arriving, Asked, Wanted, answer_ask};
 use dm_onekernel::Boot;
@@ -64,7 +64,7 @@ impl Kernel {
             return Err(e);
         }
         let pull = self.send(message.sender, pull);
-        Ok(vec![in self.alloc; step(Stage::Accepted, pid), Part::Routes(pull)]?)
+        list_of(self.alloc, [step(Stage::Accepted, pid), Part::Routes(pull)])
     }
 
     /// Refuses a process that asks to come, and says what is free.
@@ -143,7 +143,7 @@ impl Kernel {
             Record::Incoming(arriving) => {
                 let (process, held) = arriving.restart();
                 self.go_on(pid, process, held)?;
-                Ok(vec![in self.alloc; step(Stage::Restarted, pid)]?)
+                list_of(self.alloc, [step(Stage::Restarted, pid)])
             }
             _ => unreachable!(),
         }

@@ -8,7 +8,7 @@ use crate::kernel::Kernel;
 use crate::part::Part;
 use dm_line::line::Line;
 use dm_link::Pid;
-use dm_memory::NoMemory;
+use dm_memory::{NoMemory, list_of};
 use dm_procman::MoveNo;
 
 impl Kernel {
@@ -23,7 +23,7 @@ impl Kernel {
             Some(servers) => match servers.manager.ask_move(pid, to, id) {
                 Ok(message) => {
                     self.sent += 1;
-                    Ok(vec![in self.alloc; Part::Routes(message)]?)
+                    list_of(self.alloc, [Part::Routes(message)])
                 }
                 Err(MoveNo::Unknown) => self.say(Line::NoChild(pid)),
                 Err(MoveNo::Pinned) => self.say(Line::Pinned(pid)),

@@ -17,7 +17,7 @@ use crate::part::Part;
 use crate::ring::leave;
 use dm_line::line::{Line, Stage};
 use dm_link::Pid;
-use dm_memory::NoMemory;
+use dm_memory::{NoMemory, list_of, push};
 use dm_message::{Message, What};
 use dm_migrate::freeze;
 use dm_records::Record;
@@ -62,7 +62,10 @@ impl Kernel {
         ensures { IfOk result (λ parts. parts.items ≡ takes_step stage_.Frozen pid ∷ takes_step stage_.Asked pid ∷ Part.Routes ask ∷ []) }
     {
         let frozen = step(Stage::Frozen, pid);
-        Ok(vec![in self.alloc; frozen, step(Stage::Asked, pid), Part::Routes(ask)]?)
+        list_of(
+            self.alloc,
+            [frozen, step(Stage::Asked, pid), Part::Routes(ask)],
+        )
     }
 
     /// Keeps a message for a process that leaves.
@@ -199,10 +202,10 @@ impl Kernel {
             Part.Says (line_.SentOn pid (length messages.items)) ∷ map Part.Routes messages.items ++ takes_step stage_.Left pid ∷ Part.Routes restart ∷ []) }
     {
         let count = messages.len() as u32;
-        let mut parts = vec![in self.alloc; Part::Says(Line::SentOn { pid, count })]?;
+        let mut parts = list_of(self.alloc, [Part::Says(Line::SentOn { pid, count })])?;
         route_all(messages, &mut parts)?;
-        parts.push(step(Stage::Left, pid))?;
-        parts.push(Part::Routes(restart))?;
+        push(&mut parts, step(Stage::Left, pid))?;
+        push(&mut parts, Part::Routes(restart))?;
         Ok(parts)
     }
 }
@@ -219,7 +222,7 @@ fn route_all(messages: Vec<Message>, parts: &mut Vec<Part>) -> Result<(), NoMemo
     ensures { OnOk result (parts.new.items ≡ parts.old.items ++ map Part.Routes messages.items) }
 {
     for message in messages {
-        parts.push(Part::Routes(message))?;
+        push(parts, Part::Routes(message))?;
     }
     Ok(())
 }

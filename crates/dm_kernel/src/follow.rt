@@ -11,7 +11,7 @@ use crate::part::Part;
 use dm_line::line::Line;
 use dm_link::{Addr, Placeless};
 use dm_linkupdate::{apply, notice};
-use dm_memory::NoMemory;
+use dm_memory::{NoMemory, list_of};
 use dm_message::{Message, MsgId};
 
 impl Kernel {
@@ -33,9 +33,12 @@ impl Kernel {
         match update {
             Some(update) => {
                 self.sent += 1;
-                Ok(vec![in self.alloc; said, Part::Routes(message), Part::Routes(update)]?)
+                list_of(
+                    self.alloc,
+                    [said, Part::Routes(message), Part::Routes(update)],
+                )
             }
-            None => Ok(vec![in self.alloc; said, Part::Routes(message)]?),
+            None => list_of(self.alloc, [said, Part::Routes(message)]),
         }
     }
 

@@ -15,7 +15,7 @@ use crate::ring::leave;
 use dm_line::line::Line;
 use dm_link::Pid;
 use dm_lists::Queue;
-use dm_memory::NoMemory;
+use dm_memory::{NoMemory, list_of, push};
 use dm_message::Message;
 use dm_onekernel::{Label, Why};
 use dm_process::Process;
@@ -29,7 +29,7 @@ impl Kernel {
     {
         let ran = Part::Says(Line::Label(Label::Ran { pid, count }));
         let end = Part::Says(Line::Label(Label::End { pid, why }));
-        let mut parts = vec![in self.alloc; ran, end]?;
+        let mut parts = list_of(self.alloc, [ran, end])?;
         let queue = self.take_out(pid, why);
         drop_all(queue, &mut parts)?;
         Ok(parts)
@@ -59,7 +59,10 @@ pub(crate) fn drop_all(queue: Queue<Message>, parts: &mut Vec<Part>) -> Result<(
 {
     let mut queue = queue;
     while let Some(message) = queue.pop() {
-        parts.push(Part::Says(Line::Label(Label::Dropped { id: message.id })))?;
+        push(
+            parts,
+            Part::Says(Line::Label(Label::Dropped { id: message.id })),
+        )?;
     }
     Ok(())
 }

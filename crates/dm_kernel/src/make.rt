@@ -20,7 +20,7 @@ use dm_datamove::answer;
 use dm_line::line::Line;
 use dm_link::{Link, Pid};
 use dm_linktable::Table;
-use dm_memory::NoMemory;
+use dm_memory::{NoMemory, list_of};
 use dm_message::{Message, What};
 use dm_onekernel::{Boot, BootImage, Label};
 use dm_process::Process;
@@ -123,7 +123,7 @@ impl Kernel {
             pid,
         });
         let answer = answer(message, self.here, 0, What::Created { pid });
-        Ok(vec![in self.alloc; Part::Says(said), Part::Routes(answer)]?)
+        list_of(self.alloc, [Part::Says(said), Part::Routes(answer)])
     }
 
     /// What is said where there is no room, and the answer to who asked.
@@ -141,7 +141,7 @@ impl Kernel {
             free_blocks,
         });
         let answer = answer(message, self.here, 0, What::NoRoom);
-        Ok(vec![in self.alloc; Part::Says(said), Part::Routes(answer)]?)
+        list_of(self.alloc, [Part::Says(said), Part::Routes(answer)])
     }
 }
 

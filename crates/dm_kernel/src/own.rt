@@ -8,7 +8,7 @@ use crate::kernel::Kernel;
 use crate::part::Part;
 use dm_line::line::Line;
 use dm_link::{Addr, Pid};
-use dm_memory::NoMemory;
+use dm_memory::{NoMemory, list_of};
 use dm_message::{Message, MsgId, What};
 
 impl Kernel {
@@ -46,7 +46,7 @@ impl Kernel {
     pub(crate) fn say_and_route(&self, line: Line, message: Message) -> Result<Vec<Part>, NoMemory>
         ensures { IfOk result (λ parts. parts.items ≡ Part.Says line ∷ Part.Routes message ∷ []) }
     {
-        Ok(vec![in self.alloc; Part::Says(line), Part::Routes(message)]?)
+        list_of(self.alloc, [Part::Says(line), Part::Routes(message)])
     }
 }
 

@@ -14,7 +14,7 @@ use crate::part::Part;
 use crate::run::{Halt, execute};
 use dm_line::line::Line;
 use dm_link::Pid;
-use dm_memory::NoMemory;
+use dm_memory::{NoMemory, list_of};
 use dm_message::{Message, MsgId};
 use dm_onekernel::{Label, Why};
 use dm_process::Status;
@@ -89,7 +89,10 @@ impl Kernel {
         ensures { IfOk result (λ parts. parts.items ≡ says (label_.Ran pid count) ∷ says label ∷ []) }
     {
         let ran = Line::Label(Label::Ran { pid, count });
-        Ok(vec![in self.alloc; Part::Says(ran), Part::Says(Line::Label(label))]?)
+        list_of(
+            self.alloc,
+            [Part::Says(ran), Part::Says(Line::Label(label))],
+        )
     }
 
     /// What is said of a process that has sent a message, which goes out.
@@ -101,7 +104,10 @@ impl Kernel {
             pid,
             id: message.id,
         });
-        Ok(vec![in self.alloc; Part::Says(ran), Part::Says(sent), Part::Routes(message)]?)
+        list_of(
+            self.alloc,
+            [Part::Says(ran), Part::Says(sent), Part::Routes(message)],
+        )
     }
 
     /// Lets a process that waits take the first message on its mask, or refuses it one.

@@ -17,7 +17,7 @@ use crate::leave::drop_all;
 use crate::part::Part;
 use dm_datamove::{Landed, gone, land, serve};
 use dm_line::line::Line;
-use dm_memory::NoMemory;
+use dm_memory::{NoMemory, list_of};
 use dm_message::{Message, MsgId};
 use dm_onekernel::{Label, Why};
 
@@ -112,7 +112,7 @@ impl Kernel {
     {
         let answer = gone(message, self.here);
         let said = Line::Label(Label::Gone { id: message.id });
-        Ok(vec![in self.alloc; Part::Says(said), Part::Routes(answer)]?)
+        list_of(self.alloc, [Part::Says(said), Part::Routes(answer)])
     }
 
     /// Drops a message for a process that has ended.
@@ -134,6 +134,6 @@ impl Kernel {
         ensures { IfOk result (λ parts. parts.items ≡ says (label_.Served id) ∷ Part.Routes message ∷ []) }
     {
         let said = Line::Label(Label::Served { id });
-        Ok(vec![in self.alloc; Part::Says(said), Part::Routes(message)]?)
+        list_of(self.alloc, [Part::Says(said), Part::Routes(message)])
     }
 }

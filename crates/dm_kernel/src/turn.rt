@@ -14,7 +14,7 @@ use crate::part::Part;
 use crate::ring::move_back;
 use dm_line::line::Line;
 use dm_link::Pid;
-use dm_memory::NoMemory;
+use dm_memory::{NoMemory, list_of};
 use dm_onekernel::Boot;
 use dm_records::Record;
 
@@ -84,6 +84,6 @@ impl Kernel {
     pub(crate) fn say(&self, line: Line) -> Result<Vec<Part>, NoMemory>
         ensures { IfOk result (λ parts. parts.items ≡ Part.Says line ∷ []) }
     {
-        Ok(vec![in self.alloc; Part::Says(line)]?)
+        list_of(self.alloc, [Part::Says(line)])
     }
 }

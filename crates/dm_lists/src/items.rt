@@ -1,7 +1,7 @@
 //! A list that is filled once and then read.
 ghost use Rattle.std.specs.Prelude.{List, [], ◌∷◌, ◌++◌, OnErr, OnOk, length, ◌≡◌, ◌<◌};
 
-use dm_memory::NoMemory;
+use dm_memory::{NoMemory, push};
 use std::alloc::Global;
 use std::marker::Model;
 
@@ -54,8 +54,7 @@ impl<T> Items<T> {
         ensures ok { OnOk result (self.new ≡ self.old ++ item ∷ []) }
         ensures err { OnErr result (self.new ≡ self.old) }
     {
-        self.items.push(item)?;
-        Ok(())
+        push(&mut self.items, item)
     }
 
     /// How many there are.

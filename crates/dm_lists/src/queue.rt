@@ -1,9 +1,9 @@
 //! A list that grows at its back and shrinks at its front.
-ghost use Rattle.std.specs.Prelude.{List, [], ◌∷◌, ◌++◌, IfErr, MatchOption, OnErr, OnOk, length, remove, slice_get, ◌≡◌, ◌<◌};
+ghost use Rattle.std.specs.Prelude.{List, [], ◌∷◌, ◌++◌, ◌+◌, IfErr, IfOk, MatchOption, OnErr, OnOk, length, remove, slice_get, vec_capacity, vec_len, ◌≡◌, ◌<◌};
 ghost use Rattle.std.specs.Fn.{CalledAt};
 ghost use Rattle.std.specs.List.Retain.{IsFiltered};
 
-use dm_memory::NoMemory;
+use dm_memory::{NoMemory, push_back, push_back_or_return, push_front, room_for_both};
 use std::alloc::Global;
 use std::collections::VecDeque;
 use std::marker::Model;
@@ -42,8 +42,7 @@ impl<T> Queue<T> {
         ensures ok { OnOk result (self.new ≡ self.old ++ item ∷ []) }
         ensures err { OnErr result (self.new ≡ self.old) }
     {
-        self.items.push_back(item)?;
-        Ok(())
+        push_back(&mut self.items, item)
     }
 
     /// Adds a value at the back, or hands it back where there is no memory.
@@ -52,10 +51,7 @@ impl<T> Queue<T> {
         ensures err { OnErr result (self.new ≡ self.old) }
         ensures returned { IfErr result (λ back. back.0 ≡ item) }
     {
-        match self.items.push_back(item) {
-            Ok(()) => Ok(()),
-            Err(failed) => Err(NoMemory::with_value(failed)),
-        }
+        push_back_or_return(&mut self.items, item)
     }
 
     /// Puts a value before the front, or leaves the queue as it was.
@@ -65,8 +61,7 @@ impl<T> Queue<T> {
         ensures ok { OnOk result (self.new ≡ item ∷ self.old) }
         ensures err { OnErr result (self.new ≡ self.old) }
     {
-        self.items.push_front(item)?;
-        Ok(())
+        push_front(&mut self.items, item)
     }
 
     /// Takes the value at the front.
@@ -115,6 +110,15 @@ impl<T> Queue<T> {
         ensures { slice_get self.now place ≡ Some result.now }
     {
         &self.items[place]
+    }
+
+    /// An empty vector with room for all that stand here and for as many as `more` has.
+    pub fn room_with(&self, alloc: Global, more: &Vec<T>) -> Result<Vec<T>, NoMemory>
+        ensures items { IfOk result (λ list. list.items ≡ []) }
+        ensures len { IfOk result (λ list. vec_len list ≡ 0) }
+        ensures exact { IfOk result (λ list. vec_capacity list ≡ length self.now + vec_len more.now) }
+    {
+        room_for_both(alloc, &self.items, more)
     }
 
     /// How many there are.

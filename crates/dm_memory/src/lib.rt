@@ -1,35 +1,25 @@
-//! Want of memory: one type, which the crates above answer and hand on.
+//! Want of memory: one type, and the calls that tell it.
 #![tactic(auto)]
 
-ghost use Rattle.std.specs.Prelude.{◌≡◌};
+pub mod deques;
+pub mod lists;
+pub mod maps;
+pub mod of_args;
+pub mod of_circular_buffer;
+pub mod of_clap;
+pub mod of_indexmap;
+pub mod of_toml;
 
-use std::alloc::{AllocError, AllocFailed};
+pub use deques::{push_back, push_back_or_return, push_front, room_for_both};
+pub use lists::{
+    append_zeros, extend_from_slice, from_slice, list_of, push, push_or_return, repeated,
+    reserve_for, zeros,
+};
+pub use maps::{insert, insert_or_return};
 use thiserror::Error;
 
-/// No memory was left. Its field is private: it is made from an allocation's error and from nothing else,
-/// so no other refusal can be told as want of memory.
+/// No memory was left. Only the calls of this crate make it, each where the allocator refused it memory, and nothing is
+/// turned into it: so no other refusal can be told as want of memory.
 #[derive(Clone, Copy, Debug, PartialEq, Eq, Drop, Error)]
 #[error("out of memory")]
 pub struct NoMemory(());
-
-impl NoMemory {
-    /// The value that found no memory, and that there was none.
-    pub fn with_value<T>(failed: AllocFailed<T>) -> (T, NoMemory)
-        ensures { result.0 ≡ failed.value }
-    {
-        let AllocFailed { value } = failed;
-        (value, NoMemory(()))
-    }
-}
-
-impl From<AllocError> for NoMemory {
-    fn from(_: AllocError) -> NoMemory {
-        NoMemory(())
-    }
-}
-
-impl<T: Drop> From<AllocFailed<T>> for NoMemory {
-    fn from(_: AllocFailed<T>) -> NoMemory {
-        NoMemory(())
-    }
-}

@@ -205,7 +205,7 @@ module _ (p : Process) (asker : Option Asker) (held : List Message) (h : CanMove
 
 pub arrives : (p : Process) (asker : Option Asker) → CanMove p → ArrivesWhole p asker
 arrives p asker h = record {
-  may_ask = let w : IsWhole p = whole_memory p h in (w.least, w.most, h.moves);
+  may_ask = let w : IsWhole p = whole_memory p h in (w.least, w.most, h.moves, h.most);
   arrives = λ old new a asked answers. (
     coming p asker [] Nothing,
     subst (λ (w : What). Goes p (count_of_pieces p) a w (coming p asker [] Nothing)) (sym answers.3)

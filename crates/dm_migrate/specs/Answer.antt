@@ -10,9 +10,9 @@ use Rattle.dm_migrate.specs.declared.answer.Asked.{Asked}
 use Rattle.dm_migrate.specs.declared.answer.Asked.TheVariants.{Accepted, Refused, NoMemory}
 use Rattle.dm_migrate.specs.Arrival.{expected}
 
--- a process asks, which can move once more
+-- a process asks, which can move once more, with its state bytes
 abbrev pub IsAskOfProcess : What → Type 0
-IsAskOfProcess (what.Ask p blocks moves size asker) = (1 ≤ blocks) × (blocks ≤ 256) × (moves < 4294967295)
+IsAskOfProcess (what.Ask p blocks moves size asker) = (1 ≤ blocks) × (blocks ≤ 256) × (moves < 4294967295) × (size ≤ 3201)
 IsAskOfProcess _ = ⊥
 
 -- it may come where there is room, which is reserved, and its first chunk is asked for; it is refused where there is none,

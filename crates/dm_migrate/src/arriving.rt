@@ -7,7 +7,7 @@ ghost use Rattle.dm_migrate.specs.Arrival.{IsNextChunk, IsNextPiece, after_block
 use crate::leaving::CHUNK;
 use dm_link::Pid;
 use dm_lists::Queue;
-use dm_memory::NoMemory;
+use dm_memory::{NoMemory, push_or_return, zeros};
 use dm_message::{Asker, Message, What};
 use dm_process::Process;
 use dm_processor::Memory;
@@ -85,6 +85,7 @@ pub(crate) fn expect(
     requires least { 1 ≤ blocks }
     requires most { blocks ≤ 256 }
     requires moves { moves < 4294967295 }
+    requires size { size ≤ 3201 }
     requires cap { (cap ≡ 32) ⊎ (cap ≡ 128) }
     ensures { IfOk result (λ a. a ≡ expected pid blocks moves size asker cap) }
 {
@@ -93,7 +94,7 @@ pub(crate) fn expect(
         moves,
         asker,
         cap,
-        state: Vec::from_elem(alloc, 0, size as usize)?,
+        state: zeros(alloc, size)?,
         memory: Memory::from_image(alloc, &[], blocks)?,
         wanted: Wanted::Chunk(0),
         held: Vec::new(alloc),
@@ -189,10 +190,7 @@ impl Arriving {
         ensures err { OnErr result (self.new ≡ self.old) }
         ensures returned { IfErr result (λ e. e.0 ≡ message) }
     {
-        match self.held.push(message) {
-            Ok(()) => Ok(()),
-            Err(failed) => Err(NoMemory::with_value(failed)),
-        }
+        push_or_return(&mut self.held, message)
     }
 
     /// It is here: the process that has come, which has moved once more, and what was held. It takes no memory.

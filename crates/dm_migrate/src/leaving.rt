@@ -12,7 +12,7 @@ ghost use Rattle.dm_migrate.specs.Pieces.{HasBlock, HasChunk, block_of, chunk_by
 use arrayvec::ArrayVec;
 use dm_link::Placeless;
 use dm_lists::Queue;
-use dm_memory::NoMemory;
+use dm_memory::{NoMemory, push_or_return};
 use dm_message::{Asker, Message, What};
 use dm_process::Process;
 use dm_statebytes::pack;
@@ -146,10 +146,7 @@ impl Leaving {
         ensures err { OnErr result (self.new ≡ self.old) }
         ensures returned { IfErr result (λ e. e.0 ≡ message) }
     {
-        match self.held.push(message) {
-            Ok(()) => Ok(()),
-            Err(failed) => Err(NoMemory::with_value(failed)),
-        }
+        push_or_return(&mut self.held, message)
     }
 
     /// It has gone: what goes on to it, its queue and then what was held, and the machine that it has gone to. Where there
@@ -161,10 +158,9 @@ impl Leaving {
         ensures lawful { IsMachine self.to → All IsLawfulMessage self.held → IfOk result (λ r. All IsLawfulMessage r.0.items) }
         ensures returned { IfErr result (λ e. e.0 ≡ self) }
     {
-        let total = self.process.queue.len() + self.held.len();
-        let mut messages = match Vec::with_capacity(self.alloc, total) {
+        let mut messages = match self.process.queue.room_with(self.alloc, &self.held) {
             Ok(messages) => messages,
-            Err(none) => return Err((self, NoMemory::from(none))),
+            Err(none) => return Err((self, none)),
         };
         let Leaving {
             process,

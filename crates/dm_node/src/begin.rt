@@ -8,7 +8,7 @@ ghost use Rattle.dm_node.specs.State.{opened};
 
 use crate::node::Node;
 use dm_kernel::Kernel;
-use dm_memory::NoMemory;
+use dm_memory::{NoMemory, push};
 use dm_message::Message;
 use dm_onekernel::Boot;
 use dm_stream::{Receiver, Sender};
@@ -46,7 +46,7 @@ fn fresh_senders(alloc: Global, numbers: u32) -> Result<Vec<Sender<Message>>, No
 {
     let mut senders = Vec::new(alloc);
     for _machine in 0..MACHINES {
-        senders.push(Sender::new(alloc, numbers))?;
+        push(&mut senders, Sender::new(alloc, numbers))?;
     }
     Ok(senders)
 }
@@ -57,7 +57,7 @@ fn fresh_receivers(alloc: Global) -> Result<Vec<Receiver<Message>>, NoMemory>
 {
     let mut receivers = Vec::new(alloc);
     for _machine in 0..MACHINES {
-        receivers.push(Receiver::new(alloc)?)?;
+        push(&mut receivers, Receiver::new(alloc)?)?;
     }
     Ok(receivers)
 }

@@ -103,6 +103,5 @@ impl Node {
 pub(crate) fn push(outs: &mut Vec<Out>, out: Out) -> Result<(), NoMemory>
     ensures ok { OnOk result (outs.new.items ≡ outs.old.items ++ out ∷ []) }
 {
-    outs.push(out)?;
-    Ok(())
+    dm_memory::push(outs, out)
 }

@@ -12,7 +12,6 @@ pub mod mem_sink;
 pub mod real_shelf;
 pub mod real_sink;
 
-pub use dm_memory::NoMemory;
 pub use mem_shelf::MemShelf;
 pub use mem_sink::MemSink;
 pub use real_shelf::RealShelf;

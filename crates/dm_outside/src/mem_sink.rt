@@ -1,13 +1,11 @@
 //! A sink in memory, for tests.
-ghost use Rattle.std.specs.Prelude.{◌≡◌, ◌≤◌, ◌<◌, ◌++◌, [], length, take, IfOk, OnOk, OnErr, Some, None};
+ghost use Rattle.std.specs.Prelude.{◌≡◌, ◌≤◌, ◌<◌, ◌++◌, [], length, take, IfOk, OnOk, OnErr, Some, None, vec_capacity, vec_len};
 ghost use Rattle.std.specs.Result.{result_ok};
 ghost use Rattle.dm_outside.specs.Outside.{RoseOrFull};
 ghost use Rattle.dm_outside.specs.Memory.{write_count, after_write};
 
 use crate::limit::{has_no_room, is_to_fail, within};
 use crate::{Failed, Sink};
-use dm_memory::NoMemory;
-use std::alloc::Global;
 use std::marker::Model;
 
 /// Bytes in memory. A write fails exactly at a listed call, counted from 1, or, with a piece that
@@ -34,20 +32,18 @@ impl Model for MemSink {
 }
 
 impl MemSink {
-    /// An empty sink with room for so many bytes, and the numbers of the calls that are to fail.
-    pub fn new(alloc: Global, room: usize, fails: Vec<u64>) -> Result<Self, NoMemory>
-        ensures { IfOk result (λ s. s ≡ record { bytes = []; room = room; fails = fails.items; limit = None; calls = 0; faults = 0 }) }
+    /// An empty sink with the room of an empty vector, and the numbers of the calls that are to fail.
+    pub fn new(bytes: Vec<u8>, fails: Vec<u64>) -> Self
+        requires { vec_len bytes ≡ 0 }
+        ensures { result ≡ record { bytes = []; room = vec_capacity bytes; fails = fails.items; limit = None; calls = 0; faults = 0 } }
     {
-        match Vec::with_capacity(alloc, room) {
-            Ok(bytes) => Ok(MemSink {
-                bytes,
-                room,
-                fails,
-                limit: None,
-                calls: 0,
-                faults: 0,
-            }),
-            Err(error) => Err(NoMemory::from(error)),
+        MemSink {
+            room: bytes.capacity(),
+            bytes,
+            fails,
+            limit: None,
+            calls: 0,
+            faults: 0,
         }
     }
 

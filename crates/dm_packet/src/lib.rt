@@ -12,6 +12,7 @@ pub mod reading;
 pub mod writing;
 
 pub use dm_memory::NoMemory;
+use dm_memory::extend_from_slice;
 use dm_message::Message;
 use reading::packet_at;
 use thiserror::Error;
@@ -108,6 +109,5 @@ pub fn encode(packet: &Packet, out: &mut Vec<u8>) -> Result<(), NoMemory>
 {
     let mut bytes = Buffer::new();
     put_packet(&mut bytes, packet);
-    out.extend_from_slice(&bytes)?;
-    Ok(())
+    extend_from_slice(out, &bytes)
 }

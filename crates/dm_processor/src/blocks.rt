@@ -5,7 +5,7 @@ ghost use Rattle.dm_processor.specs.WholeBlocks.{AreWhole};
 
 use crate::flat_bytes::write_at;
 use crate::storage::Cells;
-use dm_memory::NoMemory;
+use dm_memory::{NoMemory, repeated};
 use std::alloc::Global;
 use std::marker::Model;
 
@@ -100,17 +100,6 @@ fn put_block_at(blocks: &mut [[u8; 256]], k: usize, block: &[u8; 256])
     blocks[k] = *block;
 }
 
-/// So many blocks of zeros.
-fn zero_blocks(alloc: Global, n: usize) -> Result<Vec<[u8; 256]>, NoMemory>
-    ensures { IfOk result (λ v. v.items ≡ replicate n (replicate 256 0)) }
-{
-    let mut blocks = Vec::with_capacity(alloc, n)?;
-    while blocks.len() < n {
-        blocks.push([0; 256])?;
-    }
-    Ok(blocks)
-}
-
 #[tactic(auto, using(crate::proofs::Concat::places))]
 impl Memory {
     /// An image, and zeros up to the end of so many blocks.
@@ -158,7 +147,7 @@ fn zeros(alloc: Global, blocks: u16) -> Result<Memory, NoMemory>
     requires most { blocks ≤ 256 }
     ensures ok { IfOk result (λ m. m ≡ replicate (256 * blocks) 0) }
 {
-    let blocks = zero_blocks(alloc, usize::from(blocks))?;
+    let blocks = repeated(alloc, [0; 256], usize::from(blocks))?;
     Ok(Memory { blocks })
 }
 

@@ -2,7 +2,7 @@
 ghost use Rattle.std.specs.Prelude.{◌≡◌, ◌+◌, ◌-◌, ◌*◌, ◌≤◌, ◌++◌, IfOk, drop, length, replicate, take};
 
 use crate::storage::Cells;
-use dm_memory::NoMemory;
+use dm_memory::{NoMemory, zeros};
 use std::alloc::Global;
 use std::marker::Model;
 
@@ -29,7 +29,7 @@ impl Flat {
         requires fits { length image.now ≤ 256 * blocks }
         ensures ok { IfOk result (λ m. m ≡ image.now ++ replicate (256 * blocks - length image.now) 0) }
     {
-        let mut bytes = Vec::from_elem(alloc, 0, 256 * usize::from(blocks))?;
+        let mut bytes = zeros(alloc, 256 * u32::from(blocks))?;
         write_at(&mut bytes, 0, image);
         Ok(Flat { bytes })
     }

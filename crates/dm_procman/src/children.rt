@@ -10,7 +10,7 @@ ghost use Rattle.dm_procman.specs.Taking.{child_numbered};
 
 use crate::moving::retarget_children;
 use dm_link::{Addr, Pid};
-use dm_memory::NoMemory;
+use dm_memory::{NoMemory, insert, reserve_for};
 use std::alloc::Global;
 use std::collections::BTreeMap;
 use std::marker::Model;
@@ -65,7 +65,7 @@ impl Children {
         ensures ok { OnOk result (self.new ≡ self.old ++ child ∷ []) }
         ensures err { OnErr result (self.new ≡ self.old) }
     {
-        self.addresses.reserve(1)?;
+        reserve_for(&mut self.addresses, &child)?;
         let place = self.addresses.as_slice().len();
         set_place(&mut self.places, child.pid, place)?;
         self.addresses.push_reserved(child);
@@ -113,7 +113,7 @@ fn set_place(places: &mut BTreeMap<Pid, usize>, pid: Pid, place: usize) -> Resul
     ensures err { OnErr result ((p : Pid) → get pid_cmp places.new p ≡ get pid_cmp places.old p) }
 {
     if !places.contains_key(&pid) {
-        places.insert(pid, place)?;
+        insert(places, pid, place)?;
     }
     Ok(())
 }

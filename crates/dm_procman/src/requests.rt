@@ -7,7 +7,7 @@ use crate::making::{answer_over, kernel, message_to};
 use crate::{Pending, ProcMan};
 use arrayvec::ArrayVec;
 use dm_link::{Addr, Link};
-use dm_memory::NoMemory;
+use dm_memory::{NoMemory, push};
 use dm_message::{Message, What};
 
 /// The operations, the first byte of a request: over a link with code 0, and over one to a child.
@@ -124,10 +124,11 @@ impl ProcMan {
     {
         let mut enclosed = ArrayVec::new();
         let _ = enclosed.try_extend_from_slice(links);
-        self.pending.push(Pending {
+        let pending = Pending {
             n: self.sent,
             answer,
-        })?;
+        };
+        push(&mut self.pending, pending)?;
         Ok(self.send(
             kernel(machine),
             What::Create {

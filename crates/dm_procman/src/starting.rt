@@ -4,7 +4,7 @@ ghost use Rattle.dm_procman.specs.Managing.{child_of};
 
 use crate::children::Children;
 use dm_link::Addr;
-use dm_memory::NoMemory;
+use dm_memory::{NoMemory, push};
 use dm_onekernel::Boot;
 use std::alloc::Global;
 
@@ -14,11 +14,12 @@ pub fn children_of(alloc: Global, boot: &Boot) -> Result<Children, NoMemory>
 {
     let mut children = Children::new(alloc);
     for process in boot.processes.as_slice() {
-        children.push(Addr {
+        let child = Addr {
             pid: process.pid,
             at: process.pid.home,
             moves: 0,
-        })?;
+        };
+        push(&mut children, child)?;
     }
     Ok(children)
 }

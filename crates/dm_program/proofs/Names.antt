@@ -37,20 +37,23 @@ taken a words m e k h =
     ap (asked_by words) (free is_free) ∙ ap (option_and_then request_at) (sym (has is_plain).1)
 
 -- a step that fails
-fails : (k : ErrorKind) (kinds : Kinds) (words : List Text) → IsAmong k kinds → asked_by words kinds ≡ None
-fails k [] words h = absurd h
-fails k (x ∷ xs) words h =
-    let some : is_empty (x ∷ xs) ≡ false = ne_eqb _ _ (λ e. omega arith) in
-    ap (λ empty. if empty then option_and_then request_at (subcommand_of demosmp words) else None) some
+fails : (words : List Text) (kinds : Kinds) → (kinds ≡ [] → ⊥) → asked_by words kinds ≡ None
+fails words [] some = absurd (some refl)
+fails words (x ∷ xs) some =
+    let kinds : is_empty (x ∷ xs) ≡ false = ne_eqb _ _ (λ e. omega arith) in
+    ap (λ empty. if empty then option_and_then request_at (subcommand_of demosmp words) else None) kinds
 
--- a parse that fails, and not for want of memory, asks for nothing
-pub refused : (a : App) (words : List Text) (e : Error) → a ≡ demosmp → (is_simple_and_free a ≡ true → HasKind (fault_of a words) e) → (kind_of e ≡ OutOfMemory → ⊥) → request_of words ≡ None
-refused a words e is k some =
-    let free : is_simple_and_free demosmp ≡ true → HasKind (fault_of demosmp words) e = subst (λ x. is_simple_and_free x ≡ true → HasKind (fault_of x words) e) is k in
-    elim (free is_free) [
-      | inl h ↦ absurd (some h)
-      | inr h ↦ fails (kind_of e) (fault_of demosmp words) words h
-    ]
+-- words that are refused ask for nothing
+pub refused : (a : App) (words : List Text) → a ≡ demosmp → (is_simple_and_free a ≡ true → fault_of a words ≡ [] → ⊥) → request_of words ≡ None
+refused a words is k =
+    let free : is_simple_and_free demosmp ≡ true → fault_of demosmp words ≡ [] → ⊥ = subst (λ x. is_simple_and_free x ≡ true → fault_of x words ≡ [] → ⊥) is k in
+    fails words (fault_of demosmp words) (free is_free)
+
+-- and are none that the command takes
+pub not_taken : (a : App) (words : List Text) → a ≡ demosmp → (is_simple_and_free a ≡ true → fault_of a words ≡ [] → ⊥) → fault_of demosmp words ≡ [] → ⊥
+not_taken a words is k =
+    let free : is_simple_and_free demosmp ≡ true → fault_of demosmp words ≡ [] → ⊥ = subst (λ x. is_simple_and_free x ≡ true → fault_of x words ≡ [] → ⊥) is k in
+    free is_free
 
 -- what the getters of the matches read
 pub no_boot : (f : Found) (boot : Option Text) → boot ≡ first_value f (codes "boot") → boot ≡ None → run_request (rows_of f) ≡ None

@@ -1,9 +1,8 @@
 //! The words that the program is given, and the program on them, to its end.
 ghost use Rattle.std.specs.Prelude.{◌≡◌, map, IfErr, IfOk, string_bytes};
-ghost use Rattle.std.specs.IoError.{error_kind};
 ghost use Rattle.std.specs.Vec.Iter.{into_iter_steps};
 ghost use Rattle.std.specs.Iterator.Runs.{WholeRun};
-ghost use Rattle.dm_memory.specs.declared.NoMemory.{NoMemory as TheNoMemory};
+ghost use Rattle.dm_memory.specs.Args.{IsWant};
 ghost use Rattle.dm_program.specs.Program.{Finishes, GivenMeets};
 ghost use Rattle.dm_program.specs.Status.{BlamesShelf, BlamesSink};
 ghost use Rattle.dm_program.specs.Words.{IsTaken};
@@ -12,48 +11,30 @@ use crate::ending::end;
 use crate::program::run_program;
 use crate::status::Status;
 use crate::words::WordsNo;
-use dm_memory::NoMemory;
+use dm_memory::of_args::{NoArgs, collect};
+use dm_memory::{NoMemory, push};
 use dm_outside::{Shelf, Sink};
 use dm_world::World;
-use std::alloc::{AllocError, Global};
+use std::alloc::Global;
 use std::env::Args;
-use std::io;
-use std::io::ErrorKind;
 use std::process::ExitCode;
 
-/// The words of the command line, each of them, or why there are none.
-pub fn words_of(alloc: Global, args: io::Result<Args>) -> Result<Vec<String>, WordsNo>
+/// The words of the command line, each of them, or why there are none: a word that isn't Unicode is none of a command.
+pub fn words_of(alloc: Global, args: Result<Args, NoArgs>) -> Result<Vec<String>, WordsNo>
     ensures words { IfOk args (λ a. IfOk result (λ words. WholeRun into_iter_steps a (λ run. words.items ≡ run.items))) }
     ensures lacks { IfOk args (λ _. IfErr result (λ no. no ≡ WordsNo.Usage → ⊥)) }
     ensures none { IfErr args (λ _. IfOk result (λ _. ⊥)) }
-    ensures want { IfErr args (λ e. IfErr result (λ no. no ≡ WordsNo.Usage → error_kind e ≡ ErrorKind.OutOfMemory → ⊥)) }
+    ensures want { IfErr args (λ e. IfErr result (λ no. no ≡ WordsNo.Usage → IsWant e → ⊥)) }
+    ensures usage { IfErr args (λ e. IfErr result (λ no. e ≡ NoArgs.Unread → no ≡ WordsNo.Usage)) }
 {
     match args {
-        Ok(args) => match collected(alloc, args) {
+        Ok(args) => match collect(alloc, args) {
             Ok(words) => Ok(words),
             Err(no) => Err(WordsNo::NoMemory(no)),
         },
-        Err(e) => Err(no_args(e.kind())),
+        Err(NoArgs::Unread) => Err(WordsNo::Usage),
+        Err(NoArgs::NoMemory(no)) => Err(WordsNo::NoMemory(no)),
     }
-}
-
-/// Why there are no words: a word that isn't Unicode is none of a command. The system tells want of memory by a kind of its
-/// own, and hands no allocation's error on: only that kind is want of memory.
-fn no_args(kind: ErrorKind) -> WordsNo
-    ensures usage { result ≡ WordsNo.Usage → kind ≡ ErrorKind.OutOfMemory → ⊥ }
-    ensures want { (lack : TheNoMemory) → result ≡ WordsNo.NoMemory lack → kind ≡ ErrorKind.OutOfMemory }
-{
-    match kind {
-        ErrorKind::OutOfMemory => WordsNo::NoMemory(NoMemory::from(AllocError)),
-        _ => WordsNo::Usage,
-    }
-}
-
-/// All these words, in order.
-fn collected(alloc: Global, args: Args) -> Result<Vec<String>, NoMemory>
-    ensures { IfOk result (λ words. WholeRun into_iter_steps args (λ run. words.items ≡ run.items)) }
-{
-    Ok(args.collect::<Vec<String>>(alloc)?)
 }
 
 /// Runs the program on the words that it was given, says its status on standard error, and gives its number.
@@ -100,9 +81,9 @@ pub fn run_given<F: Shelf, K: Sink>(
 fn texts(alloc: Global, words: &[String]) -> Result<Vec<&str>, NoMemory>
     ensures { IfOk result (λ texts. map (λ t. t.now) texts.items ≡ map string_bytes words.now) }
 {
-    let mut texts = Vec::with_capacity(alloc, words.len())?;
+    let mut texts = Vec::new(alloc);
     for word in words {
-        texts.push(word.as_str())?;
+        push(&mut texts, word.as_str())?;
     }
     Ok(texts)
 }

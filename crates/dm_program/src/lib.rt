@@ -10,6 +10,7 @@ mod read;
 mod status;
 mod words;
 
+pub use dm_memory::of_args::args;
 pub use entry::{finish, run_given, words_of};
 pub use program::run_program;
 pub use status::{Input, Status, status_line, status_text};

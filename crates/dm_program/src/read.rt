@@ -2,7 +2,7 @@
 ghost use Rattle.std.specs.Prelude.{◌≡◌, ◌≤◌, ◌<◌, ◌+◌, length, IfOk, IfErr, vec_len};
 ghost use Rattle.dm_program.specs.Files.{BlamesRead, IsFile, IsLonger, SoFar};
 
-use dm_memory::NoMemory;
+use dm_memory::{NoMemory, extend_from_slice};
 use dm_outside::Shelf;
 use std::alloc::Global;
 
@@ -58,9 +58,9 @@ fn read_piece<F: Shelf>(shelf: &mut F, name: &str, bytes: &mut Vec<u8>) -> Resul
     let mut buffer = [0u8; 4096];
     let from = bytes.len() as u64;
     match shelf.read(name, from, &mut buffer) {
-        Ok(n) => match bytes.extend_from_slice(&buffer[..n]) {
+        Ok(n) => match extend_from_slice(bytes, &buffer[..n]) {
             Ok(()) => Ok(n),
-            Err(failed) => Err(ReadNo::NoMemory(NoMemory::from(failed))),
+            Err(no) => Err(ReadNo::NoMemory(no)),
         },
         Err(_) => Err(ReadNo::Fault),
     }

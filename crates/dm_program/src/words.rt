@@ -1,18 +1,17 @@
 //! The words of the command line, and what they ask for.
 ghost use Rattle.std.specs.Prelude.{◌≡◌, map, option_and_then, option_map, false, Some, None, IfOk, IfErr};
-ghost use Rattle.dm_memory.specs.declared.NoMemory.{NoMemory as TheNoMemory};
 ghost use Rattle.clap.specs.Built.{AddsSubcommand};
-ghost use Rattle.clap.specs.Words.{app_of, found_of, kind_of, rows_of, rule_of, subcommand_rows_of, with_subcommand};
+ghost use Rattle.clap.specs.Words.{app_of, found_of, rows_of, rule_of, subcommand_rows_of, with_subcommand as with_shape};
 ghost use Rattle.clap.specs.declared.builder.command.Command.{Command as TheCommand};
 ghost use Rattle.dm_program.specs.Status.{status_of_no};
 ghost use Rattle.dm_program.specs.RunWords.{file_option, run_command as run_shape, run_request as run_asked};
 ghost use Rattle.dm_program.specs.Words.{IsTaken, demosmp, request_at, request_of, request_said};
 
 use crate::status::Status;
-use clap::error::ErrorKind;
-use clap::{Arg, ArgMatches, Command, Error};
+use clap::{Arg, ArgMatches, Command};
 use dm_memory::NoMemory;
-use std::alloc::{AllocError, Global};
+use dm_memory::of_clap::{NoMatches, matches_from, with_arg, with_subcommand};
+use std::alloc::Global;
 
 /// Why the words ask for nothing.
 #[derive(Clone, Copy, Debug, PartialEq, Eq)]
@@ -50,34 +49,34 @@ pub fn read_words<'a>(alloc: Global, words: &'a [&'a str]) -> Result<Request<'a>
 {
     let command = match command(alloc) {
         Ok(command) => command,
-        Err(failed) => return Err(WordsNo::NoMemory(NoMemory::from(failed))),
+        Err(no) => return Err(WordsNo::NoMemory(no)),
     };
-    match command.try_get_matches_from(words) {
+    match matches_from(command, words) {
         Ok(matches) => match request_in(&matches) {
             Some(request) => Ok(request),
             None => Err(WordsNo::Usage),
         },
-        Err(error) => Err(why(&error)),
+        Err(NoMatches::Refused) => Err(WordsNo::Usage),
+        Err(NoMatches::NoMemory(no)) => Err(WordsNo::NoMemory(no)),
     }
 }
 
 /// The command line of the program, a row a command.
-fn command<'a>(alloc: Global) -> Result<Command<'a>, AllocError>
+fn command<'a>(alloc: Global) -> Result<Command<'a>, NoMemory>
     ensures { IfOk result (λ c. app_of c ≡ demosmp) }
 {
-    Command::new(alloc, "demosmp")
+    let top = Command::new(alloc, "demosmp")
         .disable_help_subcommand(true)
-        .subcommand_required(true)
-        .subcommand(run_command(alloc)?)
+        .subcommand_required(true);
+    with_subcommand(top, run_command(alloc)?)
 }
 
 /// The command `run`: whatever command line takes it in has its shape behind the others.
-fn run_command<'a>(alloc: Global) -> Result<Command<'a>, AllocError>
-    ensures { IfOk result (λ c. (old new : TheCommand) → AddsSubcommand old c new → app_of new ≡ with_subcommand (app_of old) run_shape) }
+fn run_command<'a>(alloc: Global) -> Result<Command<'a>, NoMemory>
+    ensures { IfOk result (λ c. (old new : TheCommand) → AddsSubcommand old c new → app_of new ≡ with_shape (app_of old) run_shape) }
 {
-    let run = Command::new(alloc, "run")
-        .arg(file(alloc, "boot"))?
-        .arg(file(alloc, "schedule"))?;
+    let run = with_arg(Command::new(alloc, "run"), file(alloc, "boot"))?;
+    let run = with_arg(run, file(alloc, "schedule"))?;
     Ok(run)
 }
 
@@ -116,16 +115,4 @@ fn run_request<'a>(matches: &ArgMatches<'a>) -> Option<Request<'a>>
     let boot = matches.get_str("boot")?;
     let schedule = matches.get_str("schedule")?;
     Some(Request::Run { boot, schedule })
-}
-
-/// What an error of the parse comes to. The parse tells want of memory by a kind of its own, and hands no allocation's
-/// error on: only that kind is want of memory.
-fn why(error: &Error) -> WordsNo
-    ensures usage { result ≡ WordsNo.Usage → kind_of error.now ≡ ErrorKind.OutOfMemory → ⊥ }
-    ensures want { (lack : TheNoMemory) → result ≡ WordsNo.NoMemory lack → kind_of error.now ≡ ErrorKind.OutOfMemory }
-{
-    match error.kind() {
-        ErrorKind::OutOfMemory => WordsNo::NoMemory(NoMemory::from(AllocError)),
-        _ => WordsNo::Usage,
-    }
 }

@@ -8,7 +8,7 @@ ghost use Rattle.dm_records.specs.Records.{at, frozen_of, here_of, incoming_of, 
 
 use crate::record::{Record, Whereabouts};
 use dm_link::Pid;
-use dm_memory::NoMemory;
+use dm_memory::{NoMemory, insert_or_return};
 use std::alloc::Global;
 use std::collections::BTreeMap;
 
@@ -72,12 +72,9 @@ impl<H, L, A, E> Records<H, L, A, E> {
         ensures absent { OnErr result (at self.old pid ≡ None) }
         ensures grows { Grows (at self.old) (at self.new) }
     {
-        match self.map.insert(pid, entry) {
+        match insert_or_return(&mut self.map, pid, entry) {
             Ok(_) => Ok(()),
-            Err(failed) => {
-                let ((_, entry), no) = NoMemory::with_value(failed);
-                Err((entry, no))
-            }
+            Err(((_, entry), no)) => Err((entry, no)),
         }
     }
 

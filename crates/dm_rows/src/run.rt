@@ -64,8 +64,8 @@ impl<'a> Run<'a> {
     /// must be.
     pub fn ending(&self, rt: &HostRuntime) -> Result<Ending> {
         let alloc = rt.alloc();
-        let mut out = MemSink::new(alloc, self.room, Vec::new(alloc))?;
-        let mut errors = MemSink::new(alloc, LONGEST_LINE, Vec::new(alloc))?;
+        let mut out = MemSink::new(Vec::with_capacity(alloc, self.room)?, Vec::new(alloc));
+        let mut errors = MemSink::new(Vec::with_capacity(alloc, LONGEST_LINE)?, Vec::new(alloc));
         let words = self.given(alloc)?;
         let mut shelf = RealShelf::new(rt);
         let code = finish(alloc, Ok(words), &mut shelf, &mut out, &mut errors);

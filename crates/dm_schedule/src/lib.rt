@@ -14,7 +14,7 @@ ghost use Rattle.dm_schedule.specs.Schedule.{Accepted, RefusedSo, directives_of,
 use crate::directives::line_directive;
 use crate::lines::first_line;
 use dm_link::Pid;
-use dm_memory::NoMemory;
+use dm_memory::{NoMemory, push};
 use std::alloc::Global;
 use thiserror::Error;
 
@@ -124,6 +124,5 @@ fn add(directives: &mut Vec<Directive>, found: Option<Directive>) -> Result<(), 
     let Some(directive) = found else {
         return Ok(());
     };
-    directives.push(directive)?;
-    Ok(())
+    push(directives, directive)
 }

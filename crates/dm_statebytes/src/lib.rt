@@ -15,6 +15,7 @@ mod writing;
 use dm_link::Pid;
 use dm_linktable::Table;
 pub use dm_memory::NoMemory;
+use dm_memory::from_slice;
 use dm_packet::Bad;
 use dm_packet::writing::Buffer;
 use dm_process::{Process, Status};
@@ -106,7 +107,7 @@ pub fn pack(alloc: Global, process: &Process) -> Result<Vec<u8>, NoMemory>
     let mut front = Buffer::new();
     put_front(&mut front, process);
     put_mask(&mut front, &process.table);
-    let mut bytes = Vec::from_slice(alloc, &front)?;
+    let mut bytes = from_slice(alloc, &front)?;
     extend_with_links(&mut bytes, &process.table)?;
     Ok(bytes)
 }

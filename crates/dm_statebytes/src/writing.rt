@@ -14,7 +14,7 @@ use crate::status::StatusKind;
 use byteorder::{BigEndian, ByteOrder};
 use dm_link::{Addr, Link};
 use dm_linktable::Table;
-use dm_memory::NoMemory;
+use dm_memory::{NoMemory, extend_from_slice};
 use dm_packet::writing::Buffer;
 use dm_packet::writing::fields::{
     put_addr, put_bool, put_byte, put_bytes, put_link, put_pid, put_u16, put_u32,
@@ -172,8 +172,7 @@ fn extend_with_link(out: &mut Vec<u8>, link: &Link) -> Result<(), NoMemory>
 {
     let mut bytes = Buffer::new();
     put_link(&mut bytes, link);
-    out.extend_from_slice(&bytes)?;
-    Ok(())
+    extend_from_slice(out, &bytes)
 }
 
 /// Puts the links of a table at the end, in the order of their slots.

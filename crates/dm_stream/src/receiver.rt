@@ -5,7 +5,8 @@ ghost use Rattle.dm_stream.specs.Receiving.{kept_once, once};
 
 use circular_buffer::HeapCircularBuffer;
 use dm_memory::NoMemory;
-use std::alloc::{AllocError, Global};
+use dm_memory::of_circular_buffer::ring;
+use std::alloc::Global;
 use std::marker::Model;
 
 /// Messages are kept from the next number on, as many as a sender may have outstanding.
@@ -43,11 +44,11 @@ impl<M> Model for Receiver<M> {
 }
 
 /// A ring with all its places empty.
-fn empty_ring<M: Drop>(alloc: Global) -> Result<HeapCircularBuffer<Option<M>>, AllocError>
+fn empty_ring<M: Drop>(alloc: Global) -> Result<HeapCircularBuffer<Option<M>>, NoMemory>
     ensures { IfOk result (λ b. b ≡ buffer (replicate 8 None) 8) }
 {
-    let mut ring = HeapCircularBuffer::with_capacity(alloc, PLACES)?;
-    for _filled in 0..PLACES {
+    let mut ring = ring(alloc, PLACES, None)?;
+    for _filled in 1..PLACES {
         let _ = ring.push_back(None);
     }
     Ok(ring)

@@ -3,7 +3,7 @@ ghost use Rattle.std.specs.Prelude.{IfErr, IsSome, OnErr, OnOk, drop, option_map
 ghost use Rattle.std.specs.Option.{option_copied};
 ghost use Rattle.dm_stream.specs.Returned.{message_in};
 
-use dm_memory::NoMemory;
+use dm_memory::{NoMemory, push_back_or_return};
 use std::alloc::Global;
 use std::collections::VecDeque;
 use std::marker::Model;
@@ -105,12 +105,9 @@ impl<M> Sender<M> {
         if self.given() == self.numbers {
             return Err(GiveNo::Worn(message));
         }
-        match self.unacked.push_back(message) {
+        match push_back_or_return(&mut self.unacked, message) {
             Ok(()) => Ok(()),
-            Err(failed) => {
-                let (message, none) = NoMemory::with_value(failed);
-                Err(GiveNo::NoMemory(message, none))
-            },
+            Err((message, none)) => Err(GiveNo::NoMemory(message, none)),
         }
     }
 

@@ -8,6 +8,7 @@ use crate::Reply;
 use arrayvec::ArrayVec;
 use dm_link::{Kind, Link, Pid};
 use dm_memory::NoMemory;
+use dm_memory::of_indexmap::insert;
 use indexmap::IndexMap;
 
 /// The greatest length of a name, in bytes.
@@ -61,7 +62,7 @@ fn register_general(names: &mut Names, name: Name, link: Link) -> Result<Reply, 
     if names.contains_key(&name) {
         return Ok(Reply::Taken);
     }
-    names.insert(name, link)?;
+    insert(names, name, link)?;
     Ok(Reply::Registered)
 }
 

@@ -12,7 +12,7 @@ use crate::word::Word::{Byte, Bytes, Name, Number, Process};
 use crate::word::{Word, put_count, put_line, put_listed, put_numbers, put_words};
 use dm_line::end_line::{Doing, EndLine, Standing};
 use dm_link::{Area, Kind, Link, Pid};
-use dm_memory::NoMemory;
+use dm_memory::{NoMemory, extend_from_slice, push};
 use dm_message::MsgId;
 use dm_onekernel::Why;
 use dm_process::Direction;
@@ -104,10 +104,10 @@ fn put_linked(into: &mut Vec<u8>, name: &str, words: &[Word], link: &Link) -> Re
     ensures ok { OnOk result (into.new.items ≡ into.old.items ++ spelled (name.now ∷ (map word_text words.now ++ link_words link.now))) }
     ensures err { OnErr result (Keeps into.old.items into.new.items) }
 {
-    into.extend_from_slice(name.as_bytes())?;
+    extend_from_slice(into, name.as_bytes())?;
     put_words(into, words)?;
     put_link(into, link)?;
-    into.push(b'\n')?;
+    push(into, b'\n')?;
     Ok(())
 }
 
@@ -116,11 +116,11 @@ fn put_registers(into: &mut Vec<u8>, pid: Pid, r: &[u32; 16], pc: u32) -> Result
     ensures ok { OnOk result (into.new.items ≡ into.old.items ++ spelled (end_words (end.Registers pid r.now pc))) }
     ensures err { OnErr result (Keeps into.old.items into.new.items) }
 {
-    into.extend_from_slice(b"registers")?;
+    extend_from_slice(into, b"registers")?;
     put_words(into, &[Process(pid)])?;
     put_numbers(into, r)?;
     put_words(into, &[Number(pc)])?;
-    into.push(b'\n')?;
+    push(into, b'\n')?;
     Ok(())
 }
 
@@ -172,11 +172,11 @@ fn put_process(
         (codes "process" ∷ (map word_text front.entry ++ (doing_words doing ++ map word_text back.entry)))) }
     ensures err { OnErr result (Keeps into.old.items into.new.items) }
 {
-    into.extend_from_slice(b"process")?;
+    extend_from_slice(into, b"process")?;
     put_words(into, &front)?;
     put_doing(into, doing)?;
     put_words(into, &back)?;
-    into.push(b'\n')?;
+    push(into, b'\n')?;
     Ok(())
 }
 

@@ -7,7 +7,7 @@ ghost use Rattle.dm_text.specs.Words.{id_word, pid_word};
 ghost use Rattle.dm_text.specs.Written.{Keeps, word_text};
 
 use dm_link::Pid;
-use dm_memory::NoMemory;
+use dm_memory::{NoMemory, extend_from_slice, push};
 use dm_message::MsgId;
 use itoa::Buffer;
 
@@ -30,11 +30,11 @@ fn put_number(into: &mut Vec<u8>, n: u64) -> Result<(), NoMemory>
     ensures err { OnErr result (into.new.items ≡ into.old.items) }
 {
     if n < 10 {
-        into.push(b'0' + n as u8)?;
+        push(into, b'0' + n as u8)?;
         return Ok(());
     }
     let mut buffer = Buffer::new();
-    into.extend_from_slice(buffer.format(n).as_bytes())?;
+    extend_from_slice(into, buffer.format(n).as_bytes())?;
     Ok(())
 }
 
@@ -44,7 +44,7 @@ fn put_pid(into: &mut Vec<u8>, pid: Pid) -> Result<(), NoMemory>
     ensures err { OnErr result (Keeps into.old.items into.new.items) }
 {
     put_number(into, u64::from(pid.home))?;
-    into.push(b'.')?;
+    push(into, b'.')?;
     put_number(into, u64::from(pid.num))
 }
 
@@ -54,10 +54,10 @@ fn put_id(into: &mut Vec<u8>, id: MsgId) -> Result<(), NoMemory>
     ensures err { OnErr result (Keeps into.old.items into.new.items) }
 {
     put_pid(into, id.from)?;
-    into.push(b'#')?;
+    push(into, b'#')?;
     put_number(into, u64::from(id.n))?;
     if id.answer {
-        into.push(b'!')?;
+        push(into, b'!')?;
     }
     Ok(())
 }
@@ -76,8 +76,8 @@ fn put_hex(into: &mut Vec<u8>, bytes: &[u8]) -> Result<(), NoMemory>
     ensures err { OnErr result (Keeps into.old.items into.new.items) }
 {
     for byte in bytes {
-        into.push(hex_digit(*byte / 16))?;
-        into.push(hex_digit(*byte % 16))?;
+        push(into, hex_digit(*byte / 16))?;
+        push(into, hex_digit(*byte % 16))?;
     }
     Ok(())
 }
@@ -89,7 +89,7 @@ pub fn put_bare(into: &mut Vec<u8>, word: &Word) -> Result<(), NoMemory>
 {
     match *word {
         Word::Name(name) => {
-            into.extend_from_slice(name.as_bytes())?;
+            extend_from_slice(into, name.as_bytes())?;
             Ok(())
         }
         Word::Byte(n) => put_number(into, u64::from(n)),
@@ -106,7 +106,7 @@ fn put_word(into: &mut Vec<u8>, word: &Word) -> Result<(), NoMemory>
     ensures ok { OnOk result (into.new.items ≡ into.old.items ++ codes " " ++ word_text word.now) }
     ensures err { OnErr result (Keeps into.old.items into.new.items) }
 {
-    into.push(b' ')?;
+    push(into, b' ')?;
     put_bare(into, word)
 }
 
@@ -148,9 +148,9 @@ pub(crate) fn put_line(into: &mut Vec<u8>, name: &str, words: &[Word]) -> Result
     ensures ok { OnOk result (into.new.items ≡ into.old.items ++ spelled (name.now ∷ map word_text words.now)) }
     ensures err { OnErr result (Keeps into.old.items into.new.items) }
 {
-    into.extend_from_slice(name.as_bytes())?;
+    extend_from_slice(into, name.as_bytes())?;
     put_words(into, words)?;
-    into.push(b'\n')?;
+    push(into, b'\n')?;
     Ok(())
 }
 
@@ -164,10 +164,10 @@ pub(crate) fn put_listed(
     ensures ok { OnOk result (into.new.items ≡ into.old.items ++ spelled (name.now ∷ (map word_text words.now ++ map id_word ids.now))) }
     ensures err { OnErr result (Keeps into.old.items into.new.items) }
 {
-    into.extend_from_slice(name.as_bytes())?;
+    extend_from_slice(into, name.as_bytes())?;
     put_words(into, words)?;
     put_ids(into, ids)?;
-    into.push(b'\n')?;
+    push(into, b'\n')?;
     Ok(())
 }
 
@@ -177,9 +177,9 @@ pub(crate) fn put_count(into: &mut Vec<u8>, name: &str, count: u128) -> Result<(
     ensures err { OnErr result (Keeps into.old.items into.new.items) }
 {
     let mut buffer = Buffer::new();
-    into.extend_from_slice(name.as_bytes())?;
-    into.push(b' ')?;
-    into.extend_from_slice(buffer.format(count).as_bytes())?;
-    into.push(b'\n')?;
+    extend_from_slice(into, name.as_bytes())?;
+    push(into, b' ')?;
+    extend_from_slice(into, buffer.format(count).as_bytes())?;
+    push(into, b'\n')?;
     Ok(())
 }

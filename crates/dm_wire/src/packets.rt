@@ -3,7 +3,8 @@ ghost use Rattle.std.specs.Prelude.{IfOk, List, OnErr, OnOk, [], false, length, 
 ghost use Rattle.dm_wire.specs.Sent.{bytes_at, is_unseen, just_put, marked, seen_at, with_mark};
 ghost use Rattle.dm_wire.specs.declared.packets.Packet.{Packet};
 
-use std::alloc::{AllocError, Global};
+use dm_memory::{NoMemory, push};
+use std::alloc::Global;
 use std::marker::Model;
 
 /// A packet, and whether it was delivered.
@@ -90,13 +91,13 @@ impl Packets {
     }
 
     /// Puts one more packet, and tells its number.
-    pub fn put(&mut self, bytes: Vec<u8>) -> Result<u64, AllocError>
+    pub fn put(&mut self, bytes: Vec<u8>) -> Result<u64, NoMemory>
         ensures ok { OnOk result (self.new ≡ self.old ++ just_put bytes.items ∷ []) }
         ensures number { IfOk result (λ k. k ≡ length self.old) }
         ensures err { OnErr result (self.new ≡ self.old) }
     {
         let number = self.items.len() as u64;
-        self.items.push(Packet { bytes, seen: false })?;
+        push(&mut self.items, Packet { bytes, seen: false })?;
         Ok(number)
     }
 

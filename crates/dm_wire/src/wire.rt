@@ -2,8 +2,8 @@
 ghost use Rattle.std.specs.Prelude.{IfOk, OnErr, OnOk, [], length, option_map, position, slice_index_or, vec_len, ◌*◌, ◌+◌, ◌<◌, ◌^◌, ◌≡◌, ◌≤◌, ℕ};
 
 use crate::packets::Packets;
-use dm_memory::NoMemory;
-use std::alloc::{AllocError, Global};
+use dm_memory::{NoMemory, push};
+use std::alloc::Global;
 use std::marker::Model;
 
 /// Machines are numbered from 0, and there are at most so many.
@@ -34,12 +34,12 @@ fn place(a: u8, b: u8) -> usize
 }
 
 /// Makes room for `len` pairs. New ones are empty.
-fn reach(pairs: &mut Vec<Packets>, alloc: Global, len: usize) -> Result<(), AllocError>
+fn reach(pairs: &mut Vec<Packets>, alloc: Global, len: usize) -> Result<(), NoMemory>
     ensures ok { OnOk result (len ≤ vec_len pairs.new) }
     ensures same { (q : ℕ) → slice_index_or pairs.new.items q [] ≡ slice_index_or pairs.old.items q [] }
 {
     while pairs.len() < len {
-        pairs.push(Packets::new(alloc))?;
+        push(pairs, Packets::new(alloc))?;
     }
     Ok(())
 }
@@ -68,8 +68,7 @@ impl Wire {
     {
         let place = place(a, b);
         reach(&mut self.pairs, self.alloc, place + 1)?;
-        let number = self.pairs[place].put(bytes)?;
-        Ok(number)
+        self.pairs[place].put(bytes)
     }
 
     /// How many packets were put on the wire from `a` to `b`.

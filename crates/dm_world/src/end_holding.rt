@@ -11,7 +11,7 @@ use crate::end_messages::ids_of_held;
 use crate::world::World;
 use dm_line::end_line::EndLine;
 use dm_link::Pid;
-use dm_memory::NoMemory;
+use dm_memory::{NoMemory, push};
 use dm_message::Message;
 use dm_node::Node;
 use dm_records::Record;
@@ -107,7 +107,7 @@ fn say_messages(
 {
     let ids = ids_of_held(alloc, held)?;
     if ids.len() > 0 {
-        lines.push(EndLine::Holding { machine, pid, ids })?;
+        push(lines, EndLine::Holding { machine, pid, ids })?;
     }
     Ok(())
 }

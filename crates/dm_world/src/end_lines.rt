@@ -15,7 +15,7 @@ use crate::world::World;
 use dm_line::end_line::{EndLine, Standing};
 use dm_link::Pid;
 use dm_lists::Queue;
-use dm_memory::NoMemory;
+use dm_memory::{NoMemory, push};
 use dm_message::Message;
 use dm_node::Node;
 use dm_records::Record;
@@ -32,14 +32,14 @@ impl World {
         ensures { IfOk result (λ lines. lines.items ≡ end_lines (length self.now.boot.machines) (state_of self.now)) }
     {
         let mut lines = Vec::new(self.alloc);
-        lines.push(EndLine::Final)?;
+        push(&mut lines, EndLine::Final)?;
         self.say_processes(&mut lines)?;
         say_servers(self.machine(0).kernel(), &mut lines)?;
         self.say_queues(&mut lines)?;
         self.say_holding(&mut lines)?;
         self.say_inboxes(&mut lines)?;
         self.say_streams(&mut lines)?;
-        lines.push(EndLine::Groups(self.groups))?;
+        push(&mut lines, EndLine::Groups(self.groups))?;
         Ok(lines)
     }
 
@@ -226,7 +226,7 @@ impl World {
         }
         let ids = untaken_ids(self.machine(from), self.machine(to), from, to)?;
         if ids.len() > 0 {
-            lines.push(EndLine::Stream { from, to, ids })?;
+            push(lines, EndLine::Stream { from, to, ids })?;
         }
         Ok(())
     }
@@ -246,7 +246,7 @@ fn say_known(node: &Node, m: u8, pid: Pid, lines: &mut Vec<EndLine>) -> Result<b
             Ok(true)
         }
         Some(Record::Ended(why)) => {
-            lines.push(EndLine::Ended { pid, why: *why })?;
+            push(lines, EndLine::Ended { pid, why: *why })?;
             Ok(true)
         }
         _ => Ok(false),
@@ -281,7 +281,7 @@ fn say_messages(
 {
     let ids = ids_of(alloc, queue)?;
     if ids.len() > 0 {
-        lines.push(EndLine::Queue { pid, ids })?;
+        push(lines, EndLine::Queue { pid, ids })?;
     }
     Ok(())
 }
@@ -302,7 +302,7 @@ fn say_inbox(node: &Node, machine: u8, lines: &mut Vec<EndLine>) -> Result<(), N
 {
     let ids = ids_of(node.alloc(), node.kernel().inbox())?;
     if ids.len() > 0 {
-        lines.push(EndLine::Inbox { machine, ids })?;
+        push(lines, EndLine::Inbox { machine, ids })?;
     }
     Ok(())
 }

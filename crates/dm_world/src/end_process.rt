@@ -9,7 +9,7 @@ use arrayvec::ArrayVec;
 use dm_line::end_line::{Doing, EndLine, Standing};
 use dm_link::Pid;
 use dm_linktable::Table;
-use dm_memory::NoMemory;
+use dm_memory::{NoMemory, push};
 use dm_migrate::{Arriving, Wanted};
 use dm_process::{Process, Status};
 use dm_processor::{Memory, Regs};
@@ -25,7 +25,7 @@ pub fn say_alive(
 ) -> Result<(), NoMemory>
     ensures { OnOk result (lines.new.items ≡ lines.old.items ++ alive_lines m pid standing process.now) }
 {
-    lines.push(EndLine::Process {
+    push(lines, EndLine::Process {
         pid,
         at: m,
         standing,
@@ -65,7 +65,7 @@ fn say_come(
 ) -> Result<(), NoMemory>
     ensures { OnOk result (lines.new.items ≡ lines.old.items ++ alive_lines m pid standing_.Arriving (revived shell.now memory.now)) }
 {
-    lines.push(EndLine::Process {
+    push(lines, EndLine::Process {
         pid,
         at: m,
         standing: Standing::Arriving,
@@ -86,7 +86,7 @@ fn say_parts(
 ) -> Result<(), NoMemory>
     ensures { OnOk result (lines.new.items ≡ lines.old.items ++ parts_lines pid regs.now memory.now table.now) }
 {
-    lines.push(EndLine::Registers {
+    push(lines, EndLine::Registers {
         pid,
         r: regs.r,
         pc: regs.pc,
@@ -143,7 +143,7 @@ fn say_block(
     if shown > 0 {
         let mut bytes_shown = ArrayVec::new();
         let _ = bytes_shown.try_extend_from_slice(&bytes[..shown]);
-        lines.push(EndLine::Memory {
+        push(lines, EndLine::Memory {
             pid,
             block,
             bytes: bytes_shown,
@@ -172,7 +172,7 @@ fn say_links(pid: Pid, table: &Table, lines: &mut Vec<EndLine>) -> Result<(), No
 {
     for slot in 0..table.cap() {
         if let Some(link) = table.get(slot) {
-            lines.push(EndLine::Link {
+            push(lines, EndLine::Link {
                 pid,
                 slot,
                 link: *link,

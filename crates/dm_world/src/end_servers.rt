@@ -9,7 +9,7 @@ use arrayvec::ArrayVec;
 use dm_kernel::Kernel;
 use dm_line::end_line::EndLine;
 use dm_link::{Addr, Link, Pid};
-use dm_memory::NoMemory;
+use dm_memory::{NoMemory, push};
 use dm_message::MsgId;
 use dm_procman::Pending;
 use dm_switchboard::Switchboard;
@@ -25,11 +25,11 @@ pub fn say_servers(kernel: &Kernel, lines: &mut Vec<EndLine>) -> Result<(), NoMe
     ensures { OnOk result (lines.new.items ≡ lines.old.items ++ server_lines kernel.now.servers) }
 {
     if let Some(servers) = kernel.servers() {
-        lines.push(EndLine::Server {
+        push(lines, EndLine::Server {
             pid: SWITCHBOARD,
             sent: servers.board().sent(),
         })?;
-        lines.push(EndLine::Server {
+        push(lines, EndLine::Server {
             pid: MANAGER,
             sent: servers.manager().sent(),
         })?;
@@ -60,7 +60,7 @@ fn say_name(bytes: &[u8], link: &Link, lines: &mut Vec<EndLine>) -> Result<(), N
 {
     let mut name = ArrayVec::new();
     let _ = name.try_extend_from_slice(bytes);
-    lines.push(EndLine::Name { name, link: *link })?;
+    push(lines, EndLine::Name { name, link: *link })?;
     Ok(())
 }
 
@@ -70,7 +70,7 @@ fn say_children(children: &[Addr], lines: &mut Vec<EndLine>) -> Result<(), NoMem
     ensures { OnOk result (lines.new.items ≡ lines.old.items ++ child_lines 1 children.now) }
 {
     for place in 0..children.len() {
-        lines.push(EndLine::Child {
+        push(lines, EndLine::Child {
             number: place as u32 + 1,
             pid: children[place].pid,
             at: children[place].at,
@@ -84,7 +84,7 @@ fn say_pending(pending: &[Pending], lines: &mut Vec<EndLine>) -> Result<(), NoMe
     ensures { OnOk result (lines.new.items ≡ lines.old.items ++ pending_lines pending.now) }
 {
     for request in pending {
-        lines.push(EndLine::Pending(MsgId {
+        push(lines, EndLine::Pending(MsgId {
             from: MANAGER,
             n: request.n,
             answer: false,

@@ -9,7 +9,7 @@ ghost use Rattle.dm_world.specs.Meets.{IsSendable, Spoke};
 ghost use Rattle.dm_world.specs.Readable.{AreReadBack};
 
 use dm_line::line::{Line, Load};
-use dm_memory::NoMemory;
+use dm_memory::{NoMemory, push};
 use dm_node::Out;
 use dm_packet::{Packet, encode};
 use dm_wire::Wire;
@@ -28,8 +28,8 @@ pub fn speak(
 {
     for out in outs {
         match out {
-            Out::Says(line) => lines.push(line)?,
-            Out::Sends(packet) => lines.push(send(alloc, wires, &packet)?)?,
+            Out::Says(line) => push(lines, line)?,
+            Out::Sends(packet) => push(lines, send(alloc, wires, &packet)?)?,
         }
     }
     Ok(())

@@ -24,7 +24,7 @@ use crate::speak::speak;
 use crate::world::World;
 use dm_line::line::Line;
 use dm_link::Pid;
-use dm_memory::NoMemory;
+use dm_memory::{NoMemory, list_of};
 use dm_node::{Node, Out, Stop};
 use dm_onekernel::Boot;
 use dm_packet::{Packet, decode};
@@ -164,7 +164,7 @@ impl World {
         ensures boot { self.new.boot ≡ self.old.boot }
         ensures stopped { self.new.stopped ≡ self.old.stopped }
     {
-        let mut lines = vec![in self.alloc; Line::Head(step)]?;
+        let mut lines = list_of(self.alloc, [Line::Head(step)])?;
         speak(self.alloc, &mut self.wires, outs, &mut lines)?;
         self.groups += 1;
         Ok(lines)
@@ -248,7 +248,7 @@ fn receive(
 fn nothing(alloc: Global) -> Result<Vec<Out>, NoMemory>
     ensures { IfOk result (λ outs. outs.items ≡ out.Says line.Nothing ∷ []) }
 {
-    Ok(vec![in alloc; Out::Says(Line::Nothing)]?)
+    list_of(alloc, [Out::Says(Line::Nothing)])
 }
 
 /// The packet with this number on the wire from `a` to `b`.

@@ -7,7 +7,7 @@ ghost use Rattle.dm_node.specs.State.{opened};
 ghost use Rattle.dm_world.specs.Meets.{AreNodes, IsNode, IsWorld, state_of};
 ghost use Rattle.dm_world.specs.World.{first_world};
 
-use dm_memory::NoMemory;
+use dm_memory::{NoMemory, push};
 use dm_node::Node;
 use dm_onekernel::Boot;
 use dm_wire::Wire;
@@ -74,7 +74,7 @@ fn open_all(alloc: Global, boot: &Boot) -> Result<Vec<Node>, NoMemory>
     let machines = boot.machines.len() as u8;
     let mut nodes = Vec::new(alloc);
     for here in 0..machines {
-        nodes.push(Node::new(alloc, boot, here)?)?;
+        push(&mut nodes, Node::new(alloc, boot, here)?)?;
     }
     Ok(nodes)
 }

@@ -220,7 +220,7 @@ whole_asks p h =
     let n : ℕ = h.lawful.size.0 in
     let e : length p.memory ≡ 256 * n = h.lawful.size.1 in
     let d : length p.memory / 256 ≡ n = omega (arith, e) in
-    (omega (arith, d, h.lawful.size.2), omega (arith, d, h.lawful.size.3), h.moves)
+    (omega (arith, d, h.lawful.size.2), omega (arith, d, h.lawful.size.3), h.moves, h.most)
 
 -- its pieces
 pub chunk_there : (x : Process) (q : List Message) (y : Process) (n : ℕ) → x ≡ record y { queue = q } → HasChunk (state_of x) n → HasChunk (state_of y) n

@@ -1,8 +1,5 @@
 use Rattle.dm_packet.proofs.Packets.{packet_again}
 use Rattle.dm_packet.proofs.encode.Goals as goal
 
-pub returns-in_err-extend_from_slice-clause-again : goal.returns-in_err-extend_from_slice-clause-again
-returns-in_err-extend_from_slice-clause-again c = packet_again c.args.packet.now c.requires.lawful c.put_packet.ensures.fits
-
 pub returns-clause-again : goal.returns-clause-again
 returns-clause-again c = packet_again c.args.packet.now c.requires.lawful c.put_packet.ensures.fits

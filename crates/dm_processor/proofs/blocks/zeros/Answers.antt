@@ -6,7 +6,7 @@ use Rattle.dm_processor.proofs.blocks.zeros.Goals as goal
 
 pub invariant_of-result : goal.invariant_of-result
 invariant_of-result c =
-    rw c.in_ok-blocks.ensures (grind (arith, common_steps, AreWhole-zeros c.from.result), grind (arith, common_steps), AreWhole-zeros c.from.result)
+    rw c.in_ok-blocks.ensures.items (grind (arith, common_steps, AreWhole-zeros c.from.result), grind (arith, common_steps), AreWhole-zeros c.from.result)
 
 pub returns : goal.returns
-returns c = record { ok = rw c.in_ok-blocks.ensures (grind (arith, concat-zeros c.from.result)) }
+returns c = record { ok = rw c.in_ok-blocks.ensures.items (grind (arith, concat-zeros c.from.result)) }

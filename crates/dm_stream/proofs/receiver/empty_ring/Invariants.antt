@@ -1,6 +1,6 @@
-use Rattle.std.proofs.Common.{◌≡◌, None, replicate}
+use Rattle.std.proofs.Common.{◌≡◌, ◌≤◌, None, replicate}
 use Rattle.circular_buffer.specs.Buffer.{buffer}
 use Rattle.dm_stream.proofs.receiver.empty_ring.Given as goal
 
 abbrev pub invariant-loop-filled : goal.invariant-loop-filled
-invariant-loop-filled g l = l.ring ≡ buffer (replicate l._filled None) 8
+invariant-loop-filled g l = (l._filled ≤ 8) × (l.ring ≡ buffer (replicate l._filled None) 8)

@@ -14,4 +14,4 @@ pub returns-clause-ok : goal.returns-clause-ok
 returns-clause-ok c =
     let none = none_of _ (sym c.contains_key.ensures ∙ c.if-contains_key.false) in
     let absent = sym (look_up_listed c.args.name.items c.args.names.now.entries) ∙ none in
-    new_stands c.args.names.now.entries c.insert.new.self.entries c.args.name c.args.link absent (c.in_ok-insert.ensures.entries ∙ insert_entry-new _ c.args.names.now c.args.name c.args.link none)
+    new_stands c.args.names.now.entries c.insert.new.map.entries c.args.name c.args.link absent (c.in_ok-insert.ensures.entries ∙ insert_entry-new _ c.args.names.now c.args.name c.args.link none)

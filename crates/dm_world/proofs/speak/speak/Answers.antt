@@ -19,7 +19,7 @@ loop-out-preserved-in_ok-push-in-Says c =
       can_next = tt;
       finite = tt;
       sendable = All-rest IsSendable c.in-Some.out left whole c.in-Some.ensures.steps.0 here.invariant.sendable;
-      leads = leads_line c.args.lines.now.items here.lines.items c.push.new.self.items all (packets_on here.wires) c.in-Says.line left whole is c.in_ok-push-in-Says.ensures.items here.invariant.leads;
+      leads = leads_line c.args.lines.now.items here.lines.items c.push.new.list.items all (packets_on here.wires) c.in-Says.line left whole is c.in_ok-push-in-Says.ensures.items here.invariant.leads;
       back = back_line c.in-Says.line c.args.outs.items left whole is here.invariant.back;
     }
 

@@ -7,5 +7,5 @@ pub returns : goal.returns
 unfolding place_in
 returns c = record {
   ok =
-      defined c.args.name.now c.args.self.now.map c.insert.new.self c.args.place c.in_ok-insert.ensures.updates c.if-contains_key.ensures;
+      defined c.args.name.now c.args.self.now.map c.insert.new.map c.args.place c.in_ok-insert.ensures.updates c.if-contains_key.ensures;
 }

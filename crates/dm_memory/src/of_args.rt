@@ -1,0 +1,49 @@
+//! The words that the program is given. The system tells want of memory for them by a kind of error of its own, and hands
+//! no allocation's error on: so the kind is turned into want of memory here, at the call that it answers.
+ghost use Rattle.std.specs.Prelude.{◌≡◌, ◌↔◌, IfOk};
+ghost use Rattle.std.specs.Vec.Iter.{into_iter_steps};
+ghost use Rattle.std.specs.Iterator.Runs.{WholeRun};
+ghost use Rattle.dm_memory.specs.Args.{IsWant};
+
+use crate::NoMemory;
+use std::alloc::Global;
+use std::env;
+use std::env::Args;
+use std::io::ErrorKind;
+
+/// Why there are no words.
+#[derive(Clone, Copy, Debug, PartialEq, Eq)]
+pub enum NoArgs {
+    /// One isn't Unicode.
+    Unread,
+    /// No memory was left.
+    NoMemory(NoMemory),
+}
+
+/// The words that the program was given, its own name first.
+pub fn args(rt: &HostRuntime) -> Result<Args, NoArgs> {
+    match env::args(rt) {
+        Ok(args) => Ok(args),
+        Err(error) => Err(no_args(error.kind())),
+    }
+}
+
+/// Why there are no words: only one kind of error is want of memory.
+fn no_args(kind: ErrorKind) -> NoArgs
+    ensures { IsWant result ↔ (kind ≡ ErrorKind.OutOfMemory) }
+{
+    match kind {
+        ErrorKind::OutOfMemory => NoArgs::NoMemory(NoMemory(())),
+        _ => NoArgs::Unread,
+    }
+}
+
+/// All these words, in order.
+pub fn collect(alloc: Global, args: Args) -> Result<Vec<String>, NoMemory>
+    ensures { IfOk result (λ words. WholeRun into_iter_steps args (λ run. words.items ≡ run.items)) }
+{
+    match args.collect::<Vec<String>>(alloc) {
+        Ok(words) => Ok(words),
+        Err(_) => Err(NoMemory(())),
+    }
+}
