@@ -12,10 +12,8 @@ use crate::labels::{Labels, split_label};
 use crate::lines::{first_line, uncommented};
 use crate::refusals::{AsmNo, Stop, Why};
 use crate::statements::{add_statement, stands_elsewhere};
+use dm_processor::MOST_MEMORY;
 use std::alloc::Global;
-
-/// The most bytes of an image.
-const MOST: usize = 65_536;
 
 /// Whether the label of a line, if any, is defined before.
 fn defined_before(labels: &Labels, line: usize, label: Option<&[u8]>) -> bool
@@ -36,7 +34,7 @@ fn add_line(labels: &Labels, image: &mut Vec<u8>, number: usize, line: &[u8]) ->
     let (label, statement) = split_label(uncommented(line));
     let twice = defined_before(labels, number, label);
     add_statement(labels, image, twice, statement)?;
-    if image.len() > MOST {
+    if image.len() > MOST_MEMORY as usize {
         return Err(Stop::Fault(Why::TooLong));
     }
     Ok(())

@@ -9,6 +9,8 @@ use Rattle.dm_onekernel.specs.declared.boot.BootProcess.{BootProcess}
 use Rattle.dm_onekernel.specs.Boot.{slots_of, starting_at, blocks_at, blocks_of_image}
 use Rattle.dm_boot.specs.declared.rules.BootRule.{BootRule}
 use Rattle.dm_boot.specs.declared.rules.BootRule.TheVariants.{Document, TopKeys, Settings, MachineCount, MachineKeys, MachineRoom, ImageCount, ImageKeys, ImageName, ImageBlocks, ImageText, ImageBytes, ProcessKeys, ProcessName, ProcessMachine, ProcessImage, ProcessRoom, LinkCount, LinkTarget, LinkLimits}
+use Rattle.dm_boot.specs.declared.rules.TableRule.{TableRule}
+use Rattle.dm_boot.specs.declared.rules.TableRule.TheVariants as of_tables
 use Rattle.dm_boot.specs.Tables.{has_only, is_integer, is_text, is_truth, is_array, is_table, has, may_have, text_at, truth_at, or_zero, count, all_items, first_failing, place_of, named, is_place, items_at}
 use Rattle.dm_boot.specs.Text.{is_name, is_server, bytes_of}
 use Rattle.dm_boot.specs.Build.{machine_tables, image_tables, process_tables, link_tables, numbers_of, quantum_of, format_number, format_of, slots_in, blocks_in, machines_of, image_blocks, image_of, images_of, machine_number, image_place, start_of, starts_of, code_in, channel_in, base_in, len_in, is_control}
@@ -263,25 +265,21 @@ link_rules = LinkCount ∷ LinkTarget ∷ LinkLimits ∷ []
 abbrev pub rules : List BootRule
 rules = image_rules ++ (process_rules ++ link_rules)
 
--- the rules that tables alone decide; the others need the images' bytes or the processes before
-unfoldable pub is_of_tables : BootRule → Bool
-is_of_tables Document = false
-is_of_tables TopKeys = true
-is_of_tables Settings = true
-is_of_tables MachineCount = true
-is_of_tables MachineKeys = true
-is_of_tables MachineRoom = true
-is_of_tables ImageCount = true
-is_of_tables ImageKeys = true
-is_of_tables ImageName = true
-is_of_tables ImageBlocks = true
-is_of_tables ImageText = false
-is_of_tables ImageBytes = false
-is_of_tables ProcessKeys = true
-is_of_tables ProcessName = true
-is_of_tables ProcessMachine = true
-is_of_tables ProcessImage = true
-is_of_tables ProcessRoom = false
-is_of_tables LinkCount = true
-is_of_tables LinkTarget = true
-is_of_tables LinkLimits = true
+-- the rule that is one of those which tables alone decide; the others need the images' bytes or the processes before
+unfoldable pub rule_of : TableRule → BootRule
+rule_of of_tables.TopKeys = TopKeys
+rule_of of_tables.Settings = Settings
+rule_of of_tables.MachineCount = MachineCount
+rule_of of_tables.MachineKeys = MachineKeys
+rule_of of_tables.MachineRoom = MachineRoom
+rule_of of_tables.ImageCount = ImageCount
+rule_of of_tables.ImageKeys = ImageKeys
+rule_of of_tables.ImageName = ImageName
+rule_of of_tables.ImageBlocks = ImageBlocks
+rule_of of_tables.ProcessKeys = ProcessKeys
+rule_of of_tables.ProcessName = ProcessName
+rule_of of_tables.ProcessMachine = ProcessMachine
+rule_of of_tables.ProcessImage = ProcessImage
+rule_of of_tables.LinkCount = LinkCount
+rule_of of_tables.LinkTarget = LinkTarget
+rule_of of_tables.LinkLimits = LinkLimits

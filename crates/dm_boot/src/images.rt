@@ -15,6 +15,7 @@ use dm_asm::AsmNo;
 use dm_lists::Items;
 use dm_memory::NoMemory;
 use dm_onekernel::boot::BootImage;
+use dm_processor::BLOCK;
 use std::alloc::Global;
 use toml::Value;
 
@@ -85,5 +86,5 @@ pub fn first_long(images: &[BootImage]) -> Option<usize>
 fn image_fits(image: &BootImage) -> bool
     ensures { result ≡ image_fits image.now }
 {
-    image.bytes.len() <= 256 * usize::from(image.blocks)
+    image.bytes.len() <= BLOCK * usize::from(image.blocks)
 }

@@ -8,6 +8,7 @@ ghost use Rattle.dm_boot.specs.Rules.{has_good_image_count, has_good_machine_cou
 use crate::document::Document;
 use crate::names::{is_name, is_server};
 use crate::tables::{items_at, number_at, text_at};
+use dm_link::MACHINES;
 use dm_onekernel::boot::Format;
 use toml::Value;
 
@@ -57,7 +58,7 @@ pub fn has_good_machine_count(top: &Value) -> bool
     ensures { result ≡ has_good_machine_count (view top.now) }
 {
     let count = items_at(top, "machine").len();
-    1 <= count && count <= 16
+    1 <= count && count <= usize::from(MACHINES)
 }
 
 /// Whether there are at most 256 images.
@@ -118,7 +119,7 @@ pub fn machine_number(process: &Value) -> Option<u32>
     ensures machine { result ≡ machine_number (view process.now) }
     ensures few { IfSome result (λ n. n ≤ 15) }
 {
-    number_at(process, "machine", 0, 0, 15)
+    number_at(process, "machine", 0, 0, u32::from(MACHINES) - 1)
 }
 
 /// Whether a process's machine is one of the file's.

@@ -7,19 +7,14 @@ ghost use Rattle.dm_boot.specs.Build.{control_of, kind_with, link_of, link_to, l
 use crate::document::Document;
 use crate::names::{is_manager, is_switchboard};
 use crate::tables::{items_at, text_at, truth_at};
-use crate::targets::{MEMORY, base_in, channel_in, code_in, is_control, len_in};
-use dm_link::{Addr, Area, Kind, Link, Pid};
+use crate::targets::{base_in, channel_in, code_in, is_control, len_in};
+use dm_link::{Addr, Area, Kind, Link, MANAGER, Pid, SWITCHBOARD};
 use dm_lists::Items;
 use dm_memory::NoMemory;
 use dm_onekernel::boot::BootProcess;
+use dm_processor::MOST_MEMORY;
 use std::alloc::Global;
 use toml::Value;
-
-/// The switchboard.
-const SWITCHBOARD: Pid = Pid { home: 0, num: 1 };
-
-/// The process manager.
-const MANAGER: Pid = Pid { home: 0, num: 2 };
 
 /// The links of a process, the first in slot 0. The starts are the processes in the order of the file.
 #[tactic(auto, using(crate::proofs::Elements::map_lemmas))]
@@ -96,8 +91,8 @@ fn link_to(pid: Pid, link: &Value) -> Link
         code: code_in(link, u32::MAX).unwrap_or(0),
         channel: channel_in(link).unwrap_or(0) as u8,
         area: Area {
-            base: base_in(link, MEMORY).unwrap_or(0),
-            len: len_in(link, MEMORY).unwrap_or(0),
+            base: base_in(link, MOST_MEMORY).unwrap_or(0),
+            len: len_in(link, MOST_MEMORY).unwrap_or(0),
             read: truth_at(link, "read"),
             write: truth_at(link, "write"),
         },

@@ -1,6 +1,6 @@
 //! The rules that a boot file keeps, and why one gives no system.
 ghost use Rattle.std.specs.Prelude.{◌≡◌};
-ghost use Rattle.dm_boot.specs.Rules.{rule_number};
+ghost use Rattle.dm_boot.specs.Rules.{rule_number, rule_of};
 
 use dm_memory::NoMemory;
 use thiserror::Error;
@@ -77,6 +77,54 @@ impl BootRule {
             BootRule::LinkCount => 18,
             BootRule::LinkTarget => 19,
             BootRule::LinkLimits => 20,
+        }
+    }
+}
+
+/// A rule that tables alone decide; the others need the images' bytes, or the processes before.
+#[derive(Clone, Copy, Debug, PartialEq, Eq)]
+pub enum TableRule {
+    TopKeys,
+    Settings,
+    MachineCount,
+    MachineKeys,
+    MachineRoom,
+    ImageCount,
+    ImageKeys,
+    ImageName,
+    ImageBlocks,
+    ProcessKeys,
+    ProcessName,
+    ProcessMachine,
+    ProcessImage,
+    LinkCount,
+    LinkTarget,
+    LinkLimits,
+}
+
+impl TableRule {
+    /// The rule that it is.
+    #[tactic(auto, unfolding(crate::specs::Rules::rule_of))]
+    pub fn rule(self) -> BootRule
+        ensures { result ≡ rule_of self }
+    {
+        match self {
+            TableRule::TopKeys => BootRule::TopKeys,
+            TableRule::Settings => BootRule::Settings,
+            TableRule::MachineCount => BootRule::MachineCount,
+            TableRule::MachineKeys => BootRule::MachineKeys,
+            TableRule::MachineRoom => BootRule::MachineRoom,
+            TableRule::ImageCount => BootRule::ImageCount,
+            TableRule::ImageKeys => BootRule::ImageKeys,
+            TableRule::ImageName => BootRule::ImageName,
+            TableRule::ImageBlocks => BootRule::ImageBlocks,
+            TableRule::ProcessKeys => BootRule::ProcessKeys,
+            TableRule::ProcessName => BootRule::ProcessName,
+            TableRule::ProcessMachine => BootRule::ProcessMachine,
+            TableRule::ProcessImage => BootRule::ProcessImage,
+            TableRule::LinkCount => BootRule::LinkCount,
+            TableRule::LinkTarget => BootRule::LinkTarget,
+            TableRule::LinkLimits => BootRule::LinkLimits,
         }
     }
 }

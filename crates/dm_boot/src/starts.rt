@@ -13,14 +13,11 @@ use crate::document::Document;
 use crate::limits::{image_place, machine_number};
 use crate::rules::{BootNo, BootRule};
 use crate::tables::items_at;
-use dm_link::Pid;
+use dm_link::{FIRST_NUMBER, Pid};
 use dm_lists::Items;
 use dm_onekernel::boot::{BootImage, BootMachine, BootProcess};
 use std::alloc::Global;
 use toml::Value;
-
-/// The number of a machine's first process.
-const FIRST_NUMBER: u32 = 3;
 
 /// The processes without their links, unless one doesn't fit its machine with the earlier ones.
 pub fn starts_of(

@@ -1,10 +1,10 @@
 //! The system of a document's top table.
-ghost use Rattle.std.specs.Prelude.{◌≡◌, ◌≤◌, OnOk};
+ghost use Rattle.std.specs.Prelude.{◌≡◌, ◌≤◌, OnOk, map};
 ghost use Rattle.toml.specs.View.{view};
 ghost use Rattle.dm_boot.specs.Before.{before_images};
 ghost use Rattle.dm_boot.specs.Tables.{count};
 ghost use Rattle.dm_boot.specs.Build.{image_tables, images_of, machines_of, process_tables, processes_of, starts_of, system_with};
-ghost use Rattle.dm_boot.specs.Rules.{first_broken, image_rules, link_rules, process_rules};
+ghost use Rattle.dm_boot.specs.Rules.{first_broken, image_rules, link_rules, process_rules, rule_of};
 ghost use Rattle.dm_boot.specs.Boot.{Answers, boot_of_table, unless};
 
 use crate::checks::first_broken;
@@ -13,7 +13,7 @@ use crate::images::{first_long, images_of};
 use crate::limits::{format_of, numbers_of, quantum_of};
 use crate::machines::machines_of;
 use crate::processes::processes_of;
-use crate::rules::{BootNo, BootRule};
+use crate::rules::{BootNo, BootRule, TableRule};
 use crate::starts::starts_of;
 use crate::tables::items_at;
 use dm_lists::Items;
@@ -74,24 +74,25 @@ fn system_with(
 }
 
 /// The rules before those of the images' texts and bytes, in the order in which they are tested.
-fn before_images() -> [BootRule; 9]
-    ensures { result ≡ before_images }
+#[tactic(auto, unfolding(crate::specs::Rules::rule_of))]
+fn before_images() -> [TableRule; 9]
+    ensures { map rule_of result ≡ before_images }
 {
     [
-        BootRule::TopKeys,
-        BootRule::Settings,
-        BootRule::MachineCount,
-        BootRule::MachineKeys,
-        BootRule::MachineRoom,
-        BootRule::ImageCount,
-        BootRule::ImageKeys,
-        BootRule::ImageName,
-        BootRule::ImageBlocks,
+        TableRule::TopKeys,
+        TableRule::Settings,
+        TableRule::MachineCount,
+        TableRule::MachineKeys,
+        TableRule::MachineRoom,
+        TableRule::ImageCount,
+        TableRule::ImageKeys,
+        TableRule::ImageName,
+        TableRule::ImageBlocks,
     ]
 }
 
 /// The images, where no rule before those of the processes is broken.
-#[tactic(auto, unfolding(crate::specs::Rules::is_of_tables))]
+#[tactic(auto, unfolding(crate::specs::Rules::rule_of))]
 fn read_images(alloc: Global, document: &Document<'_>) -> Result<Items<BootImage>, BootNo>
     ensures images { Answers (unless (first_broken image_rules (view document.now.top.now)) (images_of (view document.now.top.now))) result }
     ensures few { OnOk result (count (image_tables (view document.now.top.now)) ≤ 256) }
@@ -114,7 +115,7 @@ fn read_images(alloc: Global, document: &Document<'_>) -> Result<Items<BootImage
 }
 
 /// The processes without their links, where no rule of processes is broken.
-#[tactic(auto, unfolding(crate::specs::Rules::is_of_tables))]
+#[tactic(auto, unfolding(crate::specs::Rules::rule_of))]
 fn read_starts(
     alloc: Global,
     document: &Document<'_>,
@@ -128,10 +129,10 @@ fn read_starts(
     ensures few { OnOk result (count (process_tables (view document.now.top.now)) ≤ 4080) }
 {
     let before = [
-        BootRule::ProcessKeys,
-        BootRule::ProcessName,
-        BootRule::ProcessMachine,
-        BootRule::ProcessImage,
+        TableRule::ProcessKeys,
+        TableRule::ProcessName,
+        TableRule::ProcessMachine,
+        TableRule::ProcessImage,
     ];
     if let Some((rule, place)) = first_broken(document, &before) {
         return Err(BootNo::Refused { rule, place });
@@ -143,7 +144,7 @@ fn read_starts(
 }
 
 /// The processes with their links, where no rule of links is broken.
-#[tactic(auto, unfolding(crate::specs::Rules::is_of_tables))]
+#[tactic(auto, unfolding(crate::specs::Rules::rule_of))]
 fn read_processes(
     alloc: Global,
     document: &Document<'_>,
@@ -154,9 +155,9 @@ fn read_processes(
     ensures { Answers (unless (first_broken link_rules (view document.now.top.now)) (processes_of (view document.now.top.now))) result }
 {
     let rules = [
-        BootRule::LinkCount,
-        BootRule::LinkTarget,
-        BootRule::LinkLimits,
+        TableRule::LinkCount,
+        TableRule::LinkTarget,
+        TableRule::LinkLimits,
     ];
     if let Some((rule, place)) = first_broken(document, &rules) {
         return Err(BootNo::Refused { rule, place });

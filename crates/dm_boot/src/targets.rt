@@ -9,10 +9,9 @@ use crate::document::Document;
 use crate::limits::image_blocks;
 use crate::names::is_server;
 use crate::tables::{has_text, number_at, text_at, truth_at};
+use dm_link::LAST_CHANNEL;
+use dm_processor::{BLOCK, MOST_MEMORY};
 use toml::Value;
-
-/// The greatest size of a memory in bytes.
-pub const MEMORY: u32 = 65_536;
 
 /// Whether a link controls a child.
 pub fn is_control(link: &Value) -> bool
@@ -57,7 +56,7 @@ pub fn channel_in(link: &Value) -> Option<u32>
     ensures channel { result ≡ channel_in (view link.now) }
     ensures few { IfSome result (λ n. n ≤ 31) }
 {
-    number_at(link, "channel", 0, 0, 31)
+    number_at(link, "channel", 0, 0, u32::from(LAST_CHANNEL))
 }
 
 pub fn base_in(link: &Value, most: u32) -> Option<u32>
@@ -79,7 +78,7 @@ pub fn len_in(link: &Value, most: u32) -> Option<u32>
 fn has_area(size: u32, link: &Value) -> bool
     ensures { result ≡ has_area size (view link.now) }
 {
-    match (base_in(link, MEMORY), len_in(link, MEMORY)) {
+    match (base_in(link, MOST_MEMORY), len_in(link, MOST_MEMORY)) {
         (Some(base), Some(len)) => base + len <= size,
         _ => false,
     }
@@ -127,7 +126,7 @@ fn blocks_of_process(document: &Document<'_>, process: Option<&Value>) -> u32
 fn memory_of(document: &Document<'_>, name: &str) -> u32
     ensures { result ≡ memory_of (view document.now.top.now) name.now }
 {
-    256 * blocks_of_process(document, document.process(name))
+    BLOCK as u32 * blocks_of_process(document, document.process(name))
 }
 
 /// Whether a link's numbers are within their limits.

@@ -65,6 +65,7 @@ fn land_first(process: &mut Process, rest: Rest, what: &What, here: u8) -> Lande
         },
         (Direction::IntoArea, What::Written) => go_on(process, rest, here),
         (_, What::Gone) => end(process, Reply::Gone),
+        // No other kind answers a request of this direction: `answer` says so.
         _ => unreachable!(),
     }
 }
@@ -85,6 +86,7 @@ fn land_awaited(process: &mut Process, message: &Message, here: u8) -> Landed
         ..
     } = process.status
     else {
+        // Only a mover awaits an answer: `awaited` says so.
         unreachable!()
     };
     let rest = Rest {

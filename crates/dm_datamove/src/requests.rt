@@ -8,11 +8,8 @@ ghost use Rattle.dm_onekernel.specs.Plain.{plain_process};
 ghost use Rattle.dm_datamove.specs.Requests.{IsRest, moving, plain_requested, request, request_of};
 
 use crate::{Rest, address_of, body_at};
-use dm_message::{Message, MsgId, What};
+use dm_message::{MOST_BODY, Message, MsgId, What};
 use dm_process::{Direction, Process, Status};
-
-/// The most bytes of a piece.
-const PIECE: u32 = 256;
 
 /// The length of the first piece of so many bytes.
 pub fn piece_of(left: u32) -> u32
@@ -20,7 +17,7 @@ pub fn piece_of(left: u32) -> u32
     ensures short { result ≤ 256 }
     ensures part { result ≤ left }
 {
-    left.min(PIECE)
+    left.min(MOST_BODY as u32)
 }
 
 /// What is asked for.

@@ -45,6 +45,7 @@ fn serve_what(process: &mut Process, what: &What) -> What
             process.memory.copy_in(*base, bytes.as_slice());
             What::Written
         },
+        // Only these two kinds ask for a piece: `within` says so.
         _ => unreachable!(),
     }
 }

@@ -3,15 +3,12 @@ ghost use Rattle.std.specs.Prelude.{◌≡◌, ◌≤◌, ◌<◌, ◌*◌, ◌�
 ghost use Rattle.dm_onekernel.specs.Boot.{IsValid};
 ghost use Rattle.dm_draw.specs.Boot.{boot_of, image, link_to, machines_of, pid_at, process_at, processes_of};
 
-use dm_link::{Addr, Area, Kind, Link, Pid};
+use dm_link::{Addr, Area, FIRST_NUMBER, Kind, Link, Pid};
 use dm_lists::Items;
 use dm_memory::{NoMemory, from_slice};
 use dm_onekernel::Boot;
 use dm_onekernel::boot::{BootImage, BootMachine, BootProcess, Format};
 use std::alloc::Global;
-
-/// The number of the first process of a machine.
-const FIRST_NUMBER: u32 = 3;
 
 /// The program of all processes: it sends over link 0, receives, moves data over link 1, and goes round.
 const PROGRAM: [u8; 60] = [

@@ -5,13 +5,10 @@ ghost use Rattle.dm_schedule.specs.declared.Directive.{Directive as TheDirective
 ghost use Rattle.dm_draw.specs.Directives.{deliver_drawn, directive_drawn, directives_drawn, migrate_drawn, tick_drawn, turn_drawn};
 
 use crate::draw::Generator;
-use dm_link::Pid;
+use dm_link::{FIRST_NUMBER, Pid};
 use dm_memory::{NoMemory, push};
 use dm_schedule::{Directive, Step};
 use std::alloc::Global;
-
-/// The number of the first process of a machine.
-const FIRST_NUMBER: u32 = 3;
 
 /// So many directives for so many machines, 2 to 16, drawn from a seed.
 pub fn drill_directives(

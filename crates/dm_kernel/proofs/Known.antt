@@ -1,24 +1,21 @@
 -- What is known of the process that an event is about.
-use Rattle.std.proofs.Common.{◌≡◌, ◌∙◌, Bool, true, refl, ap, sym, subst, Some, None, IsSome, rules}
-use Rattle.std.specs.Prelude.{not, is_some}
-use Rattle.std.proofs.lemmas.Bool.{and_parts}
+use Rattle.std.proofs.Common.{◌≡◌, ◌∙◌, Bool, true, false, if◌then◌else◌, refl, ap, sym, subst, Some, None, IsSome, rules}
 use Rattle.std.specs.declared.option.Option.{Option}
 use Rattle.std.specs.Option.{IfSome}
 use Rattle.dm_link.specs.declared.Pid.{Pid}
-use Rattle.dm_linktable.proofs.Names.{pid_eq_self}
-use Rattle.dm_message.specs.declared.Message.{Message}
-use Rattle.dm_process.specs.Mail.{first_on}
-use Rattle.dm_process.specs.Process.{status_is_runnable}
+use Rattle.dm_link.specs.Names.{pid_eq}
+use Rattle.dm_linktable.proofs.Names.{pid_eq_same, pid_eq_self}
+use Rattle.dm_process.specs.Process.{is_runnable}
+use Rattle.dm_process.specs.Service.{IsServiceOf}
+use Rattle.dm_process.specs.declared.process.Service.{Service}
 use Rattle.dm_process.specs.declared.process.Process.{Process}
-use Rattle.dm_process.specs.declared.process.Status.{Status}
-use Rattle.dm_process.specs.declared.process.Status.TheVariants.{Ready, Waiting, Moving}
 use Rattle.dm_room.specs.Room.{HasTaken, Taken}
 use Rattle.dm_records.specs.declared.record.Record.TheVariants.{Here, Frozen, Incoming, Forward, Ended}
 use Rattle.dm_records.specs.Records.{here_of, with_record}
 use Rattle.dm_onekernel.specs.Options.{bind}
 use Rattle.dm_kernel.specs.State.{KernelState, Known, Turned, blocks_of, with_here}
 use Rattle.dm_kernel.specs.May.{MayAct}
-use Rattle.dm_kernel.specs.Served.{CanGo, IsHere, Serves}
+use Rattle.dm_kernel.specs.Served.{IsHere, Serves}
 use Rattle.dm_kernel.specs.Turn.{known_is_runnable}
 
 -- what holds of it
@@ -30,14 +27,56 @@ is_here P (Some (Incoming arriving)) x e h = absurd h
 is_here P (Some (Forward machine moves)) x e h = absurd h
 is_here P (Some (Ended y)) x e h = absurd h
 
-is_there : (o : Option Message) → is_some o ≡ true → IsSome o
-is_there None h = absurd (cc)
-is_there (Some m) h = search rules
+-- what follows for the process that is here
+pub here_as : (P Q : Process → Type 0) (o : Option Known) → ((x : Process) → P x → Q x) → IsHere P o → IsHere Q o
+here_as P Q None go h = absurd h
+here_as P Q (Some (Here x)) go h = go x h
+here_as P Q (Some (Frozen leaving)) go h = absurd h
+here_as P Q (Some (Incoming arriving)) go h = absurd h
+here_as P Q (Some (Forward machine moves)) go h = absurd h
+here_as P Q (Some (Ended y)) go h = absurd h
 
-goes : (x : Process) (t : Status) → status_is_runnable t x.queue ≡ true → CanGo x t
-goes x Ready h = tt
-goes x (Waiting mask base cap_) h = is_there (first_on mask x.queue) h
-goes x (Moving dir owner base own left pending) h = absurd (cc)
+pub is_here_as : (P : Process → Type 0) (o : Option Known) (x : Process) → here_of o ≡ Some x → P x → IsHere P o
+is_here_as P None x e h = absurd (cc)
+is_here_as P (Some (Here y)) x e h = let same : x ≡ y = cc in subst P same h
+is_here_as P (Some (Frozen leaving)) x e h = absurd (cc)
+is_here_as P (Some (Incoming arriving)) x e h = absurd (cc)
+is_here_as P (Some (Forward machine moves)) x e h = absurd (cc)
+is_here_as P (Some (Ended y)) x e h = absurd (cc)
+
+-- whether it can be served goes by the process that is here
+pub here_runs : (o : Option Known) (x : Process) → here_of o ≡ Some x → known_is_runnable o ≡ is_runnable x
+here_runs None x e = absurd (cc)
+here_runs (Some (Here y)) x e = let same : y ≡ x = cc in ap is_runnable same
+here_runs (Some (Frozen leaving)) x e = absurd (cc)
+here_runs (Some (Incoming arriving)) x e = absurd (cc)
+here_runs (Some (Forward machine moves)) x e = absurd (cc)
+here_runs (Some (Ended y)) x e = absurd (cc)
+
+pub none_runs : (o : Option Known) → here_of o ≡ None → known_is_runnable o ≡ false
+none_runs None e = refl
+none_runs (Some (Here y)) e = absurd (cc)
+none_runs (Some (Frozen leaving)) e = refl
+none_runs (Some (Incoming arriving)) e = refl
+none_runs (Some (Forward machine moves)) e = refl
+none_runs (Some (Ended y)) e = refl
+
+-- a process that is set as it is there changes nothing
+is_known : (o : Option Known) (x : Process) → here_of o ≡ Some x → Some (Here x) ≡ o
+is_known None x e = absurd (cc)
+is_known (Some (Here y)) x e = let same : y ≡ x = cc in ap (λ (x : Process). Some (Here x)) (sym same)
+is_known (Some (Frozen leaving)) x e = absurd (cc)
+is_known (Some (Incoming arriving)) x e = absurd (cc)
+is_known (Some (Forward machine moves)) x e = absurd (cc)
+is_known (Some (Ended y)) x e = absurd (cc)
+
+set_or_not : (same : Bool) (k o : Option Known) → (same ≡ true → k ≡ o) → (if same then k else o) ≡ o
+set_or_not true k o e = e refl
+set_or_not false k o e = refl
+
+pub set_again : (records : Pid → Option Known) (p : Pid) (x : Process) → here_of (records p) ≡ Some x → (q : Pid) → with_record records p (Here x) q ≡ records q
+set_again records p x e q =
+    set_or_not (pid_eq p q) (Some (Here x)) (records q) (λ same. is_known (records p) x e ∙ ap records (pid_eq_same p q same))
 
 -- nothing of the room changes
 pub acts_still : (s t : KernelState) (p : Pid) (x : Process) → t.room ≡ s.room → MayAct s p x → MayAct t p x
@@ -45,20 +84,23 @@ acts_still s t p x room m =
     let P : Taken → Type 0 = λ r. HasTaken r (blocks_of x) in
     record { pid = m.pid; lawful = m.lawful; sent = m.sent; room = subst P (sym room) m.room }
 
-pub runs_at : (runs : Pid → Bool) (o : Option Pid) (p : Pid) → o ≡ Some p → IfSome o (λ p. runs p ≡ true) → runs p ≡ true
-runs_at runs None p e h = absurd (cc)
-runs_at runs (Some q) p e h = let same : q ≡ p = cc in ap runs (sym same) ∙ h
+pub holds_at : (P : Pid → Type 0) (o : Option Pid) (p : Pid) → o ≡ Some p → IfSome o P → P p
+holds_at P None p e h = absurd (cc)
+holds_at P (Some q) p e h = let same : q ≡ p = cc in subst P same h
 
--- it can be served
-pub can_serve : (s t : KernelState) (p : Pid) (o : Option Known) → t.room ≡ s.room → ((x : Process) → o ≡ Some (Here x) → MayAct s p x) → known_is_runnable o ≡ true → IsHere (Serves t p) o
-can_serve s t p None room may h = absurd (cc)
-can_serve s t p (Some (Here x)) room may h =
-    let both : (not x.stopped ≡ true) × (status_is_runnable x.status x.queue ≡ true) = and_parts (not x.stopped) (status_is_runnable x.status x.queue) h in
-    record { acts = acts_still s t p x room (may x refl); goes = goes x x.status both.1 }
-can_serve s t p (Some (Frozen leaving)) room may h = absurd (cc)
-can_serve s t p (Some (Incoming arriving)) room may h = absurd (cc)
-can_serve s t p (Some (Forward machine moves)) room may h = absurd (cc)
-can_serve s t p (Some (Ended y)) room may h = absurd (cc)
+-- it can be served so
+pub can_serve : (s t : KernelState) (p : Pid) (service : Service) (o : Option Known) → t.room ≡ s.room → ((x : Process) → o ≡ Some (Here x) → MayAct s p x) → IsHere (λ x. IsServiceOf x service) o
+    → IsHere (Serves t p service) o
+can_serve s t p service None room may h = absurd h
+can_serve s t p service (Some (Here x)) room may h = record { acts = acts_still s t p x room (may x refl); does = h }
+can_serve s t p service (Some (Frozen leaving)) room may h = absurd h
+can_serve s t p service (Some (Incoming arriving)) room may h = absurd h
+can_serve s t p service (Some (Forward machine moves)) room may h = absurd h
+can_serve s t p service (Some (Ended y)) room may h = absurd h
+
+-- a state with the same records
+pub same_state : (s : KernelState) (records : Pid → Option Known) → ((q : Pid) → records q ≡ s.records q) → record s { records = records } ≡ s
+same_state s records e = λ i. record s { records = λ q. e q i }
 
 -- the process p is set to x
 pub sets : (s : KernelState) (p : Pid) (x : Process) (records : Pid → Option Known) → ((q : Pid) → records q ≡ with_record s.records p (Here x) q) → record s { records = records } ≡ with_here s p x

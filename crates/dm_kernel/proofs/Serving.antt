@@ -1,5 +1,5 @@
 -- What serving a process gives, from what its parts give.
-use Rattle.std.proofs.Common.{◌≡◌, ◌∙◌, ℕ, zero, suc, ◌/◌, Bool, true, false, ◌==◌, List, [], ◌∷◌, length, refl, ap, sym, subst, if◌then◌else◌, Some, None, IsSome, rules}
+use Rattle.std.proofs.Common.{◌≡◌, ◌∙◌, ℕ, zero, suc, ◌/◌, Bool, true, false, ◌==◌, List, [], ◌∷◌, length, refl, ap, sym, subst, if◌then◌else◌, Some, None, IsSome, slice_get, ◌<◌, arith, rules}
 use Rattle.std.specs.declared.option.Option.{Option}
 use Rattle.dm_link.specs.declared.Link.{Link}
 use Rattle.dm_link.specs.declared.Pid.{Pid}
@@ -18,8 +18,9 @@ use Rattle.dm_process.specs.declared.process.Status.TheVariants as status
 use Rattle.dm_process.specs.Lawful.{IsLawfulProcess, IsLawfulStatus}
 use Rattle.dm_process.specs.Directions.{direction_numbered}
 use Rattle.dm_process.specs.Mail.{first_on, is_on}
+use Rattle.dm_process.specs.Service.{Takes}
 use Rattle.dm_room.specs.Room.{HasTaken, Taken}
-use Rattle.dm_records.specs.declared.record.Record.TheVariants.{Here}
+use Rattle.dm_records.specs.declared.record.Record.TheVariants.{Here, Frozen, Incoming, Forward, Ended}
 use Rattle.dm_records.specs.Records.{here_of, with_record}
 use Rattle.dm_onekernel.specs.declared.label.Reply.{Reply}
 use Rattle.dm_onekernel.specs.declared.label.Reply.TheVariants as reply
@@ -34,7 +35,7 @@ use Rattle.dm_syscall.specs.declared.Called.TheVariants as called
 use Rattle.dm_syscall.specs.Calls.{Done, after_send, begins, calls, copies, does_call, drops, message_over, moves, moves_bytes, moves_over, own_link, puts_link, replied, sends, unless_refused, waits, whole}
 use Rattle.dm_syscall.specs.Completing.{IsAwaited}
 use Rattle.dm_kernel.specs.State.{KernelState, Known, blocks_of, with_here}
-use Rattle.dm_kernel.specs.Serve.{Ran, after_row, called_with, does, executes, halts, processor_of, ran, with_machine}
+use Rattle.dm_kernel.specs.Serve.{Ran, after_row, called_with, does, executes, halts, processor_of, ran, receives, serves, serves_status, with_machine}
 use Rattle.dm_kernel.specs.May.{MayAct}
 use Rattle.dm_kernel.specs.Served.{HasPlace, IsHere}
 use Rattle.dm_kernel.proofs.Known.{of_here, there}
@@ -81,6 +82,25 @@ called_as s t p k n w d result e a b =
     ap (λ (t : KernelState). bind (here_of (t.records p)) (λ x. called_with t p k n x result)) e
     ∙ of_here (here_of ((with_here s p w).records p)) w (λ x. called_with (with_here s p w) p k n x result) (there s p w)
     ∙ (λ i. called_with (with_here s p (a i)) p k n (a i) (b i))
+
+-- serving a process that is ready, and one that waits
+pub serves_ready : (quantum : ℕ) (s : KernelState) (p : Pid) (o : Option Known) → IsHere (λ x. x.status ≡ status.Ready) o
+    → bind (here_of o) (λ x. executes s p x (ran quantum (processor_of x))) ≡ serves quantum s p o
+serves_ready quantum s p None h = absurd h
+serves_ready quantum s p (Some (Here x)) h = sym (ap (serves_status quantum s p x) h)
+serves_ready quantum s p (Some (Frozen leaving)) h = absurd h
+serves_ready quantum s p (Some (Incoming arriving)) h = absurd h
+serves_ready quantum s p (Some (Forward machine moves)) h = absurd h
+serves_ready quantum s p (Some (Ended y)) h = absurd h
+
+pub serves_waiting : (quantum : ℕ) (s : KernelState) (p : Pid) (mask place : ℕ) (o : Option Known) → IsHere (λ x. Takes x mask place) o
+    → bind (here_of o) (λ x. receives s p x mask (first_on mask x.queue)) ≡ serves quantum s p o
+serves_waiting quantum s p mask place None h = absurd h
+serves_waiting quantum s p mask place (Some (Here x)) h = sym (ap (serves_status quantum s p x) h.waits)
+serves_waiting quantum s p mask place (Some (Frozen leaving)) h = absurd h
+serves_waiting quantum s p mask place (Some (Incoming arriving)) h = absurd h
+serves_waiting quantum s p mask place (Some (Forward machine moves)) h = absurd h
+serves_waiting quantum s p mask place (Some (Ended y)) h = absurd h
 
 -- it has its slot and its blocks still
 pub has_place : (s t : KernelState) (p : Pid) (x y : Process) (records : Pid → Option Known) → t.room ≡ s.room → ((q : Pid) → t.records q ≡ with_record records p (Here y) q)
@@ -160,7 +180,11 @@ awaits : (mask base size : ℕ) (queue : List Message) (o : Option Message) → 
 awaits mask base size queue None e h = absurd (search rules)
 awaits mask base size queue (Some m) e h = first_is_on mask queue m e
 
-pub is_awaited : (t : Status) (mask base size : ℕ) (queue : List Message) (o : Option Message) → t ≡ status.Waiting mask base size → o ≡ first_on mask queue → IsSome (first_on mask queue)
-    → IsAwaited t o
-is_awaited t mask base size queue o waits first some =
-    subst (λ (t : Status). IsAwaited t o) (sym waits) (awaits mask base size queue o (sym first) (subst IsSome (sym first) some))
+some_at : (queue : List Message) (place : ℕ) → place < length queue → IsSome (slice_get queue place)
+some_at [] place lt = absurd (omega (arith, lt))
+some_at (m ∷ ms) zero lt = search rules
+some_at (m ∷ ms) (suc place) lt = some_at ms place (omega (arith, lt))
+
+pub is_awaited : (x : Process) (mask place : ℕ) → Takes x mask place → IsAwaited x.status (slice_get x.queue place)
+is_awaited x mask place t =
+    subst (λ (s : Status). IsAwaited s (slice_get x.queue place)) (sym t.waits) (awaits mask t.base t.cap_ x.queue (slice_get x.queue place) (sym t.first) (some_at x.queue place t.within))

@@ -1,13 +1,13 @@
 -- What is known of the process that an event is about.
-use Rattle.std.specs.Prelude.{◌≡◌, ⊤, ℕ, ◌+◌, ◌<◌, length, IsSome}
+use Rattle.std.specs.Prelude.{◌≡◌, ℕ, ◌+◌, ◌<◌, length}
 use Rattle.std.specs.declared.option.Option.{Option}
 use Rattle.std.specs.declared.option.Option.TheVariants.{None, Some}
 use Rattle.dm_link.specs.declared.Pid.{Pid}
 use Rattle.dm_message.specs.declared.Message.{Message}
-use Rattle.dm_process.specs.Mail.{first_on}
 use Rattle.dm_process.specs.declared.process.Process.{Process}
-use Rattle.dm_process.specs.declared.process.Status.{Status}
-use Rattle.dm_process.specs.declared.process.Status.TheVariants.{Ready, Waiting, Moving}
+use Rattle.dm_process.specs.Service.{IsServiceOf, Takes}
+use Rattle.dm_process.specs.declared.process.Service.{Service}
+use Rattle.dm_process.specs.declared.process.Status.TheVariants.{Ready}
 use Rattle.dm_records.specs.declared.record.Record.TheVariants.{Here, Frozen, Incoming, Forward, Ended}
 use Rattle.dm_room.specs.Room.{HasTaken, Taken}
 use Rattle.dm_kernel.specs.State.{KernelState, Known, blocks_of}
@@ -26,31 +26,24 @@ IsHere P (Some (Incoming arriving)) = ⊥
 IsHere P (Some (Forward machine moves)) = ⊥
 IsHere P (Some (Ended y)) = ⊥
 
--- it can be served: it is ready, or a message that it waits for is queued
-abbrev pub CanGo : Process → Status → Type 0
-CanGo x Ready = ⊤
-CanGo x (Waiting mask base cap) = IsSome (first_on mask x.queue)
-CanGo x (Moving dir owner base own left pending) = ⊥
-
 -- it is here, and has its slot and its blocks
 pub record HasPlace (s : KernelState) (x : Process) : Type 0 where
   pub room : HasTaken s.room (blocks_of x)
 
--- it is here, and can be served
-pub record Serves (s : KernelState) (p : Pid) (x : Process) : Type 0 where
+-- it is here, and can be served so
+pub record Serves (s : KernelState) (p : Pid) (service : Service) (x : Process) : Type 0 where
   pub acts : MayAct s p x
-  pub goes : CanGo x x.status
+  pub does : IsServiceOf x service
 
 -- it is here, and ready
 pub record Executes (s : KernelState) (p : Pid) (x : Process) : Type 0 where
   pub acts : MayAct s p x
   pub ready : x.status ≡ Ready
 
--- it is here, and waits for a message that is queued
-pub record Receives (s : KernelState) (p : Pid) (mask : ℕ) (x : Process) : Type 0 where
+-- it is here, and waits for the message at this place of its queue
+pub record Receives (s : KernelState) (p : Pid) (mask place : ℕ) (x : Process) : Type 0 where
   pub acts : MayAct s p x
-  pub waits : (base : ℕ) × (cap : ℕ) × (x.status ≡ Waiting mask base cap)
-  pub queued : IsSome (first_on mask x.queue)
+  pub takes : Takes x mask place
 
 -- it is here, and the message is one for it
 pub record Handles (s : KernelState) (m : Message) (x : Process) : Type 0 where

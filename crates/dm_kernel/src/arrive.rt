@@ -1,13 +1,11 @@
 //! What a machine's kernel does where a process comes to it.
-ghost use Rattle.std.specs.Prelude.{◌≡◌, ◌<◌, ◌++◌, ◌∷◌, [], IsSome, OnOk};
-ghost use Rattle.dm_records.specs.Records.{at, incoming_of, with_record};
+ghost use Rattle.std.specs.Prelude.{◌≡◌, ◌<◌, ◌≤◌, ◌++◌, ◌∷◌, [], IsSome, OnOk, Some};
+ghost use Rattle.dm_records.specs.Records.{HasPlace, at, incoming_of, with_record};
 ghost use Rattle.dm_records.specs.declared.record.Record.TheVariants.{Here, Incoming};
-ghost use Rattle.dm_migrate.specs.Answer.{IsAskOfProcess};
-ghost use Rattle.dm_migrate.specs.Arrival.{Arrival, IsNextPiece};
+ghost use Rattle.dm_migrate.specs.Arrival.{Arrival, IsNextChunk, with_block, with_chunk};
 ghost use Rattle.dm_onekernel.specs.Options.{bind};
-ghost use Rattle.dm_kernel.specs.Coming.{holds_arriving, piece_line, restarts, takes_piece};
+ghost use Rattle.dm_kernel.specs.Coming.{answers_ask, holds_arriving, piece_line, restarts, took_piece};
 ghost use Rattle.dm_kernel.specs.Departing.{takes_step};
-ghost use Rattle.dm_kernel.specs.Handle.{kernel_handles};
 ghost use Rattle.dm_kernel.specs.May.{IsSuch, MayRestart};
 ghost use Rattle.dm_kernel.specs.Meets.{Answers, IsIn, state_of};
 ghost use Rattle.dm_kernel.specs.State.{own, turned, with_known, with_sent};
@@ -22,7 +20,7 @@ use dm_link::Pid;
 use dm_lists::Queue;
 use dm_memory::{NoMemory, list_of};
 use dm_message::{Message, MsgId, What};
-use dm_migrate::{Arriving, Asked, Wanted, answer_ask};
+use dm_migrate::{Arriving, Ask, Asked, Wanted, answer_ask};
 use dm_onekernel::Boot;
 use dm_process::Process;
 use dm_records::Record;
@@ -30,21 +28,22 @@ use dm_room::Lacks;
 
 impl Kernel {
     /// Answers a process that asks to come.
-    pub(crate) fn answer(&mut self, boot: &Boot, message: &Message) -> Result<Vec<Part>, NoMemory>
+    pub(crate) fn answer(
+        &mut self,
+        boot: &Boot,
+        message: &Message,
+        ask: Ask,
+    ) -> Result<Vec<Part>, NoMemory>
         requires sent { self.old.sent < 4294967295 }
-        requires ask { IsAskOfProcess message.now.what }
-        ensures { Answers result self.new (kernel_handles boot.now (state_of self.old) message.now message.now.what) }
+        requires least { 1 ≤ ask.blocks }
+        requires most { ask.blocks ≤ 256 }
+        requires moves { ask.moves < 4294967295 }
+        ensures { Answers result self.new (answers_ask boot.now (state_of self.old) message.now ask.pid ask.blocks ask.moves ask.size ask.asker) }
     {
-        let slots = boot.format.slots();
-        match &message.what {
-            What::Ask { pid, .. } => {
-                match answer_ask(self.alloc, &message.what, &mut self.room, slots) {
-                    Asked::Accepted(arriving, pull) => self.accept(message, *pid, arriving, pull),
-                    Asked::Refused(refusal, lacks) => self.refuse(message, *pid, refusal, lacks),
-                    Asked::NoMemory(e) => Err(e),
-                }
-            }
-            _ => unreachable!(),
+        match answer_ask(self.alloc, ask, &mut self.room, boot.format.slots()) {
+            Asked::Accepted(arriving, pull) => self.accept(message, ask.pid, arriving, pull),
+            Asked::Refused(refusal, lacks) => self.refuse(message, ask.pid, refusal, lacks),
+            Asked::NoMemory(e) => Err(e),
         }
     }
 
@@ -98,36 +97,57 @@ impl Kernel {
         ensures { Answers result self.new (bind (incoming_of (at self.old.records message.to.pid)) (λ a. holds_arriving (state_of self.old) message a)) }
     {
         let id = message.id;
-        match self.records.incoming_mut(message.to.pid) {
-            Some(arriving) => match arriving.hold(message) {
-                Ok(()) => self.say(Line::Held(id)),
-                Err((_, e)) => Err(e),
-            },
-            None => unreachable!(),
+        let arriving = self.records.incoming_mut(message.to.pid).unwrap();
+        match arriving.hold(message) {
+            Ok(()) => self.say(Line::Held(id)),
+            Err((_, e)) => Err(e),
         }
     }
 
-    /// Takes a piece of a process that comes, which was asked for, and asks for the next.
-    pub(crate) fn take_piece(&mut self, message: Message, pid: Pid) -> Result<Vec<Part>, NoMemory>
+    /// Takes the chunk that was asked for of the state bytes of a process that comes, and asks for the next piece.
+    pub(crate) fn take_chunk(
+        &mut self,
+        message: &Message,
+        pid: Pid,
+        chunk: u32,
+        last: bool,
+        bytes: &[u8],
+    ) -> Result<Vec<Part>, NoMemory>
         requires sent { self.old.sent < 4294967295 }
-        requires piece { IsSuch (λ (a : Arrival). IsNextPiece a message.what) (incoming_of (at self.old.records pid)) }
-        ensures { Answers result self.new (bind (incoming_of (at self.old.records pid)) (takes_piece (state_of self.old) message pid)) }
+        requires chunk { IsSuch (λ (a : Arrival). IsNextChunk a pid chunk last bytes.now) (incoming_of (at self.old.records pid)) }
+        ensures { Answers result self.new (bind (incoming_of (at self.old.records pid)) (λ a. took_piece (state_of self.old) message.now pid (Some (with_chunk a chunk last bytes.now)))) }
     {
-        let Message {
-            id,
-            sender,
-            what,
-            ..
-        } = message;
-        match self.records.incoming_mut(pid) {
-            Some(arriving) => {
-                let pull = arriving.take(what);
-                let said = piece_line(id, pid, arriving.wanted());
-                let pull = self.send(sender, pull);
-                self.say_and_route(said, pull)
-            }
-            None => unreachable!(),
-        }
+        let arriving = self.records.incoming_mut(pid).unwrap();
+        let pull = arriving.take_chunk(chunk, last, bytes);
+        let said = piece_line(message.id, pid, arriving.wanted());
+        self.pull(message, said, pull)
+    }
+
+    /// Takes the block that was asked for of the memory of a process that comes, and asks for the next piece.
+    pub(crate) fn take_block(
+        &mut self,
+        message: &Message,
+        pid: Pid,
+        block: u8,
+        bytes: &[u8; 256],
+    ) -> Result<Vec<Part>, NoMemory>
+        requires sent { self.old.sent < 4294967295 }
+        requires block { IsSuch (λ (a : Arrival). (pid ≡ a.pid) × (a.wanted ≡ Wanted.Block block)) (incoming_of (at self.old.records pid)) }
+        ensures { Answers result self.new (bind (incoming_of (at self.old.records pid)) (λ a. took_piece (state_of self.old) message.now pid (Some (with_block a block bytes.now)))) }
+    {
+        let arriving = self.records.incoming_mut(pid).unwrap();
+        let pull = arriving.take_block(block, bytes);
+        let said = piece_line(message.id, pid, arriving.wanted());
+        self.pull(message, said, pull)
+    }
+
+    /// Asks who sent a piece for the next.
+    fn pull(&mut self, message: &Message, said: Line, pull: What) -> Result<Vec<Part>, NoMemory>
+        requires { self.old.sent < 4294967295 }
+        ensures { Answers result self.new (turned (with_sent (state_of self.old)) (Part.Says said ∷ Part.Routes (own (state_of self.old) message.now.sender pull) ∷ [])) }
+    {
+        let pull = self.send(message.sender, pull);
+        self.say_and_route(said, pull)
     }
 
     /// Lets a process go on that has come: it is served, and what was held is handled first.
@@ -135,18 +155,9 @@ impl Kernel {
         requires { IsSuch MayRestart (incoming_of (at self.old.records pid)) }
         ensures { Answers result self.new (bind (incoming_of (at self.old.records pid)) (restarts (state_of self.old) pid)) }
     {
-        let here = self.here;
-        match self
-            .records
-            .swap(pid, Record::Forward { at: here, moves: 0 })
-        {
-            Record::Incoming(arriving) => {
-                let (process, held) = arriving.restart();
-                self.go_on(pid, process, held)?;
-                list_of(self.alloc, [step(Stage::Restarted, pid)])
-            }
-            _ => unreachable!(),
-        }
+        let (process, held) = self.records.take_incoming(pid).restart();
+        self.go_on(pid, process, held)?;
+        list_of(self.alloc, [step(Stage::Restarted, pid)])
     }
 
     /// Sets a process into its place, at the ring's back, and the messages that were held for it before the inbox.
@@ -156,12 +167,12 @@ impl Kernel {
         process: Process,
         held: Vec<Message>,
     ) -> Result<(), NoMemory>
-        requires { IsSome (at self.old.records pid) }
+        requires { HasPlace self.old.records pid }
         ensures { OnOk result (IsIn self.new (record (state_of self.old)
             { records = with_record (at self.old.records) pid (Here process); ring = self.old.ring ++ pid ∷ []; inbox = held.items ++ self.old.inbox })) }
     {
         self.ring.push(pid)?;
-        self.records.put(pid, Record::Here(process));
+        self.records.put_back(pid, Record::Here(process));
         put_before(held, &mut self.inbox)
     }
 }

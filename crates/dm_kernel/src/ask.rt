@@ -19,16 +19,14 @@ impl Kernel {
         ensures { Answers result self.new (asks_move (state_of self.old) pid to) }
     {
         let id = self.own_id();
-        match &self.servers {
-            Some(servers) => match servers.manager.ask_move(pid, to, id) {
-                Ok(message) => {
-                    self.sent += 1;
-                    list_of(self.alloc, [Part::Routes(message)])
-                }
-                Err(MoveNo::Unknown) => self.say(Line::NoChild(pid)),
-                Err(MoveNo::Pinned) => self.say(Line::Pinned(pid)),
-            },
-            None => unreachable!(),
+        let servers = self.servers.as_ref().unwrap();
+        match servers.manager.ask_move(pid, to, id) {
+            Ok(message) => {
+                self.sent += 1;
+                list_of(self.alloc, [Part::Routes(message)])
+            }
+            Err(MoveNo::Unknown) => self.say(Line::NoChild(pid)),
+            Err(MoveNo::Pinned) => self.say(Line::Pinned(pid)),
         }
     }
 }

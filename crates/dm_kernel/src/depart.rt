@@ -7,16 +7,15 @@ ghost use Rattle.dm_onekernel.specs.Options.{bind};
 ghost use Rattle.dm_kernel.specs.Departing.{freezes, gives_piece, holds_leaving, leaves, migrates, stays, takes_step};
 ghost use Rattle.dm_kernel.specs.May.{IsSuch, MayLeave};
 ghost use Rattle.dm_kernel.specs.Meets.{Answers, state_of};
-ghost use Rattle.dm_kernel.specs.Served.{CanFreeze, IsHere, LeavesFor};
+ghost use Rattle.dm_kernel.specs.Served.{CanFreeze, IsHere};
 ghost use Rattle.dm_line.specs.declared.line.Line.TheVariants as line_;
 ghost use Rattle.dm_line.specs.declared.line.Stage.TheVariants as stage_;
 
 use crate::kernel::Kernel;
-use crate::own::kernel_at;
 use crate::part::Part;
-use crate::ring::leave;
+use crate::ring::remove;
 use dm_line::line::{Line, Stage};
-use dm_link::Pid;
+use dm_link::{Addr, Pid};
 use dm_memory::{NoMemory, list_of, push};
 use dm_message::{Message, What};
 use dm_migrate::freeze;
@@ -43,17 +42,18 @@ impl Kernel {
         ensures answers { Answers result self.new (bind (here_of (at self.old.records pid)) (λ x. freezes (state_of self.old) pid x to)) }
         ensures whole { OnOk result (IfSome (here_of (at self.old.records pid)) CanMove) }
     {
-        match self.records.swap(pid, Record::Forward { at: to, moves: 0 }) {
-            Record::Here(process) => match freeze(self.alloc, process, to, None) {
-                Ok((leaving, ask)) => {
-                    self.records.put(pid, Record::Frozen(leaving));
-                    leave(&mut self.ring, pid);
-                    let ask = self.send(kernel_at(to), ask);
-                    self.say_asked(pid, ask)
-                }
-                Err((_, e)) => Err(e),
-            },
-            _ => unreachable!(),
+        let process = self.records.take_here(pid);
+        match freeze(self.alloc, process, to, None) {
+            Ok((leaving, ask)) => {
+                self.records.put_back(pid, Record::Frozen(leaving));
+                remove(&mut self.ring, pid);
+                let ask = self.send(Addr::of_kernel(to), ask);
+                self.say_asked(pid, ask)
+            }
+            Err((process, e)) => {
+                self.records.put_back(pid, Record::Here(process));
+                Err(e)
+            }
         }
     }
 
@@ -74,12 +74,10 @@ impl Kernel {
         ensures { Answers result self.new (bind (frozen_of (at self.old.records message.to.pid)) (λ d. holds_leaving (state_of self.old) message d)) }
     {
         let id = message.id;
-        match self.records.frozen_mut(message.to.pid) {
-            Some(leaving) => match leaving.hold(message) {
-                Ok(()) => self.say(Line::Held(id)),
-                Err((_, e)) => Err(e),
-            },
-            None => unreachable!(),
+        let leaving = self.records.frozen_mut(message.to.pid).unwrap();
+        match leaving.hold(message) {
+            Ok(()) => self.say(Line::Held(id)),
+            Err((_, e)) => Err(e),
         }
     }
 
@@ -88,18 +86,9 @@ impl Kernel {
         requires { IsSome (frozen_of (at self.old.records pid)) }
         ensures { Answers result self.new (bind (frozen_of (at self.old.records pid)) (stays (state_of self.old) pid)) }
     {
-        let here = self.here;
-        match self
-            .records
-            .swap(pid, Record::Forward { at: here, moves: 0 })
-        {
-            Record::Frozen(leaving) => {
-                let (process, held) = leaving.stay();
-                self.go_on(pid, process, held)?;
-                self.say(Line::Stays(pid))
-            }
-            _ => unreachable!(),
-        }
+        let (process, held) = self.records.take_frozen(pid).stay();
+        self.go_on(pid, process, held)?;
+        self.say(Line::Stays(pid))
     }
 
     /// Gives a chunk of the state bytes of a process that leaves.
@@ -114,13 +103,8 @@ impl Kernel {
         ensures { Answers result self.new (bind (frozen_of (at self.old.records pid))
             (λ d. gives_piece (state_of self.old) message.now (chunk_of d.process.pid (state_bytes d.process) chunk))) }
     {
-        match self.records.borrow(pid) {
-            Record::Frozen(leaving) => {
-                let piece = leaving.chunk(chunk);
-                self.give(message, piece)
-            }
-            _ => unreachable!(),
-        }
+        let piece = self.records.frozen(pid).unwrap().chunk(chunk);
+        self.give(message, piece)
     }
 
     /// Gives a block of the memory of a process that leaves.
@@ -135,13 +119,8 @@ impl Kernel {
         ensures { Answers result self.new (bind (frozen_of (at self.old.records pid))
             (λ d. gives_piece (state_of self.old) message.now (block_of d.process.pid d.process.memory block))) }
     {
-        match self.records.borrow(pid) {
-            Record::Frozen(leaving) => {
-                let piece = leaving.block(block);
-                self.give(message, piece)
-            }
-            _ => unreachable!(),
-        }
+        let piece = self.records.frozen(pid).unwrap().block(block);
+        self.give(message, piece)
     }
 
     /// Sends a piece to who asked for it.
@@ -159,34 +138,18 @@ impl Kernel {
         requires process { IsSuch (MayLeave self.old.room) (frozen_of (at self.old.records pid)) }
         ensures { Answers result self.new (bind (frozen_of (at self.old.records pid)) (leaves (state_of self.old) pid)) }
     {
-        match self.records.borrow(pid) {
-            Record::Frozen(leaving) => {
-                let to = leaving.to();
-                let moves = leaving.process().moves + 1;
-                self.leave_for(pid, to, moves)
+        let leaving = self.records.take_frozen(pid);
+        let to = leaving.to();
+        let moves = leaving.process().moves + 1;
+        self.records
+            .put_back(pid, Record::Forward { at: to, moves });
+        self.room.release(leaving.process().memory.blocks());
+        match leaving.forward_all() {
+            Ok(messages) => {
+                let restart = self.send(Addr::of_kernel(to), What::Restart { pid });
+                self.say_left(pid, messages, restart)
             }
-            _ => unreachable!(),
-        }
-    }
-
-    /// Lets a process go to a machine, where it is after so many moves.
-    fn leave_for(&mut self, pid: Pid, to: u8, moves: u32) -> Result<Vec<Part>, NoMemory>
-        requires sent { self.old.sent < 4294967295 }
-        requires process { IsSuch (LeavesFor self.old.room to moves) (frozen_of (at self.old.records pid)) }
-        ensures { Answers result self.new (bind (frozen_of (at self.old.records pid)) (leaves (state_of self.old) pid)) }
-    {
-        match self.records.swap(pid, Record::Forward { at: to, moves }) {
-            Record::Frozen(leaving) => {
-                self.room.release(leaving.process().memory.blocks());
-                match leaving.leave() {
-                    Ok((messages, _)) => {
-                        let restart = self.send(kernel_at(to), What::Restart { pid });
-                        self.say_left(pid, messages, restart)
-                    }
-                    Err((_, e)) => Err(e),
-                }
-            }
-            _ => unreachable!(),
+            Err((_, e)) => Err(e),
         }
     }
 

@@ -48,13 +48,9 @@ impl Kernel {
         ensures { Answers result self.new (bind (here_of (at self.old.records message.now.to.pid))
             (λ x. process_follows (state_of self.old) message.now x about)) }
     {
-        match self.records.here_mut(message.to.pid) {
-            Some(process) => {
-                let count = apply(process, about.pid, about.at, about.moves);
-                self.say_updated(message.id, u32::from(count))
-            }
-            None => unreachable!(),
-        }
+        let process = self.records.here_mut(message.to.pid).unwrap();
+        let count = apply(process, about.pid, about.at, about.moves);
+        self.say_updated(message.id, u32::from(count))
     }
 
     /// Lets the links of the switchboard follow.
@@ -67,13 +63,9 @@ impl Kernel {
         requires few { IfSome self.old.servers (λ v. length v.board.names < 2 ^ 31) }
         ensures { Answers result self.new (bind self.old.servers (λ v. board_follows (state_of self.old) message.now v about)) }
     {
-        match &mut self.servers {
-            Some(servers) => {
-                let count = servers.board.retarget(about.pid, about.at, about.moves);
-                self.say_updated(message.id, count)
-            }
-            None => unreachable!(),
-        }
+        let servers = self.servers.as_mut().unwrap();
+        let count = servers.board.retarget(about.pid, about.at, about.moves);
+        self.say_updated(message.id, count)
     }
 
     /// Lets the addresses of the manager follow.
@@ -86,13 +78,9 @@ impl Kernel {
         requires few { IfSome self.old.servers (λ v. length v.manager.children + length v.manager.pending < 2 ^ 31) }
         ensures { Answers result self.new (bind self.old.servers (λ v. manager_follows (state_of self.old) message.now v about)) }
     {
-        match &mut self.servers {
-            Some(servers) => {
-                let count = servers.manager.retarget(about.pid, about.at, about.moves);
-                self.say_updated(message.id, count)
-            }
-            None => unreachable!(),
-        }
+        let servers = self.servers.as_mut().unwrap();
+        let count = servers.manager.retarget(about.pid, about.at, about.moves);
+        self.say_updated(message.id, count)
     }
 
     /// The one part of a turn in which so many links followed a process.

@@ -15,16 +15,11 @@ ghost use Rattle.dm_kernel.specs.Served.{Handles, IsHere};
 use crate::kernel::Kernel;
 use crate::part::Part;
 use dm_line::line::Line;
-use dm_link::Pid;
+use dm_link::{MANAGER, SWITCHBOARD};
 use dm_memory::NoMemory;
 use dm_message::{Message, What};
 use dm_onekernel::Boot;
 use dm_records::Record;
-
-/// The servers.
-const SWITCHBOARD: Pid = Pid { home: 0, num: 1 };
-
-const MANAGER: Pid = Pid { home: 0, num: 2 };
 
 impl Kernel {
     /// Handles a message for the machine's kernel, a server or a process.
@@ -90,6 +85,7 @@ impl Kernel {
             What::Gone => self.land_piece(&message),
             What::Migrate { machine } => self.migrate(&message, *machine),
             What::Update { about } => self.follow(&message, *about),
+            // No other kind is sent to a process: what a message must fit says so.
             _ => unreachable!(),
         }
     }
@@ -113,6 +109,7 @@ impl Kernel {
             What::Gone => self.drop_message(message),
             What::Migrate { .. } => self.say(Line::NoMove(message.id)),
             What::Update { .. } => self.say_updated(message.id, 0),
+            // No other kind is sent to a process that ends before it comes.
             _ => unreachable!(),
         }
     }

@@ -18,18 +18,16 @@ use crate::kernel::Kernel;
 use crate::part::Part;
 use dm_datamove::answer;
 use dm_line::line::Line;
-use dm_link::{Link, Pid};
+use dm_link::{FIRST_NUMBER, Link, Pid};
 use dm_linktable::Table;
 use dm_memory::{NoMemory, list_of};
 use dm_message::{Message, What};
+use dm_migrate::Ask;
 use dm_onekernel::{Boot, BootImage, Label};
 use dm_process::Process;
 use dm_records::Record;
 use dm_room::Lacks;
 use std::alloc::Global;
-
-/// The number of a machine's first process.
-const FIRST_NUMBER: u32 = 3;
 
 impl Kernel {
     /// Handles a message for the machine's kernel: it makes a process, or lets one leave or come.
@@ -47,20 +45,35 @@ impl Kernel {
             What::Create { image, links } => {
                 self.make(boot, &message, image_of(boot, *image), links.as_slice())
             }
-            What::Ask { .. } => self.answer(boot, &message),
+            What::Ask {
+                pid,
+                blocks,
+                moves,
+                size,
+                asker,
+            } => {
+                let ask = Ask {
+                    pid: *pid,
+                    blocks: *blocks,
+                    moves: *moves,
+                    size: *size,
+                    asker: *asker,
+                };
+                self.answer(boot, &message, ask)
+            }
             What::Refuse { pid, .. } => self.stay(*pid),
             What::PullState { pid, chunk } => self.give_chunk(&message, *pid, *chunk),
-            What::State { pid, .. } => {
-                let pid = *pid;
-                self.take_piece(message, pid)
-            }
+            What::State {
+                pid,
+                chunk,
+                last,
+                bytes,
+            } => self.take_chunk(&message, *pid, *chunk, *last, bytes.as_slice()),
             What::PullBlock { pid, block } => self.give_block(&message, *pid, *block),
-            What::Memory { pid, .. } => {
-                let pid = *pid;
-                self.take_piece(message, pid)
-            }
+            What::Memory { pid, block, bytes } => { self.take_block(&message, *pid, *block, bytes) }
             What::AllTaken { pid } => self.let_go(*pid),
             What::Restart { pid } => self.restart(*pid),
+            // No other kind is sent to a kernel: what a message must fit says so.
             _ => unreachable!(),
         }
     }

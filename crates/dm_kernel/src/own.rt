@@ -1,6 +1,5 @@
 //! The messages that a machine's kernel sends itself.
 ghost use Rattle.std.specs.Prelude.{◌≡◌, ◌<◌, ◌∷◌, [], IfOk};
-ghost use Rattle.dm_linkupdate.specs.Notice.{kernel_at};
 ghost use Rattle.dm_kernel.specs.Meets.{IsIn, state_of};
 ghost use Rattle.dm_kernel.specs.State.{own, own_id, with_sent};
 
@@ -37,7 +36,7 @@ impl Kernel {
         Message {
             id,
             to,
-            sender: kernel_at(self.here),
+            sender: Addr::of_kernel(self.here),
             what,
         }
     }
@@ -47,19 +46,5 @@ impl Kernel {
         ensures { IfOk result (λ parts. parts.items ≡ Part.Says line ∷ Part.Routes message ∷ []) }
     {
         list_of(self.alloc, [Part::Says(line), Part::Routes(message)])
-    }
-}
-
-/// The address of a machine's kernel.
-pub(crate) fn kernel_at(machine: u8) -> Addr
-    ensures { result ≡ kernel_at machine }
-{
-    Addr {
-        pid: Pid {
-            home: machine,
-            num: 0,
-        },
-        at: machine,
-        moves: 0,
     }
 }

@@ -6,7 +6,7 @@ use dm_link::Pid;
 use dm_lists::Queue;
 
 /// Takes a process out of the ring.
-pub fn leave(ring: &mut Queue<Pid>, pid: Pid)
+pub fn remove(ring: &mut Queue<Pid>, pid: Pid)
     ensures { ring.new ≡ without pid ring.old }
 {
     ring.retain(|other| pid != *other);

@@ -17,24 +17,24 @@ use dm_link::Pid;
 use dm_memory::{NoMemory, list_of};
 use dm_message::{Message, MsgId};
 use dm_onekernel::{Label, Why};
-use dm_process::Status;
-use dm_records::Record;
+use dm_process::Service;
 use dm_syscall::{Called, Completed, call, complete_receive};
 
 impl Kernel {
-    /// Serves a process that can be served: it executes, or takes a message that it waits for.
-    pub(crate) fn serve(&mut self, pid: Pid, quantum: u32) -> Result<Vec<Part>, NoMemory>
+    /// Serves a process: it executes, or takes a message that it waits for.
+    pub(crate) fn serve(
+        &mut self,
+        pid: Pid,
+        service: Service,
+        quantum: u32,
+    ) -> Result<Vec<Part>, NoMemory>
         requires here { self.old.here < 16 }
-        requires process { IsHere (Serves (state_of self.old) pid) (at self.old.records pid) }
+        requires process { IsHere (Serves (state_of self.old) pid service) (at self.old.records pid) }
         ensures { Answers result self.new (serves quantum (state_of self.old) pid (at self.old.records pid)) }
     {
-        match self.records.borrow(pid) {
-            Record::Here(process) => match process.status {
-                Status::Ready => self.run(pid, quantum),
-                Status::Waiting { mask, .. } => self.receive(pid, mask),
-                Status::Moving { .. } => unreachable!(),
-            },
-            _ => unreachable!(),
+        match service {
+            Service::Execute => self.run(pid, quantum),
+            Service::Receive { mask, place } => self.receive(pid, mask, place),
         }
     }
 
@@ -45,21 +45,15 @@ impl Kernel {
         ensures { Answers result self.new (bind (here_of (at self.old.records pid)) (λ x. executes (state_of self.old) pid x (ran quantum (processor_of x)))) }
     {
         let here = self.here;
-        match self.records.here_mut(pid) {
-            Some(process) => {
-                let (count, halt) = execute(&mut process.regs, &mut process.memory, quantum);
-                match halt {
-                    Some(halt) => match halt {
-                        Halt::Call(number) => {
-                            let called = call(process, number, here);
-                            self.after_call(pid, count, number, called)
-                        }
-                        Halt::Fault(fault) => self.end(pid, count, Why::Fault(fault)),
-                    },
-                    None => self.say(Line::Label(Label::Ran { pid, count })),
-                }
+        let process = self.records.here_mut(pid).unwrap();
+        let (count, halt) = execute(&mut process.regs, &mut process.memory, quantum);
+        match halt {
+            Some(Halt::Call(number)) => {
+                let called = call(process, number, here);
+                self.after_call(pid, count, number, called)
             }
-            None => unreachable!(),
+            Some(Halt::Fault(fault)) => self.end(pid, count, Why::Fault(fault)),
+            None => self.say(Line::Label(Label::Ran { pid, count })),
         }
     }
 
@@ -110,22 +104,15 @@ impl Kernel {
         )
     }
 
-    /// Lets a process that waits take the first message on its mask, or refuses it one.
-    fn receive(&mut self, pid: Pid, mask: u32) -> Result<Vec<Part>, NoMemory>
-        requires { IsHere (Receives (state_of self.old) pid mask) (at self.old.records pid) }
+    /// Lets a process that waits take the message at a place of its queue, or refuses it that.
+    fn receive(&mut self, pid: Pid, mask: u32, place: usize) -> Result<Vec<Part>, NoMemory>
+        requires { IsHere (Receives (state_of self.old) pid mask place) (at self.old.records pid) }
         ensures { Answers result self.new (bind (here_of (at self.old.records pid)) (λ x. receives (state_of self.old) pid x mask (first_on mask x.queue))) }
     {
-        match self.records.here_mut(pid) {
-            Some(process) => match process.first_match(mask) {
-                Some(place) => {
-                    let id = process.queue.at(place).id;
-                    let completed = complete_receive(process, place);
-                    self.completed(pid, id, completed)
-                }
-                None => unreachable!(),
-            },
-            None => unreachable!(),
-        }
+        let process = self.records.here_mut(pid).unwrap();
+        let id = process.queue.at(place).id;
+        let completed = complete_receive(process, place);
+        self.completed(pid, id, completed)
     }
 
     /// What is said of a receive that a message came to.

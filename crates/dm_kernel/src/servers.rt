@@ -27,9 +27,8 @@ impl Kernel {
         ensures { Answers result self.new (board_handles (state_of self.old) message.now self.old.servers) }
     {
         match &message.what {
-            What::User { .. } => self.take_for_board(message),
             What::Update { about } => self.follow_board(message, *about),
-            _ => unreachable!(),
+            _ => self.take_for_board(message),
         }
     }
 
@@ -39,13 +38,8 @@ impl Kernel {
         requires fits { IsSuch (λ (v : Servers). v.board.sent < 4294967295) self.old.servers }
         ensures { Answers result self.new (bind self.old.servers (λ v. board_took (state_of self.old) message.now v (takes v.board message.now.what))) }
     {
-        match &mut self.servers {
-            Some(servers) => {
-                let took = servers.board.take(message)?;
-                self.took(message.id, took.answer)
-            }
-            None => unreachable!(),
-        }
+        let took = self.servers.as_mut().unwrap().board.take(message)?;
+        self.took(message.id, took.answer)
     }
 
     /// Handles a message for the process manager.
@@ -54,11 +48,8 @@ impl Kernel {
         ensures { Answers result self.new (manager_handles (state_of self.old) message.now self.old.servers) }
     {
         match &message.what {
-            What::User { .. } => self.take_for_manager(message),
-            What::Created { .. } => self.take_for_manager(message),
-            What::NoRoom => self.take_for_manager(message),
             What::Update { about } => self.follow_manager(message, *about),
-            _ => unreachable!(),
+            _ => self.take_for_manager(message),
         }
     }
 
@@ -69,13 +60,8 @@ impl Kernel {
         ensures { Answers result self.new (bind self.old.servers
             (λ v. manager_took (state_of self.old) message.now v (manage.takes v.manager message.now.id.n message.now.what))) }
     {
-        match &mut self.servers {
-            Some(servers) => {
-                let sent = servers.manager.take(message)?;
-                self.took(message.id, sent)
-            }
-            None => unreachable!(),
-        }
+        let sent = self.servers.as_mut().unwrap().manager.take(message)?;
+        self.took(message.id, sent)
     }
 
     /// The parts of a turn in which a server took a message, and may send one.

@@ -12,8 +12,8 @@ ghost use Rattle.dm_kernel.specs.Meets.{Answers, state_of};
 ghost use Rattle.dm_kernel.specs.Served.{AwaitsPiece, HasPlace, IsHere, OwnsPiece};
 ghost use Rattle.dm_kernel.specs.State.{says, turned, with_here};
 
+use crate::ending::drop_all;
 use crate::kernel::Kernel;
-use crate::leave::drop_all;
 use crate::part::Part;
 use dm_datamove::{Landed, gone, land, serve};
 use dm_line::line::Line;
@@ -29,13 +29,9 @@ impl Kernel {
             (λ x. turned (with_here (state_of self.old) message.to.pid (queued x message)) (Part.Says (line_.Queued message.id) ∷ []))) }
     {
         let id = message.id;
-        match self.records.here_mut(message.to.pid) {
-            Some(process) => {
-                process.queue.push(message)?;
-                self.say(Line::Queued(id))
-            }
-            None => unreachable!(),
-        }
+        let process = self.records.here_mut(message.to.pid).unwrap();
+        process.queue.push(message)?;
+        self.say(Line::Queued(id))
     }
 
     /// Stops a process, or lets it go on.
@@ -48,13 +44,9 @@ impl Kernel {
         ensures { Answers result self.new (bind (here_of (at self.old.records message.now.to.pid))
             (λ x. served_as (state_of self.old) message.now (record x { stopped = stopped }))) }
     {
-        match self.records.here_mut(message.to.pid) {
-            Some(process) => {
-                process.stopped = stopped;
-                self.say_served(message.id)
-            }
-            None => unreachable!(),
-        }
+        let process = self.records.here_mut(message.to.pid).unwrap();
+        process.stopped = stopped;
+        self.say_served(message.id)
     }
 
     /// Ends a process that is to be killed.
@@ -76,13 +68,9 @@ impl Kernel {
         ensures { Answers result self.new (bind (here_of (at self.old.records message.now.to.pid)) (λ x. answered (state_of self.old) message.now x)) }
     {
         let here = self.here;
-        match self.records.here_mut(message.to.pid) {
-            Some(process) => {
-                let answer = serve(process, message, here);
-                self.serve_and_route(message.id, answer)
-            }
-            None => unreachable!(),
-        }
+        let process = self.records.here_mut(message.to.pid).unwrap();
+        let answer = serve(process, message, here);
+        self.serve_and_route(message.id, answer)
     }
 
     /// Lands the answer to a piece at the process that asked for it, which may ask for the next one.
@@ -94,12 +82,10 @@ impl Kernel {
             (λ x. lands (state_of self.old) message.now (landing self.old.here x message.now.what x.status))) }
     {
         let here = self.here;
-        match self.records.here_mut(message.to.pid) {
-            Some(process) => match land(process, message, here) {
-                Landed::Next(request) => self.serve_and_route(message.id, request),
-                Landed::Done(_) => self.say_served(message.id),
-            },
-            None => unreachable!(),
+        let process = self.records.here_mut(message.to.pid).unwrap();
+        match land(process, message, here) {
+            Landed::Next(request) => self.serve_and_route(message.id, request),
+            Landed::Done(_) => self.say_served(message.id),
         }
     }
 

@@ -1,12 +1,14 @@
 //! A turn of the machine.
-ghost use Rattle.std.specs.Prelude.{◌≡◌, ◌<◌, [], ◌∷◌, IfOk, IfSome, OnOk, Some, length, slice_get, true};
+ghost use Rattle.std.specs.Prelude.{◌≡◌, ◌<◌, [], ◌∷◌, IfOk, IfSome, OnOk, Some, is_some, length, slice_get, true};
 ghost use Rattle.dm_records.specs.Records.{at};
 ghost use Rattle.dm_records.specs.declared.record.Record.TheVariants.{Here};
 ghost use Rattle.dm_onekernel.specs.Boot.{images_are_valid};
 ghost use Rattle.dm_onekernel.specs.Options.{bind};
+ghost use Rattle.dm_process.specs.Service.{IsServiceOf};
 ghost use Rattle.dm_kernel.specs.Carried.{FreezesWhole};
 ghost use Rattle.dm_kernel.specs.May.{MayAct, MayTurn};
 ghost use Rattle.dm_kernel.specs.Meets.{Answers, state_of};
+ghost use Rattle.dm_kernel.specs.Served.{IsHere};
 ghost use Rattle.dm_kernel.specs.Turn.{first_runnable, goes_round, known_is_runnable, turn};
 
 use crate::kernel::Kernel;
@@ -16,7 +18,7 @@ use dm_line::line::Line;
 use dm_link::Pid;
 use dm_memory::{NoMemory, list_of};
 use dm_onekernel::Boot;
-use dm_records::Record;
+use dm_process::Service;
 
 impl Kernel {
     /// Takes a turn: handles the message at the inbox's front, or serves the first process of the ring that can be
@@ -40,43 +42,41 @@ impl Kernel {
         requires processes { (p : _) (x : _) → at self.old.records p ≡ Some (Here x) → MayAct (state_of self.old) p x }
         ensures { Answers result self.new (goes_round boot.now (state_of self.old) (first_runnable (at self.old.records) self.old.ring)) }
     {
-        match self.first_runnable() {
-            Some(place) => {
+        match self.first_service() {
+            Some((place, service)) => {
                 let pid = *self.ring.at(place);
                 move_back(&mut self.ring, place);
-                self.serve(pid, boot.quantum)
+                self.serve(pid, service, boot.quantum)
             }
             None => self.say(Line::Idle(self.here)),
         }
     }
 
-    /// The place in the ring of the first process that can be served.
-    fn first_runnable(&self) -> Option<usize>
-        ensures within { IfSome result (λ i. i < length self.now.ring) }
-        ensures first { bind result (λ i. slice_get self.now.ring i) ≡ first_runnable (at self.now.records) self.now.ring }
-        ensures runnable { IfSome result (λ i. IfSome (slice_get self.now.ring i) (λ p. known_is_runnable (at self.now.records p) ≡ true)) }
+    /// The place in the ring of the first process that can be served, and what it does then.
+    fn first_service(&mut self) -> Option<(usize, Service)>
+        ensures unchanged { state_of self.new ≡ state_of self.old }
+        ensures within { IfSome result (λ s. s.0 < length self.new.ring) }
+        ensures first { bind result (λ s. slice_get self.new.ring s.0) ≡ first_runnable (at self.new.records) self.new.ring }
+        ensures service { IfSome result (λ s. IfSome (slice_get self.new.ring s.0) (λ p. IsHere (λ x. IsServiceOf x s.1) (at self.new.records p))) }
     {
         for place in 0..self.ring.len() {
-            if self.is_runnable(*self.ring.at(place)) {
-                return Some(place);
+            let pid = *self.ring.at(place);
+            if let Some(service) = self.service_of(pid) {
+                return Some((place, service));
             }
         }
         None
     }
 
-    /// Whether a process is here and can be served.
-    fn is_runnable(&self, pid: Pid) -> bool
-        ensures { result ≡ known_is_runnable (at self.now.records pid) }
+    /// What a process does where it is served now; nothing where it isn't here, or can't be served.
+    fn service_of(&mut self, pid: Pid) -> Option<Service>
+        ensures unchanged { state_of self.new ≡ state_of self.old }
+        ensures runnable { is_some result ≡ known_is_runnable (at self.new.records pid) }
+        ensures service { IfSome result (λ s. IsHere (λ x. IsServiceOf x s) (at self.new.records pid)) }
     {
-        match self.records.get(pid) {
-            Some(entry) => match entry {
-                Record::Here(process) => process.runnable(),
-                Record::Frozen(_) => false,
-                Record::Incoming(_) => false,
-                Record::Forward { .. } => false,
-                Record::Ended(_) => false,
-            },
-            None => false,
+        match self.records.here_mut(pid) {
+            Some(process) => process.service(),
+            None => None,
         }
     }
 

@@ -3,7 +3,11 @@ use Rattle.std.specs.Prelude.{ℕ, Bool, nat_lt, ◌&&◌, if◌then◌else◌}
 use Rattle.dm_link.specs.declared.Pid.{Pid}
 use Rattle.dm_link.specs.declared.Addr.{Addr}
 use Rattle.dm_link.specs.declared.Link.{Link}
-use Rattle.dm_link.specs.Names.{pid_eq}
+use Rattle.dm_link.specs.Names.{pid_eq, pid_of}
+
+-- the address of the kernel of a machine
+abbrev pub kernel_at : ℕ → Addr
+kernel_at machine = record { pid = pid_of machine 0; at = machine; moves = 0 }
 
 -- the address of the same process at another place
 abbrev pub relocated : ℕ → ℕ → Addr → Addr

@@ -2,8 +2,23 @@
 #![tactic(auto)]
 
 ghost use Rattle.std.specs.Prelude.{◌≡◌, IsTrue, ◌↔◌};
-ghost use Rattle.dm_link.specs.Places.{is_behind, relocated, relocated_link, retargeted, retargeted_link};
+ghost use Rattle.dm_link.specs.Places.{is_behind, kernel_at, relocated, relocated_link, retargeted, retargeted_link};
 ghost use Rattle.dm_link.specs.Plain.{PlainLink, plain_link};
+
+/// How many machines a system has at most; they are numbered from 0.
+pub const MACHINES: u8 = 16;
+
+/// The number of the first process that a machine makes.
+pub const FIRST_NUMBER: u32 = 3;
+
+/// The switchboard (1977), on machine 0.
+pub const SWITCHBOARD: Pid = Pid { home: 0, num: 1 };
+
+/// The process manager (1977), on machine 0.
+pub const MANAGER: Pid = Pid { home: 0, num: 2 };
+
+/// The greatest channel; they are numbered from 0.
+pub const LAST_CHANNEL: u8 = 31;
 
 /// The name of a process: the machine that made it, and its number there. It never changes.
 ///
@@ -68,6 +83,20 @@ pub trait Placeless {
 }
 
 impl Addr {
+    /// Where the kernel of a machine is, which never moves.
+    pub fn of_kernel(machine: u8) -> Addr
+        ensures { result ≡ kernel_at machine }
+    {
+        Addr {
+            pid: Pid {
+                home: machine,
+                num: 0,
+            },
+            at: machine,
+            moves: 0,
+        }
+    }
+
     /// Follows the process to a machine where the address knows fewer moves of it than these; whether it did.
     pub fn retarget(&mut self, about: Pid, at: u8, moves: u32) -> bool
         ensures addr { self.new ≡ retargeted about at moves self.old }

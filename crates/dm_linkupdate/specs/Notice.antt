@@ -1,8 +1,8 @@
 -- Whom a machine tells that it has sent a message on, and what.
 use Rattle.std.specs.Prelude.{◌≡◌, ℕ, Bool, true, false}
-use Rattle.dm_link.specs.declared.Addr.{Addr}
 use Rattle.dm_link.specs.Names.{pid_of}
 use Rattle.dm_link.specs.Places.{relocated}
+pub use Rattle.dm_link.specs.Places.{kernel_at}
 use Rattle.dm_message.specs.declared.Message.{Message}
 use Rattle.dm_message.specs.declared.MsgId.{MsgId}
 use Rattle.dm_message.specs.declared.What.TheVariants.{Update}
@@ -37,10 +37,6 @@ has_update kind.Move = true
 has_update kind.Moved = false
 has_update kind.CallOff = false
 has_update kind.Bury = false
-
--- a machine's kernel never moves
-abbrev pub kernel_at : ℕ → Addr
-kernel_at machine = record { pid = pid_of machine 0; at = machine; moves = 0 }
 
 -- a name of a message that machine here's kernel sends
 abbrev pub IsOwn : ℕ → MsgId → Type 0

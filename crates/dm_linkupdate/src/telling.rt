@@ -5,7 +5,7 @@ ghost use Rattle.dm_message.specs.Lawful.{IsLawfulMessage};
 ghost use Rattle.dm_link.specs.Lawful.{IsMachine};
 ghost use Rattle.dm_linkupdate.specs.Notice.{has_update as kind_has_update, update_of, IsOwn};
 
-use dm_link::{Addr, Pid};
+use dm_link::Addr;
 use dm_message::{Message, MessageKind, MsgId, What};
 
 /// Whether the sender of a message of this kind is told where it was sent on to.
@@ -52,15 +52,10 @@ pub fn notice(message: &Message, id: MsgId, here: u8, new_at: u8, new_moves: u32
     if !has_update(message.what.kind()) {
         return None;
     }
-    let kernel = Pid { home: here, num: 0 };
     Some(Message {
         id,
         to: message.sender,
-        sender: Addr {
-            pid: kernel,
-            at: here,
-            moves: 0,
-        },
+        sender: Addr::of_kernel(here),
         what: What::Update {
             about: Addr {
                 pid: message.to.pid,

@@ -23,11 +23,20 @@ pub struct MsgId {
     pub answer: bool,
 }
 
-/// The bytes of a message, at most 256 (64 in format 1).
-pub type Body = ArrayVec<u8, 256>;
+/// The most bytes of a message's body; in format 1 a process sends at most 64.
+pub const MOST_BODY: usize = 256;
 
-/// The links that a user message encloses, at most 4.
-pub type Enclosed = ArrayVec<Link, 4>;
+/// The most links that a message encloses.
+pub const MOST_LINKS: usize = 4;
+
+/// The most bytes of a chunk of state bytes; only the last chunk of a process may have fewer.
+pub const CHUNK: usize = 512;
+
+/// The bytes of a message.
+pub type Body = ArrayVec<u8, MOST_BODY>;
+
+/// The links that a user message encloses.
+pub type Enclosed = ArrayVec<Link, MOST_LINKS>;
 
 /// A message, with the addresses of its receiver and its sender.
 #[derive(Drop)]
@@ -114,7 +123,7 @@ pub enum What {
         pid: Pid,
         chunk: u32,
         last: bool,
-        bytes: ArrayVec<u8, 512>,
+        bytes: ArrayVec<u8, CHUNK>,
     },
     PullBlock {
         pid: Pid,

@@ -1,10 +1,11 @@
 //! The answer to a process that asks to come.
 ghost use Rattle.std.specs.Prelude.{◌≡◌, ◌⊎◌, ◌≤◌, ◌<◌, IfOk};
-ghost use Rattle.dm_migrate.specs.Answer.{Answers, IsAskOfProcess};
+ghost use Rattle.dm_migrate.specs.Answer.{AnswersFor};
 
 use crate::arriving::{Arriving, expect};
+use dm_link::Pid;
 use dm_memory::NoMemory;
-use dm_message::What;
+use dm_message::{Asker, What};
 use dm_room::{Lacks, Room};
 use std::alloc::Global;
 
@@ -19,43 +20,48 @@ pub enum Asked {
     NoMemory(NoMemory),
 }
 
+/// What a process that asks to come says of itself.
+#[derive(Clone, Copy, Debug, PartialEq, Eq)]
+pub struct Ask {
+    pub pid: Pid,
+    /// Of its memory.
+    pub blocks: u16,
+    /// How often it has moved before.
+    pub moves: u32,
+    /// How many state bytes it has.
+    pub size: u32,
+    /// Who waits to hear how the move ends.
+    pub asker: Option<Asker>,
+}
+
 /// Whether a process may come to a machine with this room and with tables of `cap` slots. It takes all the memory that
 /// the process needs here.
-pub fn answer_ask(alloc: Global, ask: &What, room: &mut Room, cap: u8) -> Asked
-    requires ask { IsAskOfProcess ask.now }
+pub fn answer_ask(alloc: Global, ask: Ask, room: &mut Room, cap: u8) -> Asked
+    requires least { 1 ≤ ask.blocks }
+    requires most { ask.blocks ≤ 256 }
+    requires moves { ask.moves < 4294967295 }
     requires cap { (cap ≡ 32) ⊎ (cap ≡ 128) }
-    ensures { Answers ask.now cap room.old room.new result }
+    ensures { AnswersFor ask.pid ask.blocks ask.moves ask.size ask.asker cap room.old room.new result }
 {
-    match ask {
-        What::Ask {
-            pid,
-            blocks,
-            moves,
-            size,
-            asker,
-        } => {
-            if let Err(lacks) = room.reserve(*blocks) {
-                let refuse = What::Refuse {
-                    pid: *pid,
-                    free_slots: lacks.free_slots,
-                    free_blocks: lacks.free_blocks,
-                };
-                return Asked::Refused(refuse, lacks);
-            }
-            match expect(alloc, *pid, *blocks, *moves, *size, *asker, cap) {
-                Ok(arriving) => Asked::Accepted(
-                    arriving,
-                    What::PullState {
-                        pid: *pid,
-                        chunk: 0,
-                    },
-                ),
-                Err(none) => {
-                    room.release(*blocks);
-                    Asked::NoMemory(none)
-                },
-            }
-        },
-        _ => unreachable!(),
+    if let Err(lacks) = room.reserve(ask.blocks) {
+        let refuse = What::Refuse {
+            pid: ask.pid,
+            free_slots: lacks.free_slots,
+            free_blocks: lacks.free_blocks,
+        };
+        return Asked::Refused(refuse, lacks);
+    }
+    match expect(alloc, ask, cap) {
+        Ok(arriving) => Asked::Accepted(
+            arriving,
+            What::PullState {
+                pid: ask.pid,
+                chunk: 0,
+            },
+        ),
+        Err(none) => {
+            room.release(ask.blocks);
+            Asked::NoMemory(none)
+        }
     }
 }

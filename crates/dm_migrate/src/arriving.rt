@@ -2,14 +2,13 @@
 ghost use Rattle.std.specs.Prelude.{◌≡◌, ◌⊎◌, ◌+◌, ◌*◌, ◌<◌, ◌≤◌, ◌++◌, ◌∷◌, [], IfErr, IfOk, Ok, OnErr, OnOk, Some, length, map, take, drop};
 ghost use Rattle.dm_statebytes.specs.Shell.{shell_of_bytes};
 ghost use Rattle.dm_process.specs.Lawful.{IsLawfulProcess};
-ghost use Rattle.dm_migrate.specs.Arrival.{IsNextChunk, IsNextPiece, after_block, after_chunk, expected, pull, restarted, revived, with_block, with_chunk, with_held, with_piece};
+ghost use Rattle.dm_migrate.specs.Arrival.{IsNextChunk, after_block, after_chunk, expected, pull, restarted, revived, with_block, with_chunk, with_held};
 
-use crate::leaving::CHUNK;
+use crate::answer::Ask;
 use dm_link::Pid;
-use dm_lists::Queue;
 use dm_memory::{NoMemory, push_or_return, zeros};
-use dm_message::{Asker, Message, What};
-use dm_process::Process;
+use dm_message::{Asker, CHUNK, Message, What};
+use dm_process::{Mailbox, Process};
 use dm_processor::Memory;
 use dm_statebytes::{Shell, unpack};
 use std::alloc::Global;
@@ -73,29 +72,21 @@ impl Model for Arriving {
 }
 
 /// Makes room for a process that is to come, with nothing of it yet.
-pub(crate) fn expect(
-    alloc: Global,
-    pid: Pid,
-    blocks: u16,
-    moves: u32,
-    size: u32,
-    asker: Option<Asker>,
-    cap: u8,
-) -> Result<Arriving, NoMemory>
-    requires least { 1 ≤ blocks }
-    requires most { blocks ≤ 256 }
-    requires moves { moves < 4294967295 }
-    requires size { size ≤ 3201 }
+pub(crate) fn expect(alloc: Global, ask: Ask, cap: u8) -> Result<Arriving, NoMemory>
+    requires least { 1 ≤ ask.blocks }
+    requires most { ask.blocks ≤ 256 }
+    requires moves { ask.moves < 4294967295 }
+    requires size { ask.size ≤ 3201 }
     requires cap { (cap ≡ 32) ⊎ (cap ≡ 128) }
-    ensures { IfOk result (λ a. a ≡ expected pid blocks moves size asker cap) }
+    ensures { IfOk result (λ a. a ≡ expected ask.pid ask.blocks ask.moves ask.size ask.asker cap) }
 {
     Ok(Arriving {
-        pid,
-        moves,
-        asker,
+        pid: ask.pid,
+        moves: ask.moves,
+        asker: ask.asker,
         cap,
-        state: zeros(alloc, size)?,
-        memory: Memory::from_image(alloc, &[], blocks)?,
+        state: zeros(alloc, ask.size)?,
+        memory: Memory::from_image(alloc, &[], ask.blocks)?,
         wanted: Wanted::Chunk(0),
         held: Vec::new(alloc),
         alloc,
@@ -151,10 +142,7 @@ impl Arriving {
         ensures exact { shell_of_bytes self.now.state self.now.cap ≡ Ok result }
         ensures process { restarted self.now ≡ Some (revived result self.now.memory) }
     {
-        match unpack(&self.state, self.cap) {
-            Ok(shell) => shell,
-            Err(_) => unreachable!(),
-        }
+        unpack(&self.state, self.cap).unwrap()
     }
 
     /// Its memory, where all has come.
@@ -165,22 +153,23 @@ impl Arriving {
         &self.memory
     }
 
-    /// Takes the piece that was asked for, and asks for the next, or says that all has come. It takes no memory.
-    pub fn take(&mut self, piece: What) -> What
-        requires { IsNextPiece self.old piece }
-        ensures after { with_piece self.old piece ≡ Some self.new }
+    /// Takes the chunk that was asked for; asks for the next piece. It takes no memory.
+    pub fn take_chunk(&mut self, chunk: u32, last: bool, bytes: &[u8]) -> What
+        requires { IsNextChunk self.old self.old.pid chunk last bytes.now }
+        ensures after { self.new ≡ with_chunk self.old chunk last bytes.now }
         ensures pull { result ≡ pull self.new.pid self.new.wanted }
     {
-        match piece {
-            What::State {
-                chunk,
-                last,
-                bytes,
-                ..
-            } => self.take_chunk(chunk, last, &bytes),
-            What::Memory { block, bytes, .. } => self.take_block(block, &bytes),
-            _ => unreachable!(),
-        }
+        self.put_chunk(chunk, last, bytes);
+        self.pull()
+    }
+
+    /// Takes the block that was asked for; asks for the next, or says that all has come. It takes no memory.
+    pub fn take_block(&mut self, block: u8, bytes: &[u8; 256]) -> What
+        requires { self.old.wanted ≡ Wanted.Block block }
+        ensures after { self.new ≡ with_block self.old block bytes.now }
+        ensures pull { result ≡ pull self.new.pid self.new.wanted }
+    {
+        self.put_block(block, bytes);
         self.pull()
     }
 
@@ -208,10 +197,8 @@ impl Arriving {
             alloc,
             ..
         } = self;
-        match unpack(&state, cap) {
-            Ok(shell) => (revive(alloc, shell, memory), held),
-            Err(_) => unreachable!(),
-        }
+        let shell = unpack(&state, cap).unwrap();
+        (revive(alloc, shell, memory), held)
     }
 
     /// Asks for the piece that is to come next.
@@ -227,7 +214,7 @@ impl Arriving {
     }
 
     /// Takes the chunk that was asked for.
-    fn take_chunk(&mut self, chunk: u32, last: bool, bytes: &[u8])
+    fn put_chunk(&mut self, chunk: u32, last: bool, bytes: &[u8])
         requires { IsNextChunk self.old self.old.pid chunk last bytes.now }
         ensures { self.new ≡ with_chunk self.old chunk last bytes.now }
     {
@@ -236,7 +223,7 @@ impl Arriving {
     }
 
     /// Takes the block that was asked for.
-    fn take_block(&mut self, block: u8, bytes: &[u8; 256])
+    fn put_block(&mut self, block: u8, bytes: &[u8; 256])
         requires { self.old.wanted ≡ Wanted.Block block }
         ensures { self.new ≡ with_block self.old block bytes.now }
     {
@@ -284,7 +271,7 @@ fn revive(alloc: Global, shell: Shell, memory: Memory) -> Process
         stopped: shell.stopped,
         sent: shell.sent,
         moves: shell.moves + 1,
-        queue: Queue::new(alloc),
+        queue: Mailbox::new(alloc),
     }
 }
 

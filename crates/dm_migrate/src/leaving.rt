@@ -11,16 +11,12 @@ ghost use Rattle.dm_migrate.specs.Pieces.{HasBlock, HasChunk, block_of, chunk_by
 
 use arrayvec::ArrayVec;
 use dm_link::Placeless;
-use dm_lists::Queue;
 use dm_memory::{NoMemory, push_or_return};
-use dm_message::{Asker, Message, What};
-use dm_process::Process;
+use dm_message::{Asker, CHUNK, Message, What};
+use dm_process::{Mailbox, Process};
 use dm_statebytes::pack;
 use std::alloc::Global;
 use std::marker::Model;
-
-/// How many state bytes a chunk has; the last one may have fewer.
-pub(crate) const CHUNK: usize = 512;
 
 /// A process that is frozen until it has gone, or stays.
 #[derive(Drop)]
@@ -149,16 +145,20 @@ impl Leaving {
         push_or_return(&mut self.held, message)
     }
 
-    /// It has gone: what goes on to it, its queue and then what was held, and the machine that it has gone to. Where there
-    /// is no memory it is handed back.
-    pub fn leave(self) -> Result<(Vec<Message>, u8), (Leaving, NoMemory)>
-        ensures messages { IfOk result (λ r. r.0.items ≡ all_sent_on self) }
-        ensures plain { IfOk result (λ r. map plain_message r.0.items ≡ map plain_message (self.process.queue ++ self.held)) }
-        ensures to { IfOk result (λ r. r.1 ≡ self.to) }
-        ensures lawful { IsMachine self.to → All IsLawfulMessage self.held → IfOk result (λ r. All IsLawfulMessage r.0.items) }
+    /// It has gone: the messages that go on to it, its queue and then what was held. Where there is no memory it is
+    /// handed back.
+    pub fn forward_all(self) -> Result<Vec<Message>, (Leaving, NoMemory)>
+        ensures messages { IfOk result (λ r. r.items ≡ all_sent_on self) }
+        ensures plain { IfOk result (λ r. map plain_message r.items ≡ map plain_message (self.process.queue ++ self.held)) }
+        ensures lawful { IsMachine self.to → All IsLawfulMessage self.held → IfOk result (λ r. All IsLawfulMessage r.items) }
         ensures returned { IfErr result (λ e. e.0 ≡ self) }
     {
-        let mut messages = match self.process.queue.room_with(self.alloc, &self.held) {
+        let mut messages = match self
+            .process
+            .queue
+            .messages()
+            .room_with(self.alloc, &self.held)
+        {
             Ok(messages) => messages,
             Err(none) => return Err((self, none)),
         };
@@ -171,7 +171,7 @@ impl Leaving {
         let Process { queue, moves, .. } = process;
         send_queue(&mut messages, queue, to, moves + 1);
         send_held(&mut messages, held, to, moves + 1);
-        Ok((messages, to))
+        Ok(messages)
     }
 
     /// It stays: the process as it was, and what was held.
@@ -186,7 +186,7 @@ impl Leaving {
 }
 
 /// The bytes of a chunk of state bytes.
-fn chunk_at(state: &[u8], k: usize) -> ArrayVec<u8, 512>
+fn chunk_at(state: &[u8], k: usize) -> ArrayVec<u8, CHUNK>
     requires { HasChunk state.now k }
     ensures { result.items ≡ chunk_bytes state.now k }
 {
@@ -197,13 +197,13 @@ fn chunk_at(state: &[u8], k: usize) -> ArrayVec<u8, 512>
 }
 
 /// Adds the messages of a queue, which go on to a machine, where there is room for them.
-fn send_queue(messages: &mut Vec<Message>, queue: Queue<Message>, to: u8, moves: u32)
+fn send_queue(messages: &mut Vec<Message>, queue: Mailbox, to: u8, moves: u32)
     requires room { vec_len messages.old + length queue ≤ vec_capacity messages.old }
     ensures items { messages.new.items ≡ messages.old.items ++ map (sent_on to moves) queue }
     ensures len { vec_len messages.new ≡ vec_len messages.old + length queue }
     ensures capacity { vec_capacity messages.old ≤ vec_capacity messages.new }
 {
-    let mut queue = queue;
+    let mut queue = queue.into_queue();
     while let Some(message) = queue.pop() {
         send_on(messages, message, to, moves);
     }
@@ -229,8 +229,5 @@ fn send_on(messages: &mut Vec<Message>, mut message: Message, to: u8, moves: u32
     ensures capacity { vec_capacity messages.old ≤ vec_capacity messages.new }
 {
     message.relocate(to, moves);
-    match messages.push(message) {
-        Ok(()) => (),
-        Err(_) => unreachable!(),
-    }
+    messages.push_reserved(message);
 }

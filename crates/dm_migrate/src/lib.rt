@@ -6,7 +6,7 @@ pub mod arriving;
 mod laws;
 pub mod leaving;
 
-pub use answer::{Asked, answer_ask};
+pub use answer::{Ask, Asked, answer_ask};
 pub use arriving::{Arriving, Wanted};
 pub use dm_memory::NoMemory;
 pub use laws::{arrives_whole, can_move, comes_by_pieces};

@@ -13,10 +13,7 @@ use dm_line::line::Line;
 use dm_memory::NoMemory;
 use dm_message::Message;
 use dm_packet::Packet;
-use dm_stream::Arrived;
-
-/// At most so many messages are taken or let go at once.
-const WINDOW: usize = 8;
+use dm_stream::{Arrived, WINDOW};
 
 impl Node {
     /// Takes what a packet from another machine carries. A message is taken if it is the next, with those behind it

@@ -8,14 +8,12 @@ ghost use Rattle.dm_node.specs.State.{opened};
 
 use crate::node::Node;
 use dm_kernel::Kernel;
+use dm_link::MACHINES;
 use dm_memory::{NoMemory, push};
 use dm_message::Message;
 use dm_onekernel::Boot;
 use dm_stream::{Receiver, Sender};
 use std::alloc::Global;
-
-/// A machine has a stream to each of so many machines, and one from each.
-const MACHINES: usize = 16;
 
 impl Node {
     /// Machine `here` as the boot file has it: nothing was sent yet.

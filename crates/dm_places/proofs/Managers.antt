@@ -24,7 +24,8 @@ use Rattle.dm_onekernel.specs.Service as service
 use Rattle.dm_onekernel.specs.Switchboard.{goes_over}
 use Rattle.dm_procman.specs.declared.pending.Pending.{Pending}
 use Rattle.dm_procman.specs.Managing.{Managing, plain_child, plain_manager, plain_pending}
-use Rattle.dm_procman.specs.Making.{answer_over, kernel, message_to}
+use Rattle.dm_link.specs.Places.{kernel_at as kernel}
+use Rattle.dm_procman.specs.Making.{answer_over, message_to}
 use Rattle.dm_procman.specs.Taking as take
 use Rattle.dm_procman.specs.Taking.{Taken, child_numbered, pending_numbered}
 use Rattle.dm_procman.proofs.Plain.{plain_numbered, plain_push}

@@ -3,3 +3,4 @@ pub mod Directions
 pub mod Lawful
 pub mod Mail
 pub mod Process
+pub mod Service

@@ -1,5 +1,5 @@
 -- Which message a waiting process takes.
-use Rattle.std.specs.Prelude.{ℕ, ◌/◌, ◌%◌, ◌^◌, Bool, false, ◌==◌, ◌&&◌, nat_lt, if◌then◌else◌, List, [], ◌∷◌}
+use Rattle.std.specs.Prelude.{◌≡◌, ◌≤◌, ℕ, ◌/◌, ◌%◌, ◌^◌, Bool, false, ◌==◌, ◌&&◌, nat_lt, if◌then◌else◌, List, [], ◌∷◌, length, take}
 use Rattle.std.specs.declared.option.Option.{Option}
 use Rattle.std.specs.declared.option.Option.TheVariants.{None, Some}
 use Rattle.dm_message.specs.declared.Message.{Message}
@@ -51,3 +51,8 @@ first_on mask (m ∷ ms) = if is_on mask m then Some m else first_on mask ms
 abbrev pub without_first_on : ℕ → List Message → List Message
 without_first_on mask [] = []
 without_first_on mask (m ∷ ms) = if is_on mask m then ms else m ∷ without_first_on mask ms
+
+-- so many messages from the front on aren't on the mask
+pub record HasPassed (mask n : ℕ) (ms : List Message) : Type 0 where
+  pub within : n ≤ length ms
+  pub none : first_on mask (take n ms) ≡ None

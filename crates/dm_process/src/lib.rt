@@ -1,7 +1,9 @@
 //! Processes: registers, memory, links, and the messages that wait for them.
 #![tactic(auto)]
 
+pub mod mailbox;
 pub mod process;
 
 pub use dm_memory::NoMemory;
-pub use process::{Direction, Process, Status};
+pub use mailbox::Mailbox;
+pub use process::{Direction, Process, Service, Status};

@@ -1,15 +1,14 @@
 //! A process.
-ghost use Rattle.std.specs.Prelude.{◌≡◌, ◌*◌, ◌-◌, ◌≤◌, ◌<◌, ◌++◌, ◌∷◌, [], IfErr, IfOk, IfNone, IfSome, OnErr, OnOk, Some, None, length, remove, replicate, slice_get};
+ghost use Rattle.std.specs.Prelude.{◌≡◌, ◌*◌, ◌-◌, ◌≤◌, ◌++◌, IfOk, IfSome, is_some, length, replicate};
 ghost use Rattle.dm_process.specs.Begun.{begun};
-ghost use Rattle.dm_process.specs.Mail.{first_on, is_on, on_mask, without_first_on};
 ghost use Rattle.dm_process.specs.Directions.{direction_numbered, number_of_direction};
 ghost use Rattle.dm_process.specs.Process.{is_runnable};
+ghost use Rattle.dm_process.specs.Service.{IsServiceOf};
 
+use crate::mailbox::Mailbox;
 use dm_link::{Addr, Pid};
 use dm_linktable::Table;
-use dm_lists::Queue;
 use dm_memory::NoMemory;
-use dm_message::{Message, What};
 use dm_processor::{Memory, Regs};
 use std::alloc::Global;
 
@@ -35,6 +34,15 @@ pub enum Status {
         left: u32,
         pending: u32,
     },
+}
+
+/// What a process does where it is served.
+#[derive(Clone, Copy, Debug, PartialEq, Eq)]
+pub enum Service {
+    /// It executes instructions.
+    Execute,
+    /// It takes the message at a place of its queue, the first on a channel of the mask.
+    Receive { mask: u32, place: usize },
 }
 
 /// Which way a data move goes.
@@ -84,7 +92,7 @@ pub struct Process {
     /// How often it has moved.
     pub moves: u32,
     /// The messages that it has not received yet, in the order in which they came.
-    pub queue: Queue<Message>,
+    pub queue: Mailbox,
 }
 
 impl Process {
@@ -111,60 +119,26 @@ impl Process {
             stopped: false,
             sent: 0,
             moves: 0,
-            queue: Queue::new(alloc),
+            queue: Mailbox::new(alloc),
         })
     }
 
-    /// Whether it can be served.
-    pub fn runnable(&self) -> bool
-        ensures { result ≡ is_runnable self.now }
+    /// What it does where it is served now; nothing where it can't be served.
+    pub fn service(&mut self) -> Option<Service>
+        ensures unchanged { self.new ≡ self.old }
+        ensures runnable { is_some result ≡ is_runnable self.old }
+        ensures service { IfSome result (IsServiceOf self.old) }
     {
-        !self.stopped
-            && match self.status {
-                Status::Ready => true,
-                Status::Waiting { mask, .. } => self.first_match(mask).is_some(),
-                Status::Moving { .. } => false,
-            }
-    }
-
-    /// Puts a message at the back of its queue, or hands it back.
-    pub fn enqueue(&mut self, message: Message) -> Result<(), (Message, NoMemory)>
-        ensures ok { OnOk result (self.new ≡ record self.old { queue = self.old.queue ++ message ∷ [] }) }
-        ensures err { OnErr result (self.new ≡ self.old) }
-        ensures returned { IfErr result (λ e. e.0 ≡ message) }
-    {
-        self.queue.push_or_return(message)
-    }
-
-    /// The place of the first message of its queue that is on a channel of the mask.
-    pub fn first_match(&self, mask: u32) -> Option<usize>
-        ensures none { IfNone result (first_on mask self.now.queue ≡ None) }
-        ensures within { IfSome result (λ i. i < length self.now.queue) }
-        ensures first { IfSome result (λ i. slice_get self.now.queue i ≡ first_on mask self.now.queue) }
-        ensures rest { IfSome result (λ i. remove self.now.queue i ≡ without_first_on mask self.now.queue) }
-    {
-        for place in 0..self.queue.len() {
-            if is_on(self.queue.at(place), mask) {
-                return Some(place);
-            }
+        if self.stopped {
+            return None;
         }
-        None
-    }
-}
-
-/// Whether a channel is one of the mask's.
-fn on_mask(mask: u32, channel: u8) -> bool
-    ensures { result ≡ on_mask mask channel }
-{
-    channel < 32 && (mask >> channel) % 2 == 1
-}
-
-/// Whether it is a user message on a channel of the mask.
-fn is_on(message: &Message, mask: u32) -> bool
-    ensures { result ≡ is_on mask message.now }
-{
-    match &message.what {
-        What::User { channel, .. } => on_mask(mask, *channel),
-        _ => false,
+        match self.status {
+            Status::Ready => Some(Service::Execute),
+            Status::Waiting { mask, .. } => match self.queue.first_match(mask) {
+                Some(place) => Some(Service::Receive { mask, place }),
+                None => None,
+            },
+            Status::Moving { .. } => None,
+        }
     }
 }

@@ -9,8 +9,11 @@ use dm_memory::{NoMemory, repeated};
 use std::alloc::Global;
 use std::marker::Model;
 
-/// How many bytes a block has.
-const BLOCK: usize = 256;
+/// How many bytes a block of memory has.
+pub const BLOCK: usize = 256;
+
+/// The most bytes of a memory: 256 blocks.
+pub const MOST_MEMORY: u32 = 65_536;
 
 /// The memory of a process: 1 to 256 blocks of 256 bytes.
 #[derive(Drop)]

@@ -11,7 +11,7 @@ mod operations;
 mod registers;
 mod storage;
 
-pub use blocks::Memory;
+pub use blocks::{BLOCK, MOST_MEMORY, Memory};
 pub use dm_memory::NoMemory;
 pub use flat_bytes::Flat;
 pub use laws::{instructions_keep_lengths, instructions_keep_ranges, words_spell_their_bytes};

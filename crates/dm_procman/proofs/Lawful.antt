@@ -29,7 +29,8 @@ use Rattle.dm_procman.specs.declared.moving.MoveNo.TheVariants as no
 use Rattle.dm_procman.specs.declared.pending.Pending.{Pending}
 use Rattle.dm_procman.specs.Lawful.{IsLawfulManager, IsLawfulPending}
 use Rattle.dm_procman.specs.Managing.{Managing, at_home, child_of, retargeted_manager, retargeted_pending, starting}
-use Rattle.dm_procman.specs.Making.{answer_over, control_link, kernel, message_to}
+use Rattle.dm_procman.specs.Making.{answer_over, control_link, message_to}
+use Rattle.dm_link.specs.Places.{kernel_at as kernel}
 use Rattle.dm_procman.specs.Moving.{child_named, moves_child, tells_to_move}
 use Rattle.dm_procman.specs.Taking.{Taken, answers, asks_for, bad_request, child_numbered, controls, controls_child, pending_numbered, requests, sends, settled, takes, takes_created, takes_no_room, takes_user, wants_child, with_pending, without_pending}
 use Rattle.dm_procman.proofs.Hearing.{IsHeard, IsUser, IsCreated, IsNoRoom}

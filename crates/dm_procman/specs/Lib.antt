@@ -1,5 +1,6 @@
 pub mod Managing
 pub mod Making
+pub mod Controls
 pub mod Taking
 pub mod Moving
 pub mod Named

@@ -3,7 +3,6 @@ use Rattle.std.specs.Prelude.{ℕ, false, List, [], ◌∷◌}
 use Rattle.dm_link.specs.declared.Addr.{Addr}
 use Rattle.dm_link.specs.declared.Kind.TheVariants as kind
 use Rattle.dm_link.specs.declared.Link.{Link}
-use Rattle.dm_link.specs.Names.{pid_of}
 use Rattle.dm_message.specs.declared.Message.{Message}
 use Rattle.dm_message.specs.declared.What.{What}
 use Rattle.dm_message.specs.declared.What.TheVariants as what
@@ -13,10 +12,6 @@ use Rattle.dm_onekernel.specs.Boot.{manager}
 -- where the manager is
 abbrev pub address : Addr
 address = record { pid = manager; at = 0; moves = 0 }
-
--- where the kernel of a machine is
-abbrev pub kernel : ℕ → Addr
-kernel machine = record { pid = pid_of machine 0; at = machine; moves = 0 }
 
 -- message number n to a process or a kernel
 abbrev pub message_to : ℕ → Addr → What → Message

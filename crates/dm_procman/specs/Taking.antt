@@ -5,12 +5,13 @@ use Rattle.std.specs.declared.option.Option.TheVariants.{None, Some}
 use Rattle.dm_link.specs.declared.Pid.{Pid}
 use Rattle.dm_link.specs.declared.Addr.{Addr}
 use Rattle.dm_link.specs.declared.Link.{Link}
+use Rattle.dm_link.specs.Places.{kernel_at}
 use Rattle.dm_message.specs.declared.Message.{Message}
 use Rattle.dm_message.specs.declared.What.{What}
 use Rattle.dm_message.specs.declared.What.TheVariants as what
 use Rattle.dm_procman.specs.declared.pending.Pending.{Pending}
 use Rattle.dm_procman.specs.Managing.{Managing, at_home}
-use Rattle.dm_procman.specs.Making.{answer_over, control_link, kernel, message_to}
+use Rattle.dm_procman.specs.Making.{answer_over, control_link, message_to}
 
 -- the manager after a message, and what it sends
 pub record Taken : Type 0 where
@@ -36,7 +37,7 @@ with_pending g r = record g { pending = g.pending ++ r ∷ [] }
 
 abbrev pub asks_for : Managing → ℕ → ℕ → Link → List Link → Taken
 asks_for g machine image answer links =
-    sends (with_pending g (record { n = g.sent; answer = answer })) (message_to g.sent (kernel machine) (what.Create image (record { items = links })))
+    sends (with_pending g (record { n = g.sent; answer = answer })) (message_to g.sent (kernel_at machine) (what.Create image (record { items = links })))
 
 -- over a link with code 0: the bytes 1, machine, image (two bytes), and links, the first for the answer, up to three more
 -- for the child

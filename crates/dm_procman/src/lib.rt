@@ -130,6 +130,7 @@ impl ProcMan {
             } => self.take_user(*code, body.as_slice(), links.as_slice()),
             What::Created { pid } => self.take_created(number, *pid),
             What::NoRoom => Ok(Some(self.take_no_room(number))),
+            // No other kind is for the manager: `row` says so.
             _ => unreachable!(),
         }
     }
@@ -167,7 +168,7 @@ impl ProcMan {
             at: pid.home,
             moves: 0,
         };
-        push(&mut self.children, child)?;
+        self.children.push(child)?;
         let request = take_pending(&mut self.pending, number);
         let control = control_link(self.children.len() as u32);
         Ok(Some(self.answer(&request.answer, 0, &[control])))

@@ -1,30 +1,16 @@
 //! The messages of the process manager.
 ghost use Rattle.std.specs.Prelude.{◌≡◌, ◌≤◌, length};
-ghost use Rattle.dm_procman.specs.Making.{answer_over, control_link, kernel, message_to};
+ghost use Rattle.dm_procman.specs.Making.{answer_over, control_link, message_to};
 
-use dm_link::{Addr, Area, Kind, Link, Pid};
+use dm_link::{Addr, Area, Kind, Link, MANAGER};
 use dm_message::{Body, Enclosed, Message, MsgId, What};
 
 /// Where the manager is.
 pub const ADDRESS: Addr = Addr {
-    pid: Pid { home: 0, num: 2 },
+    pid: MANAGER,
     at: 0,
     moves: 0,
 };
-
-/// Where the kernel of a machine is.
-pub fn kernel(machine: u8) -> Addr
-    ensures { result ≡ kernel machine }
-{
-    Addr {
-        pid: Pid {
-            home: machine,
-            num: 0,
-        },
-        at: machine,
-        moves: 0,
-    }
-}
 
 /// The manager's message of this number to a process or a kernel.
 pub fn message_to(number: u32, to: Addr, what: What) -> Message

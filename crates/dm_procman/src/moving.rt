@@ -7,7 +7,7 @@ ghost use Rattle.dm_procman.specs.Moving.{moves_child};
 use crate::Pending;
 use crate::children::Children;
 use crate::making::ADDRESS;
-use dm_link::{Addr, Pid};
+use dm_link::{Addr, MANAGER, Pid, SWITCHBOARD};
 use dm_message::{Message, MsgId, What};
 use thiserror::Error;
 
@@ -20,14 +20,11 @@ pub enum MoveNo {
     Pinned,
 }
 
-/// The switchboard.
-const SWITCHBOARD: Pid = Pid { home: 0, num: 1 };
-
 /// The message that tells a child to move to machine `to`, under the name `id`.
 pub fn move_child(children: &Children, pid: Pid, to: u8, id: MsgId) -> Result<Message, MoveNo>
     ensures { result ≡ moves_child children.now pid to id }
 {
-    if pid == SWITCHBOARD || pid == ADDRESS.pid {
+    if pid == SWITCHBOARD || pid == MANAGER {
         return Err(MoveNo::Pinned);
     }
     match children.named(pid) {

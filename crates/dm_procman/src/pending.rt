@@ -26,8 +26,6 @@ pub fn take_pending(pending: &mut Vec<Pending>, number: u32) -> Pending
     ensures request { pending_numbered number pending.old.items ≡ Some result }
     ensures others { pending.new.items ≡ without_pending number pending.old.items }
 {
-    match place_of(pending.as_slice(), number) {
-        Some(place) => pending.remove(place),
-        None => unreachable!(),
-    }
+    let place = place_of(pending.as_slice(), number).unwrap();
+    pending.remove(place)
 }

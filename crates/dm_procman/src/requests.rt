@@ -1,36 +1,52 @@
 //! Requests of processes: that one be made, that a child be stopped, resumed or killed.
-ghost use Rattle.std.specs.Prelude.{◌≡◌, ◌<◌, ◌≤◌, ◌*◌, ◌+◌, ◌&&◌, IfOk, None, OnErr, Some, length};
+ghost use Rattle.std.specs.Prelude.{◌≡◌, ◌<◌, ◌≤◌, ◌*◌, ◌+◌, ◌&&◌, IfOk, None, OnErr, Some, length, option_map};
 ghost use Rattle.dm_procman.specs.Taking.{answers, asks_for, bad_request, child_numbered, control_of, controls, requests, sends, wants_child};
+ghost use Rattle.dm_procman.specs.Controls.{what_of};
 ghost use Rattle.dm_procman.specs.Making.{message_to};
 
-use crate::making::{answer_over, kernel, message_to};
+use crate::making::{answer_over, message_to};
 use crate::{Pending, ProcMan};
 use arrayvec::ArrayVec;
 use dm_link::{Addr, Link};
 use dm_memory::{NoMemory, push};
 use dm_message::{Message, What};
 
-/// The operations, the first byte of a request: over a link with code 0, and over one to a child.
+/// The first byte of a request over a link with code 0: a process is to be made.
 const CREATE: u8 = 1;
-
-const STOP: u8 = 2;
-
-const RESUME: u8 = 3;
-
-const KILL: u8 = 4;
 
 /// What a bad request is answered.
 const BAD_REQUEST: u8 = 2;
 
-/// What an operation does to a child.
-fn control_of(operation: u8) -> Option<What>
-    ensures { result ≡ control_of operation }
-{
-    match operation {
-        STOP => Some(What::Stop),
-        RESUME => Some(What::Resume),
-        KILL => Some(What::Kill),
-        _ => None,
+/// What is done to a child.
+#[derive(Clone, Copy, Debug, PartialEq, Eq)]
+enum Control {
+    Stop,
+    Resume,
+    Kill,
+}
+
+impl Control {
+    /// What the one byte of a request over a link to a child asks for.
+    fn from_byte(byte: u8) -> Option<Control>
+        ensures { option_map what_of result ≡ control_of byte }
+    {
+        match byte {
+            2 => Some(Control::Stop),
+            3 => Some(Control::Resume),
+            4 => Some(Control::Kill),
+            _ => None,
+        }
+    }
+
+    /// What the child's kernel is told.
+    fn what(self) -> What
+        ensures { result ≡ what_of self }
+    {
+        match self {
+            Control::Stop => What::Stop,
+            Control::Resume => What::Resume,
+            Control::Kill => What::Kill,
+        }
     }
 }
 
@@ -130,7 +146,7 @@ impl ProcMan {
         };
         push(&mut self.pending, pending)?;
         Ok(self.send(
-            kernel(machine),
+            Addr::of_kernel(machine),
             What::Create {
                 image,
                 links: enclosed,
@@ -149,8 +165,8 @@ impl ProcMan {
         let [operation] = body else {
             return self.bad_request(links);
         };
-        match control_of(*operation) {
-            Some(what) => Some(self.send(child, what)),
+        match Control::from_byte(*operation) {
+            Some(control) => Some(self.send(child, control.what())),
             None => self.bad_request(links),
         }
     }

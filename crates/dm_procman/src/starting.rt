@@ -19,7 +19,7 @@ pub fn children_of(alloc: Global, boot: &Boot) -> Result<Children, NoMemory>
             at: process.pid.home,
             moves: 0,
         };
-        push(&mut children, child)?;
+        children.push(child)?;
     }
     Ok(children)
 }

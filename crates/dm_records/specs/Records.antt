@@ -11,13 +11,26 @@ use Rattle.dm_records.specs.declared.record.Whereabouts.{Whereabouts}
 use Rattle.dm_records.specs.declared.record.Whereabouts.TheVariants as where_
 use Rattle.dm_records.specs.declared.records.Records.{Records}
 
+-- what stands in a place, where there is one
+abbrev pub in_place : {R : Type 0} → Option (Option R) → Option R
+in_place None = None
+in_place (Some entry) = entry
+
 -- the record of a process
 unfoldable pub at : {H L A E : Type 0} → Records H L A E → Pid → Option (Record H L A E)
-at records q = get pid_cmp records.map q
+at records q = in_place (get pid_cmp records.places q)
+
+-- a process has a place, with its record or without
+unfoldable pub HasPlace : {H L A E : Type 0} → Records H L A E → Pid → Type 0
+HasPlace records q = IsSome (get pid_cmp records.places q)
 
 -- the records with that of p set
 abbrev pub with_record : {H L A E : Type 0} → (Pid → Option (Record H L A E)) → Pid → Record H L A E → Pid → Option (Record H L A E)
 with_record records p entry q = if pid_eq p q then Some entry else records q
+
+-- the records without that of p
+abbrev pub without_record : {H L A E : Type 0} → (Pid → Option (Record H L A E)) → Pid → Pid → Option (Record H L A E)
+without_record records p q = if pid_eq p q then None else records q
 
 -- where a record says that its process is
 abbrev pub whereabouts_of : {H L A E : Type 0} → Record H L A E → Whereabouts

@@ -1,7 +1,7 @@
 //! What a machine knows of one process.
 ghost use Rattle.std.specs.Prelude.{◌≡◌};
 ghost use Rattle.std.specs.Borrow.{sem};
-ghost use Rattle.std.specs.Option.{option_copied_mut};
+ghost use Rattle.std.specs.Option.{option_copied, option_copied_mut};
 ghost use Rattle.dm_records.specs.Lent.{LendsArriving, LendsLeaving, LendsProcess};
 ghost use Rattle.dm_records.specs.Records.{arriving_of, leaving_of, process_of, whereabouts_of};
 
@@ -77,6 +77,70 @@ impl<H, L, A, E> Record<H, L, A, E> {
     pub fn incoming_mut(&mut self) -> Option<&mut A>
         ensures* writes_back { sem 𝓛 (LendsArriving H.row L.row A.row E.row self.entry result) }
         ensures value { option_copied_mut result ≡ arriving_of self.old }
+    {
+        match self {
+            Record::Here(_) => None,
+            Record::Frozen(_) => None,
+            Record::Incoming(arriving) => Some(arriving),
+            Record::Forward { .. } => None,
+            Record::Ended(_) => None,
+        }
+    }
+
+    /// The process, if it leaves.
+    pub fn frozen(&self) -> Option<&L>
+        ensures { option_copied result ≡ leaving_of self.now }
+    {
+        match self {
+            Record::Here(_) => None,
+            Record::Frozen(leaving) => Some(leaving),
+            Record::Incoming(_) => None,
+            Record::Forward { .. } => None,
+            Record::Ended(_) => None,
+        }
+    }
+
+    /// The process, if it is here.
+    pub fn into_here(self) -> Option<H>
+    where
+        L: Drop,
+        A: Drop,
+        E: Drop,
+        ensures { result ≡ process_of self }
+    {
+        match self {
+            Record::Here(process) => Some(process),
+            Record::Frozen(_) => None,
+            Record::Incoming(_) => None,
+            Record::Forward { .. } => None,
+            Record::Ended(_) => None,
+        }
+    }
+
+    /// The process, if it leaves.
+    pub fn into_frozen(self) -> Option<L>
+    where
+        H: Drop,
+        A: Drop,
+        E: Drop,
+        ensures { result ≡ leaving_of self }
+    {
+        match self {
+            Record::Here(_) => None,
+            Record::Frozen(leaving) => Some(leaving),
+            Record::Incoming(_) => None,
+            Record::Forward { .. } => None,
+            Record::Ended(_) => None,
+        }
+    }
+
+    /// What has come of the process, if parts have come.
+    pub fn into_incoming(self) -> Option<A>
+    where
+        H: Drop,
+        L: Drop,
+        E: Drop,
+        ensures { result ≡ arriving_of self }
     {
         match self {
             Record::Here(_) => None,

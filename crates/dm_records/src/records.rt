@@ -4,7 +4,7 @@ ghost use Rattle.std.specs.Borrow.{sem};
 ghost use Rattle.std.specs.Option.{option_copied, option_copied_mut};
 ghost use Rattle.dm_link.specs.declared.Pid.{Pid};
 ghost use Rattle.dm_records.specs.Lent.{LendsFrozen, LendsHere, LendsIncoming, LendsRecord};
-ghost use Rattle.dm_records.specs.Records.{at, frozen_of, here_of, incoming_of, whereabouts_of, with_record, Grows};
+ghost use Rattle.dm_records.specs.Records.{HasPlace, Grows, at, frozen_of, here_of, incoming_of, whereabouts_of, with_record, without_record};
 
 use crate::record::{Record, Whereabouts};
 use dm_link::Pid;
@@ -12,20 +12,22 @@ use dm_memory::{NoMemory, insert_or_return};
 use std::alloc::Global;
 use std::collections::BTreeMap;
 
-/// What a machine knows of processes. A record once made never goes, and only making one takes memory.
+/// What a machine knows of processes. A record once made never goes, and only making one takes memory. A record can be
+/// taken out; its process keeps a place meanwhile, so it can be put back.
 #[derive(Drop)]
 pub struct Records<H, L, A, E> {
-    map: BTreeMap<Pid, Record<H, L, A, E>>,
+    /// A place for each process that ever had a record; it is empty while that is taken out.
+    places: BTreeMap<Pid, Option<Record<H, L, A, E>>>,
 }
 
-#[tactic(auto, unfolding(crate::specs::Records::at))]
+#[tactic(auto, unfolding(crate::specs::Records::at, crate::specs::Records::HasPlace))]
 impl<H, L, A, E> Records<H, L, A, E> {
     /// No records.
     pub fn new(alloc: Global) -> Self
         ensures { (q : Pid) → at result q ≡ None }
     {
         Records {
-            map: BTreeMap::new(alloc),
+            places: BTreeMap::new(alloc),
         }
     }
 
@@ -34,7 +36,7 @@ impl<H, L, A, E> Records<H, L, A, E> {
         ensures place { result ≡ option_map whereabouts_of (at self.now pid) }
         ensures known { IsSome result ↔ IsSome (at self.now pid) }
     {
-        match self.map.get(&pid) {
+        match self.get(pid) {
             Some(record) => Some(record.whereabouts()),
             None => None,
         }
@@ -44,7 +46,10 @@ impl<H, L, A, E> Records<H, L, A, E> {
     pub fn get(&self, pid: Pid) -> Option<&Record<H, L, A, E>>
         ensures { option_copied result ≡ at self.now pid }
     {
-        self.map.get(&pid)
+        match self.places.get(&pid) {
+            Some(place) => place.as_ref(),
+            None => None,
+        }
     }
 
     /// The record of a process that has one.
@@ -52,7 +57,17 @@ impl<H, L, A, E> Records<H, L, A, E> {
         requires { IsSome (at self.now pid) }
         ensures { at self.now pid ≡ Some result.now }
     {
-        self.map.get(&pid).unwrap()
+        self.get(pid).unwrap()
+    }
+
+    /// A process that leaves.
+    pub fn frozen(&self, pid: Pid) -> Option<&L>
+        ensures { option_copied result ≡ frozen_of (at self.now pid) }
+    {
+        match self.get(pid) {
+            Some(record) => record.frozen(),
+            None => None,
+        }
     }
 
     /// Sets the record of a process, or hands it back; it can't fail where there is one.
@@ -72,34 +87,75 @@ impl<H, L, A, E> Records<H, L, A, E> {
         ensures absent { OnErr result (at self.old pid ≡ None) }
         ensures grows { Grows (at self.old) (at self.new) }
     {
-        match insert_or_return(&mut self.map, pid, entry) {
+        match insert_or_return(&mut self.places, pid, Some(entry)) {
             Ok(_) => Ok(()),
-            Err(((_, entry), no)) => Err((entry, no)),
+            Err(((_, place), no)) => Err((place.unwrap(), no)),
         }
     }
 
-    /// Puts another record in the place of a process's.
-    pub fn swap(&mut self, pid: Pid, entry: Record<H, L, A, E>) -> Record<H, L, A, E>
+    /// Takes out the record of a process.
+    pub fn take(&mut self, pid: Pid) -> Record<H, L, A, E>
         requires { IsSome (at self.old pid) }
         ensures before { at self.old pid ≡ Some result }
-        ensures after { (q : Pid) → at self.new q ≡ with_record (at self.old) pid entry q }
-        ensures grows { Grows (at self.old) (at self.new) }
+        ensures after { (q : Pid) → at self.new q ≡ without_record (at self.old) pid q }
+        ensures place { HasPlace self.new pid }
     {
-        std::mem::replace(self.get_mut(pid).unwrap(), entry)
+        self.places.get_mut(&pid).unwrap().take().unwrap()
     }
 
-    /// Puts another record in the place of a process's, and lets that go.
-    pub fn put(&mut self, pid: Pid, entry: Record<H, L, A, E>)
+    /// Puts a record into the place of a process whose record was taken out.
+    pub fn put_back(&mut self, pid: Pid, entry: Record<H, L, A, E>)
     where
         H: Drop,
         L: Drop,
         A: Drop,
         E: Drop,
-        requires { IsSome (at self.old pid) }
-        ensures after { (q : Pid) → at self.new q ≡ with_record (at self.old) pid entry q }
-        ensures grows { Grows (at self.old) (at self.new) }
+        requires { HasPlace self.old pid }
+        ensures { (q : Pid) → at self.new q ≡ with_record (at self.old) pid entry q }
     {
-        self.swap(pid, entry);
+        *self.places.get_mut(&pid).unwrap() = Some(entry);
+    }
+
+    /// Takes out a process that is here.
+    pub fn take_here(&mut self, pid: Pid) -> H
+    where
+        L: Drop,
+        A: Drop,
+        E: Drop,
+        requires { IsSome (here_of (at self.old pid)) }
+        ensures before { here_of (at self.old pid) ≡ Some result }
+        ensures after { (q : Pid) → at self.new q ≡ without_record (at self.old) pid q }
+        ensures place { HasPlace self.new pid }
+    {
+        self.take(pid).into_here().unwrap()
+    }
+
+    /// Takes out a process that leaves.
+    pub fn take_frozen(&mut self, pid: Pid) -> L
+    where
+        H: Drop,
+        A: Drop,
+        E: Drop,
+        requires { IsSome (frozen_of (at self.old pid)) }
+        ensures before { frozen_of (at self.old pid) ≡ Some result }
+        ensures after { (q : Pid) → at self.new q ≡ without_record (at self.old) pid q }
+        ensures place { HasPlace self.new pid }
+    {
+        self.take(pid).into_frozen().unwrap()
+    }
+
+    /// Takes out what has come of a process.
+    pub fn take_incoming(&mut self, pid: Pid) -> A
+    where
+        H: Drop,
+        L: Drop,
+        E: Drop,
+        requires { IsSome (incoming_of (at self.old pid)) }
+        ensures before { incoming_of (at self.old pid) ≡ Some result }
+        ensures after { (q : Pid) → at self.new q ≡ without_record (at self.old) pid q }
+        ensures place { HasPlace self.new pid }
+    {
+        self.take(pid).into_incoming().unwrap()
     }
 
     /// The record of a process, for writing.
@@ -107,7 +163,10 @@ impl<H, L, A, E> Records<H, L, A, E> {
         ensures* writes_back { sem 𝓛 (LendsRecord H.row L.row A.row E.row self.entry pid result) }
         ensures value { option_copied_mut result ≡ at self.old pid }
     {
-        self.map.get_mut(&pid)
+        match self.places.get_mut(&pid) {
+            Some(place) => place.as_mut(),
+            None => None,
+        }
     }
 
     /// A process that is here, for writing.

@@ -3,6 +3,7 @@ ghost use Rattle.std.specs.Prelude.{IfOk, OnSome, length, replicate, ◌+◌, �
 ghost use Rattle.circular_buffer.specs.Buffer.{buffer};
 ghost use Rattle.dm_stream.specs.Receiving.{kept_once, once};
 
+use crate::sender::WINDOW;
 use circular_buffer::HeapCircularBuffer;
 use dm_memory::NoMemory;
 use dm_memory::of_circular_buffer::ring;
@@ -10,7 +11,7 @@ use std::alloc::Global;
 use std::marker::Model;
 
 /// Messages are kept from the next number on, as many as a sender may have outstanding.
-const PLACES: usize = 8;
+const PLACES: usize = WINDOW as usize;
 
 /// What an arrival is.
 #[derive(Debug, Drop)]
@@ -68,10 +69,7 @@ fn keep_once<M: Drop>(ring: &mut HeapCircularBuffer<Option<M>>, place: usize, me
     requires { place < length ring.old.items }
     ensures { ring.new ≡ buffer (kept_once ring.old.items place message) ring.old.capacity }
 {
-    match ring.get_mut(place) {
-        Some(held) => put_once(held, message),
-        None => unreachable!(),
-    }
+    put_once(ring.get_mut(place).unwrap(), message);
 }
 
 impl<M: Drop> Receiver<M> {

@@ -9,8 +9,8 @@ use std::collections::VecDeque;
 use std::marker::Model;
 use thiserror::Error;
 
-/// At most so many messages have gone out and aren't acknowledged yet.
-const WINDOW: u32 = 8;
+/// At most so many messages of a stream have gone out and aren't acknowledged yet.
+pub const WINDOW: u32 = 8;
 
 /// Why a message wasn't given. It is handed back.
 #[derive(Debug, Drop, Error)]

@@ -1,5 +1,6 @@
 pub mod Board
 pub mod Following
+pub mod Operations
 pub mod Taking
 pub mod Plainly
 pub mod Lawful

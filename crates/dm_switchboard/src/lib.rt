@@ -97,6 +97,7 @@ impl Switchboard {
     {
         match &message.what {
             What::User { body, links, .. } => self.take_request(body.as_slice(), links.as_slice()),
+            // No other kind is for the switchboard: `user` says so.
             _ => unreachable!(),
         }
     }

@@ -2,12 +2,12 @@
 ghost use Rattle.std.specs.Prelude.{◌≡◌};
 ghost use Rattle.dm_switchboard.specs.Taking.{answer_over, code_of_reply, links_of_reply};
 
-use dm_link::{Addr, Link, Pid};
+use dm_link::{Addr, Link, SWITCHBOARD};
 use dm_message::{Body, Enclosed, Message, MsgId, What};
 
 /// Where the switchboard is.
 const ADDRESS: Addr = Addr {
-    pid: Pid { home: 0, num: 1 },
+    pid: SWITCHBOARD,
     at: 0,
     moves: 0,
 };

@@ -1,4 +1,5 @@
 pub mod Calls
+pub mod Numbers
 pub mod Sends
 pub mod Plainly
 pub mod Completing

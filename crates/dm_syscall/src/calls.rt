@@ -8,28 +8,12 @@ ghost use Rattle.dm_syscall.specs.Plainly.{IsLawfulCalled, plain_called};
 
 use crate::Called;
 use crate::links::{copy, drop_link, make};
+use crate::number::Call;
 use crate::send::send;
 use crate::transfer::transfer;
 use dm_onekernel::{Reply, Why};
 use dm_process::{Process, Status};
 use dm_processor::{Cells, Memory};
-
-/// The numbers of the calls.
-const EXIT: u8 = 1;
-
-const OUT: u8 = 2;
-
-const MAKE: u8 = 3;
-
-const COPY: u8 = 4;
-
-const DROP: u8 = 5;
-
-const SEND: u8 = 6;
-
-const RECEIVE: u8 = 7;
-
-const MOVE: u8 = 8;
 
 /// Does the call with a number for a process on machine `here`, whose program counter is past the instruction.
 pub fn call(process: &mut Process, number: u8, here: u8) -> Called
@@ -54,16 +38,16 @@ fn dispatch(process: &mut Process, number: u8, here: u8) -> Called
     ensures called { result ≡ (calls here process.old number).called }
     ensures process { process.new ≡ (calls here process.old number).process }
 {
-    match number {
-        EXIT => Called::Ended(Why::Exit),
-        OUT => out(process),
-        MAKE => make(process, here),
-        COPY => copy(process),
-        DROP => drop_link(process),
-        SEND => send(process, here),
-        RECEIVE => receive(process),
-        MOVE => transfer(process, here),
-        _ => Called::Ended(Why::UnknownCall),
+    match Call::from_number(number) {
+        Some(Call::Exit) => Called::Ended(Why::Exit),
+        Some(Call::Out) => out(process),
+        Some(Call::Make) => make(process, here),
+        Some(Call::Copy) => copy(process),
+        Some(Call::Drop) => drop_link(process),
+        Some(Call::Send) => send(process, here),
+        Some(Call::Receive) => receive(process),
+        Some(Call::Move) => transfer(process, here),
+        None => Called::Ended(Why::UnknownCall),
     }
 }
 

@@ -3,6 +3,7 @@
 
 mod calls;
 mod links;
+mod number;
 mod receive;
 mod send;
 mod transfer;

@@ -10,7 +10,7 @@ ghost use Rattle.dm_syscall.specs.Calls.{copies, drops, makes, own_link, puts_li
 use crate::Called;
 use crate::calls::{ends_outside, reply};
 use dm_datamove::address_of;
-use dm_link::{Area, Kind, Link};
+use dm_link::{Area, Kind, LAST_CHANNEL, Link};
 use dm_linktable::Table;
 use dm_onekernel::Reply;
 use dm_process::Process;
@@ -21,9 +21,6 @@ const REPLY: u32 = 1;
 const READ: u32 = 2;
 
 const WRITE: u32 = 4;
-
-/// The greatest channel.
-const LAST_CHANNEL: u32 = 31;
 
 /// The link in a slot, if there is one.
 pub fn link_in(table: &Table, slot: u32) -> Option<Link>
@@ -81,7 +78,7 @@ fn make_refusal(process: &Process) -> Option<Reply>
     let [_, _, channel, flags, base, len, ..] = process.regs.r;
     if flags > REPLY + READ + WRITE {
         Some(Reply::BadKind)
-    } else if channel > LAST_CHANNEL || ends_outside(&process.memory, base, len) {
+    } else if channel > u32::from(LAST_CHANNEL) || ends_outside(&process.memory, base, len) {
         Some(Reply::BadRange)
     } else {
         None

@@ -45,6 +45,7 @@ fn complete_waiting(process: &mut Process, place: usize) -> Completed
 {
     match process.status {
         Status::Waiting { base, cap, .. } => complete(process, place, base, cap),
+        // Only a process that waits awaits a message: `awaited` says so.
         _ => unreachable!(),
     }
 }
@@ -81,6 +82,7 @@ fn complete(process: &mut Process, place: usize, base: u32, cap: u32) -> Complet
                 },
             }
         },
+        // Only user messages are on a channel: `awaited` says so.
         _ => unreachable!(),
     }
 }

@@ -15,12 +15,9 @@ use crate::links::{empty_slot, link_in};
 use dm_datamove::{address_of, body_at};
 use dm_link::{Kind, Link};
 use dm_linktable::Table;
-use dm_message::{Body, Enclosed, Message, MsgId, What};
+use dm_message::{Body, Enclosed, MOST_LINKS, Message, MsgId, What};
 use dm_onekernel::Reply;
 use dm_process::Process;
-
-/// The most links that a message encloses.
-const MOST_LINKS: u32 = 4;
 
 /// Sends a body of r3 bytes at r2, with the links of the r4 slots whose numbers stand at r5, over the link in slot r1.
 pub fn send(process: &mut Process, here: u8) -> Called
@@ -51,7 +48,7 @@ fn send_refusal(process: &Process) -> Option<Reply>
     ensures list_within { IfNone result (reg process.now.regs 5 + reg process.now.regs 4 ≤ length process.now.memory) }
 {
     let [_, carrier, base, len, count, list, ..] = process.regs.r;
-    if len > most_body(&process.table) || count > MOST_LINKS {
+    if len > most_body(&process.table) || count > MOST_LINKS as u32 {
         Some(Reply::TooLong)
     } else if ends_outside(&process.memory, base, len)
         || ends_outside(&process.memory, list, count)

@@ -6,11 +6,10 @@ ghost use Rattle.dm_line.specs.declared.end_line.EndLine.TheVariants as end;
 ghost use Rattle.dm_world.specs.Ends.{MayEnd, held_for, held_line, homes_with, names_of};
 ghost use Rattle.dm_world.specs.Meets.{IsWorld, state_of};
 
-use crate::end_lines::FIRST_NUMBER;
 use crate::end_messages::ids_of_held;
 use crate::world::World;
 use dm_line::end_line::EndLine;
-use dm_link::Pid;
+use dm_link::{FIRST_NUMBER, Pid};
 use dm_memory::{NoMemory, push};
 use dm_message::Message;
 use dm_node::Node;

@@ -13,16 +13,13 @@ use crate::end_process::{say_alive, say_arriving};
 use crate::end_servers::say_servers;
 use crate::world::World;
 use dm_line::end_line::{EndLine, Standing};
-use dm_link::Pid;
+use dm_link::{FIRST_NUMBER, Pid};
 use dm_lists::Queue;
 use dm_memory::{NoMemory, push};
 use dm_message::Message;
 use dm_node::Node;
 use dm_records::Record;
 use std::alloc::Global;
-
-/// The number of the first process that a machine makes.
-pub(crate) const FIRST_NUMBER: u32 = 3;
 
 impl World {
     /// The lines at the end of a run: where everything stands then.
@@ -259,11 +256,11 @@ fn say_known_queue(node: &Node, pid: Pid, lines: &mut Vec<EndLine>) -> Result<bo
 {
     match node.kernel().records().get(pid) {
         Some(Record::Here(process)) => {
-            say_messages(node.alloc(), pid, &process.queue, lines)?;
+            say_messages(node.alloc(), pid, process.queue.messages(), lines)?;
             Ok(true)
         }
         Some(Record::Frozen(leaving)) => {
-            say_messages(node.alloc(), pid, &leaving.process().queue, lines)?;
+            say_messages(node.alloc(), pid, leaving.process().queue.messages(), lines)?;
             Ok(true)
         }
         _ => Ok(false),

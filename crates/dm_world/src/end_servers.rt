@@ -8,16 +8,11 @@ ghost use Rattle.dm_world.specs.Ends.{HasPlainEnd, child_lines, name_lines, pend
 use arrayvec::ArrayVec;
 use dm_kernel::Kernel;
 use dm_line::end_line::EndLine;
-use dm_link::{Addr, Link, Pid};
+use dm_link::{Addr, Link, MANAGER, Pid, SWITCHBOARD};
 use dm_memory::{NoMemory, push};
 use dm_message::MsgId;
 use dm_procman::Pending;
 use dm_switchboard::Switchboard;
-
-/// The switchboard and the process manager.
-const SWITCHBOARD: Pid = Pid { home: 0, num: 1 };
-
-const MANAGER: Pid = Pid { home: 0, num: 2 };
 
 /// The lines of the servers, where they are.
 pub fn say_servers(kernel: &Kernel, lines: &mut Vec<EndLine>) -> Result<(), NoMemory>

@@ -258,10 +258,7 @@ fn read(wires: &Wire, a: u8, b: u8, k: u64) -> Option<Packet>
     ensures { option_map packet_of (bytes_at (packets_on wires.now a b) k) ≡ option_map Ok result }
 {
     match wires.packet(a, b, k) {
-        Some(bytes) => match decode(bytes) {
-            Ok(packet) => Some(packet),
-            Err(_) => unreachable!(),
-        },
+        Some(bytes) => Some(decode(bytes).unwrap()),
         None => None,
     }
 }

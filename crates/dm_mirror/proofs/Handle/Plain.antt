@@ -14,7 +14,7 @@ use Rattle.dm_onekernel.specs.Options.{bind}
 use Rattle.dm_switchboard.specs.Board.{Board}
 use Rattle.dm_switchboard.specs.Taking as board
 use Rattle.dm_procman.specs.Making.{answer_over, message_to}
-use Rattle.dm_procman.specs.Making.{kernel as kernel_of}
+use Rattle.dm_link.specs.Places.{kernel_at as kernel_of}
 use Rattle.dm_procman.specs.Managing.{Managing}
 use Rattle.dm_procman.specs.Taking as manage
 use Rattle.dm_rule.specs.Parts.{Routes}

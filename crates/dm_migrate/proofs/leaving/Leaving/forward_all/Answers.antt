@@ -5,7 +5,7 @@ use Rattle.dm_message.specs.Lawful.{IsLawfulMessage}
 use Rattle.dm_message.specs.Plain.{plain_message}
 use Rattle.dm_migrate.specs.Departure.{Departure, sent_on}
 use Rattle.dm_migrate.proofs.Messages.{all_on, lawful_all, plain_on}
-use Rattle.dm_migrate.proofs.leaving.Leaving.leave.Goals as goal
+use Rattle.dm_migrate.proofs.leaving.Leaving.forward_all.Goals as goal
 
 -- src/leaving.rt:154:5
 pub returns-clause-plain : goal.returns-clause-plain

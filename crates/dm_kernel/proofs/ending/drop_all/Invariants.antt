@@ -1,6 +1,6 @@
 use Rattle.std.proofs.Common.{◌≡◌, ◌++◌, length}
 use Rattle.dm_kernel.specs.State.{drops}
-use Rattle.dm_kernel.proofs.leave.drop_all.Given as goal
+use Rattle.dm_kernel.proofs.ending.drop_all.Given as goal
 
 abbrev pub invariant-loop-message : goal.invariant-loop-message
 invariant-loop-message l = l.parts.items ++ drops l.queue ≡ l.fn.parts.items ++ drops l.fn.queue

@@ -2,7 +2,7 @@ use Rattle.std.proofs.Common.{ℕ, ◌*◌, Bool, List, ◌≡◌, ◌∙◌, sy
 use Rattle.dm_migrate.specs.Arrival.{Arrival, IsNextChunk, with_chunk}
 use Rattle.dm_migrate.specs.Coming.{IsComing, Parts, come_of}
 use Rattle.dm_migrate.specs.declared.arriving.Wanted.{Wanted}
-use Rattle.dm_migrate.proofs.arriving.Arriving.take_chunk.Goals as goal
+use Rattle.dm_migrate.proofs.arriving.Arriving.put_chunk.Goals as goal
 use Rattle.dm_migrate.proofs.Pieces.{put}
 use Rattle.dm_migrate.proofs.Coming.{chunk_after, chunk_view, fits}
 

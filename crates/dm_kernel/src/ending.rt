@@ -11,7 +11,7 @@ ghost use Rattle.dm_kernel.specs.State.{drops, without_process};
 
 use crate::kernel::Kernel;
 use crate::part::Part;
-use crate::ring::leave;
+use crate::ring::remove;
 use dm_line::line::Line;
 use dm_link::Pid;
 use dm_lists::Queue;
@@ -41,15 +41,12 @@ impl Kernel {
         ensures state { (x : Process) → here_of (at self.old.records pid) ≡ Some x → IsIn self.new (without_process (state_of self.old) pid x why) }
         ensures queue { (x : Process) → here_of (at self.old.records pid) ≡ Some x → result ≡ x.queue }
     {
-        match self.records.swap(pid, Record::Ended(why)) {
-            Record::Here(process) => {
-                self.room.release(process.memory.blocks());
-                leave(&mut self.ring, pid);
-                let Process { queue, .. } = process;
-                queue
-            }
-            _ => unreachable!(),
-        }
+        let process = self.records.take_here(pid);
+        self.records.put_back(pid, Record::Ended(why));
+        self.room.release(process.memory.blocks());
+        remove(&mut self.ring, pid);
+        let Process { queue, .. } = process;
+        queue.into_queue()
     }
 }
 

@@ -1,7 +1,0 @@
-use Rattle.std.proofs.Common.{◌≡◌, None, take}
-use Rattle.dm_records.specs.Records.{at}
-use Rattle.dm_kernel.specs.Turn.{first_runnable}
-use Rattle.dm_kernel.proofs.kernel.Kernel.first_runnable.Given as goal
-
-abbrev pub invariant-loop-place : goal.invariant-loop-place
-invariant-loop-place l = first_runnable (at l.self.records) (take l.place l.self.ring) ≡ None

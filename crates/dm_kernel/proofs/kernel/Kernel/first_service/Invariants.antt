@@ -1,0 +1,12 @@
+use Rattle.std.proofs.Common.{◌≡◌, None, take}
+use Rattle.dm_records.specs.Records.{at}
+use Rattle.dm_kernel.specs.Meets.{state_of}
+use Rattle.dm_kernel.specs.Turn.{first_runnable}
+use Rattle.dm_kernel.proofs.kernel.Kernel.first_service.Given as goal
+
+abbrev pub invariant-loop-place : goal.invariant-loop-place
+invariant-loop-place l =
+    record {
+      unchanged : state_of l.self ≡ state_of l.fn.self;
+      none : first_runnable (at l.self.records) (take l.place l.self.ring) ≡ None;
+    }

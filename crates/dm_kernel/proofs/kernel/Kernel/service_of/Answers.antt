@@ -1,0 +1,33 @@
+-- A process that is looked at stays as it is.
+use Rattle.std.proofs.Common.{◌≡◌, ◌∙◌, Some, None, false, ap, refl, subst, sym}
+use Rattle.std.specs.Prelude.{is_some}
+use Rattle.dm_link.specs.declared.Pid.{Pid}
+use Rattle.dm_records.specs.Records.{at, here_of, with_record}
+use Rattle.dm_records.specs.declared.record.Record.TheVariants.{Here}
+use Rattle.dm_process.specs.declared.process.Process.{Process}
+use Rattle.dm_kernel.specs.Meets.{state_of}
+use Rattle.dm_kernel.specs.State.{Known}
+use Rattle.dm_kernel.specs.Turn.{known_is_runnable}
+use Rattle.dm_kernel.proofs.Known.{has_some, here_runs, is_here_as, none_runs, same_state, set_again}
+use Rattle.dm_kernel.proofs.kernel.Kernel.service_of.Goals as goal
+
+pub returns-in-Some-clause-unchanged : goal.returns-in-Some-clause-unchanged
+returns-in-Some-clause-unchanged c =
+    let x = c.in-Some.process.now in
+    let was : here_of (at c.args.self.now.records c.args.pid) ≡ Some x = sym c.in-Some.ensures.value in
+    same_state (state_of c.args.self.now) _ (λ q.
+    c.here_mut.follows.holds c.service.new.self (has_some _ x was) q
+    ∙ ap (λ (y : Process). with_record (at c.args.self.now.records) c.args.pid (Here y) q) c.service.ensures.unchanged
+    ∙ set_again (at c.args.self.now.records) c.args.pid x was q)
+
+pub returns-in-Some-clause-runnable : goal.returns-in-Some-clause-runnable
+returns-in-Some-clause-runnable c = ?
+
+pub returns-in-Some-clause-service : goal.returns-in-Some-clause-service
+returns-in-Some-clause-service c = ?
+
+pub returns-in-None-clause-unchanged : goal.returns-in-None-clause-unchanged
+returns-in-None-clause-unchanged c = same_state (state_of c.args.self.now) _ c.here_mut.follows.holds-at-none
+
+pub returns-in-None-clause-runnable : goal.returns-in-None-clause-runnable
+returns-in-None-clause-runnable c = ?

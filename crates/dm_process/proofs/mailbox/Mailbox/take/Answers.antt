@@ -1,0 +1,13 @@
+-- What was looked through before it stays so.
+use Rattle.std.proofs.Common.{ℕ, ◌<◌, List, length, remove, subst, sym}
+use Rattle.dm_message.specs.declared.Message.{Message}
+use Rattle.dm_process.specs.Mail.{HasPassed}
+use Rattle.dm_process.proofs.Search.{taken}
+use Rattle.dm_process.proofs.mailbox.Mailbox.take.Goals as goal
+
+pub invariant_of-self : goal.invariant_of-self
+invariant_of-self c =
+    let b = c.self.inside in
+    let there : c.args.place < length b.messages = subst (λ (ms : List Message). c.args.place < length ms) (sym c.self.view_is) c.requires in
+    subst (HasPassed b.mask c.min-self-inside.result) (sym c.take.ensures.rest)
+    (subst (λ (n : ℕ). HasPassed b.mask n (remove b.messages c.args.place)) (sym c.min-self-inside.ensures) (taken b.mask b.messages b.passed c.args.place there c.self.invariant))

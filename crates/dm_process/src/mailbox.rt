@@ -1,0 +1,153 @@
+//! The messages that wait for a process.
+ghost use Rattle.std.specs.Prelude.{◌≡◌, ◌<◌, ◌≤◌, ◌++◌, ◌∷◌, [], IfNone, IfSome, OnErr, OnOk, List, None, Some, length, remove, slice_get, take};
+ghost use Rattle.dm_process.specs.Mail.{first_on, is_on, on_mask, without_first_on, HasPassed};
+
+use dm_lists::Queue;
+use dm_memory::NoMemory;
+use dm_message::{Message, What};
+use std::alloc::Global;
+use std::marker::Model;
+
+/// The messages that a process has not received yet, in the order in which they came; contracts see a list of them.
+///
+/// It remembers how far it has been looked through, so that a process which waits looks at each message once.
+#[derive(Drop)]
+pub struct Mailbox {
+    messages: Queue<Message>,
+    /// The mask that was looked for last.
+    mask: u32,
+    /// So many messages from the front on are known not to be on it.
+    passed: usize,
+}
+
+impl Model for Mailbox {
+    ghost use Rattle.std.specs.Prelude.{List};
+    ghost use Rattle.dm_message.specs.declared.Message.{Message};
+    ghost use Rattle.dm_process.specs.Mail.{HasPassed};
+
+    ghost Value = { List Message };
+
+    ghost view = { λ b. b.messages };
+
+    ghost invariant = { λ b. HasPassed b.mask b.passed b.messages };
+}
+
+impl Mailbox {
+    /// No messages; it takes no memory.
+    pub fn new(alloc: Global) -> Self
+        ensures { result ≡ [] }
+    {
+        Mailbox {
+            messages: Queue::new(alloc),
+            mask: 0,
+            passed: 0,
+        }
+    }
+
+    /// How many there are.
+    pub fn len(&self) -> usize
+        ensures { result ≡ length self.now }
+    {
+        self.messages.len()
+    }
+
+    /// The message at a place.
+    pub fn at(&self, place: usize) -> &Message
+        requires { place < length self.now }
+        ensures { slice_get self.now place ≡ Some result.now }
+    {
+        self.messages.at(place)
+    }
+
+    /// Adds a message at the back, or leaves the mailbox as it was.
+    pub fn push(&mut self, message: Message) -> Result<(), NoMemory>
+        ensures ok { OnOk result (self.new ≡ self.old ++ message ∷ []) }
+        ensures err { OnErr result (self.new ≡ self.old) }
+    {
+        self.messages.push(message)
+    }
+
+    /// Takes the message at a place.
+    pub fn take(&mut self, place: usize) -> Message
+        requires { place < length self.old }
+        ensures value { slice_get self.old place ≡ Some result }
+        ensures rest { self.new ≡ remove self.old place }
+    {
+        self.passed = self.passed.min(place);
+        self.messages.take(place)
+    }
+
+    /// The messages, in order.
+    pub fn messages(&self) -> &Queue<Message>
+        ensures { result.now ≡ self.now }
+    {
+        &self.messages
+    }
+
+    /// The messages, in order, which it hands over.
+    pub fn into_queue(self) -> Queue<Message>
+        ensures { result ≡ self }
+    {
+        let Mailbox { messages, .. } = self;
+        messages
+    }
+
+    /// The place of the first message that is on a channel of the mask. As long as no other mask is looked for, a message
+    /// that isn't on it is looked at once, by however many calls.
+    pub fn first_match(&mut self, mask: u32) -> Option<usize>
+        ensures unchanged { self.new ≡ self.old }
+        ensures none { IfNone result (first_on mask self.old ≡ None) }
+        ensures within { IfSome result (λ i. i < length self.old) }
+        ensures first { IfSome result (λ i. slice_get self.old i ≡ first_on mask self.old) }
+        ensures rest { IfSome result (λ i. remove self.old i ≡ without_first_on mask self.old) }
+    {
+        let place = first_place(&self.messages, mask, self.passed_for(mask));
+        self.mask = mask;
+        self.passed = place;
+        if place < self.messages.len() {
+            Some(place)
+        } else {
+            None
+        }
+    }
+
+    /// How many messages from the front on are known not to be on a mask.
+    fn passed_for(&self, mask: u32) -> usize
+        ensures { HasPassed mask result self.now }
+    {
+        if self.mask == mask { self.passed } else { 0 }
+    }
+}
+
+/// The place of the first message that is on a mask, or behind the last, where it is known that none before `from` is.
+fn first_place(messages: &Queue<Message>, mask: u32, from: usize) -> usize
+    requires { HasPassed mask from messages.now }
+    ensures passed { HasPassed mask result messages.now }
+    ensures first { result < length messages.now → slice_get messages.now result ≡ first_on mask messages.now }
+    ensures rest { result < length messages.now → remove messages.now result ≡ without_first_on mask messages.now }
+    ensures none { result ≡ length messages.now → first_on mask messages.now ≡ None }
+{
+    for place in from..messages.len() {
+        if is_on(messages.at(place), mask) {
+            return place;
+        }
+    }
+    messages.len()
+}
+
+/// Whether a channel is one of the mask's.
+fn on_mask(mask: u32, channel: u8) -> bool
+    ensures { result ≡ on_mask mask channel }
+{
+    channel < 32 && (mask >> channel) % 2 == 1
+}
+
+/// Whether it is a user message on a channel of the mask.
+fn is_on(message: &Message, mask: u32) -> bool
+    ensures { result ≡ is_on mask message.now }
+{
+    match &message.what {
+        What::User { channel, .. } => on_mask(mask, *channel),
+        _ => false,
+    }
+}
