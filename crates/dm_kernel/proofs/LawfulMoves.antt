@@ -13,7 +13,7 @@ use Rattle.dm_link.specs.declared.Addr.{Addr}
 use Rattle.dm_link.specs.declared.Pid.{Pid}
 use Rattle.dm_link.specs.Lawful.{IsMachine, IsLawfulAddr}
 use Rattle.dm_link.specs.Names.{pid_eq}
-use Rattle.dm_linkupdate.specs.Notice.{has_update, kernel_at, update_of}
+use Rattle.dm_linkupdate.specs.Notice.{is_told_back, kernel_at, update_of}
 use Rattle.dm_linkupdate.proofs.Lawful.{applied_lawful}
 use Rattle.dm_message.specs.declared.Asker.{Asker}
 use Rattle.dm_message.specs.declared.Message.{Message}
@@ -85,7 +85,7 @@ forwards_lawfully_and s m at moves true here machine h message =
 forwards_lawfully_and s m at moves false here machine h message = record { state = h; parts = said (routed _ (on_lawfully at moves m machine message)) }
 
 pub forwards_lawfully : (s : KernelState) (m : Message) (at moves : ℕ) → s.here < 16 → IsMachine at → IsLawfulState s → IsLawfulMessage m → Lawfully (forwards s m at moves)
-forwards_lawfully s m at moves here machine h message = forwards_lawfully_and s m at moves (has_update (kind_of m.what)) here machine h message
+forwards_lawfully s m at moves here machine h message = forwards_lawfully_and s m at moves (is_told_back (kind_of m.what)) here machine h message
 
 -- links follow
 pub process_follows_lawfully : (s : KernelState) (m : Message) (x : Process) (about : Addr) → IsLawfulState s → IsLawfulProcess x → IsLawfulAddr about → Lawfully (process_follows s m x about)

@@ -1,6 +1,7 @@
 pub mod Running
 pub mod Ringing
 pub mod Known
+pub mod Rounds
 pub mod Serving
 pub mod Making
 pub mod Opening

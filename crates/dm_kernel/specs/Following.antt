@@ -6,7 +6,7 @@ use Rattle.dm_link.specs.declared.Addr.{Addr}
 use Rattle.dm_link.specs.Places.{is_behind}
 use Rattle.dm_linktable.specs.Slots.{slot_is_behind}
 use Rattle.dm_linkupdate.specs.Applied.{applied}
-use Rattle.dm_linkupdate.specs.Notice.{has_update, update_of}
+use Rattle.dm_linkupdate.specs.Notice.{is_told_back, update_of}
 use Rattle.dm_message.specs.declared.Message.{Message}
 use Rattle.dm_message.specs.Kinds.{kind_of}
 use Rattle.dm_migrate.specs.Departure.{sent_on}
@@ -26,7 +26,7 @@ forwards_and s m at moves true =
 forwards_and s m at moves false = turned s (Says (line.Forwarded m.id at) ∷ Routes (sent_on at moves m) ∷ [])
 
 abbrev pub forwards : KernelState → Message → ℕ → ℕ → Option Turned
-forwards s m at moves = forwards_and s m at moves (has_update (kind_of m.what))
+forwards s m at moves = forwards_and s m at moves (is_told_back (kind_of m.what))
 
 -- so many addresses followed
 abbrev pub updated : Message → ℕ → List Part

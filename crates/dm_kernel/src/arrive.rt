@@ -38,6 +38,7 @@ impl Kernel {
         requires least { 1 ≤ ask.blocks }
         requires most { ask.blocks ≤ 256 }
         requires moves { ask.moves < 4294967295 }
+        requires size { ask.size ≤ 3201 }
         ensures { Answers result self.new (answers_ask boot.now (state_of self.old) message.now ask.pid ask.blocks ask.moves ask.size ask.asker) }
     {
         match answer_ask(self.alloc, ask, &mut self.room, boot.format.slots()) {

@@ -6,4 +6,4 @@ mod following;
 mod telling;
 
 pub use following::apply;
-pub use telling::{has_update, notice};
+pub use telling::{is_told_back, notice};

@@ -2,3 +2,4 @@ pub mod Ids
 pub mod Plain
 pub mod Kinds
 pub mod Lawful
+pub mod Told

@@ -40,6 +40,7 @@ pub fn answer_ask(alloc: Global, ask: Ask, room: &mut Room, cap: u8) -> Asked
     requires least { 1 ≤ ask.blocks }
     requires most { ask.blocks ≤ 256 }
     requires moves { ask.moves < 4294967295 }
+    requires size { ask.size ≤ 3201 }
     requires cap { (cap ≡ 32) ⊎ (cap ≡ 128) }
     ensures { AnswersFor ask.pid ask.blocks ask.moves ask.size ask.asker cap room.old room.new result }
 {

@@ -220,22 +220,28 @@ module _ (b : Boot) (w : WorldState) (pt : Point) (l : Placed) (h : History) (a 
       let come = MayCome-stands (stream_with (ends_of w h a c)) (there_pair b w pt l h a c s a_in c_in apart).stream in
       may_read p (Data n m) (packet.Data a c n x.message) is loads x.read (
         refl,
-        record {
-          acts = acts;
-          from = (low_a, λ same. apart (same ∙ (s.nodes c c_in).kernel.here));
-          fits = (come.in_window k n m e, come.numbered k n m e);
-        },
+        (
+          record {
+            acts = acts;
+            from = (low_a, λ same. apart (same ∙ (s.nodes c c_in).kernel.here));
+            fits = (come.in_window k n m e, come.numbered k n m e);
+          },
+          sym (s.nodes c c_in).kernel.here,
+        ),
       )
   may_with p (Ack n) low_a low_c is loads acts readable =
       let e : load_at (h.packets a c) k ≡ Some (Ack n) = load_is (h.packets a c) k (Some p) is ∙ ap Some loads in
       let come = MayCome-stands (stream_with (ends_of w h c a)) (back_pair b w pt l h a c s a_in c_in apart).stream in
       may_read p (Ack n) (packet.Ack a c n) is loads (reads_ack a c n low_a low_c apart (small_ack b w pt l h a c k s counted a_in c_in apart n e)) (
         refl,
-        record {
-          acts = acts;
-          from = (low_a, λ same. apart (same ∙ (s.nodes c c_in).kernel.here));
-          fits = come.ack k n e;
-        },
+        (
+          record {
+            acts = acts;
+            from = (low_a, λ same. apart (same ∙ (s.nodes c c_in).kernel.here));
+            fits = come.ack k n e;
+          },
+          sym (s.nodes c c_in).kernel.here,
+        ),
       )
 
   may_of : (o : Option (stream.Packet Message)) → slice_get (h.packets a c) k ≡ o → a < 16 → c < 16 → MayAct (w.nodes c) → ReadsAs w h a c k → MayDeliver w a c (bytes_at (w.wires a c) k)

@@ -193,8 +193,8 @@ arrived_may b w u e a c l s same is may acts =
     (record { each = λ i lt. subst (λ (ns : ℕ → NodeState). MayAct (ns i)) (sym same) (acts.each i lt) })
 
 read_may : (b : Boot) (w u : WorldState) (e : Step) (a c : ℕ) (r : Result Packet Bad) (s : Said) → u.nodes ≡ w.nodes → reads u e a c r ≡ Some (Says s) → MayRead w a c r → AllMayAct b w → AllMayAct b s.state
-read_may b w u e a c (Ok (packet.Data from to k m)) s same is may acts = arrived_may b w u e a c (Data k m) s same is (subst (λ f. MayArrive (w.nodes c) f (Data k m)) may.0 may.1) acts
-read_may b w u e a c (Ok (packet.Ack from to k)) s same is may acts = arrived_may b w u e a c (Ack k) s same is (subst (λ f. MayArrive (w.nodes c) f (Ack k)) may.0 may.1) acts
+read_may b w u e a c (Ok (packet.Data from to k m)) s same is may acts = arrived_may b w u e a c (Data k m) s same is (subst (λ f. MayArrive (w.nodes c) f (Data k m)) may.0 may.1.0) acts
+read_may b w u e a c (Ok (packet.Ack from to k)) s same is may acts = arrived_may b w u e a c (Ack k) s same is (subst (λ f. MayArrive (w.nodes c) f (Ack k)) may.0 may.1.0) acts
 read_may b w u e a c (Err bad) s same is may acts = absurd may
 
 delivered_may : (b : Boot) (w : WorldState) (e : Step) (a c k : ℕ) (o : Option (List ℕ)) (s : Said) → delivers w e a c k o ≡ Some (Says s) → MayDeliver w a c o → AllMayAct b w → AllMayAct b s.state

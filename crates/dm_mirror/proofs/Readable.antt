@@ -42,11 +42,11 @@ turn_is_readable w e m (Some t) s stays is again h = acts_readable w e m t (node
 read_readable : (w : WorldState) (a c k : ℕ) (r : Result Packet Bad) (s : Said) → MayRead w a c r → reads (record w { wires = after_mark w.wires a c k }) (step.Deliver a c k) a c r ≡ Some (Says s) → AreReadBack (gave_read w a c r) → IsReadable w → IsReadable s.state
 read_readable w a c k (Ok (packet.Data from to n m)) s may e again h =
     let same : acted (record w { wires = after_mark w.wires a c k }) (step.Deliver a c k) c (node.arrives (w.nodes c) a (Data n m)) ≡ s = cc in
-    let fits = subst (λ (i : ℕ). node_may.MayArrive (w.nodes c) i (Data n m)) may.0 may.1 in
+    let fits = subst (λ (i : ℕ). node_may.MayArrive (w.nodes c) i (Data n m)) may.0 may.1.0 in
     subst (λ (x : Said). IsReadable x.state) same (arrival_readable w (step.Deliver a c k) a c k (Data n m) fits.fits again h)
 read_readable w a c k (Ok (packet.Ack from to n)) s may e again h =
     let same : acted (record w { wires = after_mark w.wires a c k }) (step.Deliver a c k) c (node.arrives (w.nodes c) a (Ack n)) ≡ s = cc in
-    let fits = subst (λ (i : ℕ). node_may.MayArrive (w.nodes c) i (Ack n)) may.0 may.1 in
+    let fits = subst (λ (i : ℕ). node_may.MayArrive (w.nodes c) i (Ack n)) may.0 may.1.0 in
     subst (λ (x : Said). IsReadable x.state) same (arrival_readable w (step.Deliver a c k) a c k (Ack n) fits.fits again h)
 read_readable w a c k (Err bad) s may e again h = absurd may
 

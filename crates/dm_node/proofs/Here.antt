@@ -17,7 +17,7 @@ use Rattle.dm_process.specs.declared.process.Status.TheVariants as status
 use Rattle.dm_process.specs.Mail.{first_on}
 use Rattle.dm_records.specs.declared.record.Record.TheVariants.{Here, Frozen, Incoming, Forward, Ended}
 use Rattle.dm_records.specs.Records.{frozen_of, incoming_of}
-use Rattle.dm_linkupdate.specs.Notice.{has_update}
+use Rattle.dm_linkupdate.specs.Notice.{is_told_back}
 use Rattle.dm_message.specs.declared.Asker.{Asker}
 use Rattle.dm_message.specs.Kinds.{kind_of}
 use Rattle.dm_migrate.specs.Arrival.{Arrival, restarted, with_piece}
@@ -158,7 +158,7 @@ known_stays s m None = tt
 known_stays s m (Some (Here x)) = here_stays s m x m.what
 known_stays s m (Some (Frozen leaving)) = refl
 known_stays s m (Some (Incoming arriving)) = refl
-known_stays s m (Some (Forward place moves)) = forwards_stays s m place moves (has_update (kind_of m.what))
+known_stays s m (Some (Forward place moves)) = forwards_stays s m place moves (is_told_back (kind_of m.what))
 known_stays s m (Some (Ended y)) = ended_stays s m m.what
 
 makes_stays : (b : Boot) (s : KernelState) (m : Message) (links : List Link) (i : BootImage) (room : Bool) → StaysAt s.here (makes b s m links i room)

@@ -139,5 +139,5 @@ arrives_may n a (Ack k) h =
     let_go_may window (with_sender n a s) a h.from.0 (with_sender_may n a s h.acts (All-drop IsLawfulMessage (k - (n.senders a).acked) u (h.acts.unacked a h.from.0)))
 
 pub arrives_packet_may : (n : NodeState) (p : Packet) → MayArrivePacket n p → MayAct (arrives_packet n p).state
-arrives_packet_may n (packet.Data from to seq m) h = arrives_may n from (Data seq m) h
-arrives_packet_may n (packet.Ack from to count) h = arrives_may n from (Ack count) h
+arrives_packet_may n (packet.Data from to seq m) h = arrives_may n from (Data seq m) h.0
+arrives_packet_may n (packet.Ack from to count) h = arrives_may n from (Ack count) h.0

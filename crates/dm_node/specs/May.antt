@@ -36,6 +36,7 @@ pub record MayArrive (n : NodeState) (a : ℕ) (l : Load Message) : Type 0 where
   pub from : (a < 16) × (a ≢ here n)
   pub fits : FitsLoad n a l
 
+-- the packet names this machine, and what it carries may arrive
 abbrev pub MayArrivePacket : NodeState → Packet → Type 0
-MayArrivePacket n (packet.Data from to seq m) = MayArrive n from (Data seq m)
-MayArrivePacket n (packet.Ack from to count) = MayArrive n from (Ack count)
+MayArrivePacket n (packet.Data from to seq m) = MayArrive n from (Data seq m) × (to ≡ here n)
+MayArrivePacket n (packet.Ack from to count) = MayArrive n from (Ack count) × (to ≡ here n)

@@ -16,7 +16,7 @@ use dm_packet::Packet;
 use dm_stream::{Arrived, WINDOW};
 
 impl Node {
-    /// Takes what a packet from another machine carries. A message is taken if it is the next, with those behind it
+    /// Takes what a packet carries that names this machine, from another. A message is taken if it is the next, with those behind it
     /// that came early, kept if it is early, and dropped if it is old; how many were taken is acknowledged. An
     /// acknowledgement lets messages go out that wait.
     pub fn arrive(&mut self, packet: Packet, outs: &mut Vec<Out>) -> Result<(), NoMemory>
@@ -27,11 +27,19 @@ impl Node {
         match packet {
             Packet::Data {
                 from,
+                to,
                 seq,
                 message,
-                ..
-            } => self.take(from, seq, message, outs),
-            Packet::Ack { from, count, .. } => self.hear(from, count, outs),
+            } => {
+                let mine = to == self.kernel.here();
+                prove!(mine);
+                self.take(from, seq, message, outs)
+            }
+            Packet::Ack { from, to, count } => {
+                let mine = to == self.kernel.here();
+                prove!(mine);
+                self.hear(from, count, outs)
+            }
         }
     }
 

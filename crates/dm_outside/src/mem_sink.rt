@@ -102,9 +102,7 @@ impl Sink for MemSink {
             return Err(Failed);
         }
         let n = within(self.limit, free.min(from.len()));
-        match self.bytes.extend_from_slice(&from[..n]) {
-            Ok(()) => Ok(n),
-            Err(_) => unreachable!(),
-        }
+        self.bytes.extend_from_slice(&from[..n]).unwrap();
+        Ok(n)
     }
 }

@@ -1,10 +1,13 @@
 -- A process that has a record keeps one where a record is set.
-use Rattle.std.specs.Prelude.{◌≡◌, Bool, true, false, if◌then◌else◌, IsSome}
-use Rattle.std.proofs.Common.{rules}
+use Rattle.std.specs.Prelude.{◌≡◌, Bool, true, false, cond, if◌then◌else◌, IsSome}
+use Rattle.std.proofs.Common.{◌∙◌, ap, arith, refl, rules, sym}
+use Rattle.std.proofs.lemmas.Grind.{common_steps}
+use Rattle.std.specs.BTreeMap.{is_at}
 use Rattle.std.specs.declared.option.Option.{Option}
 use Rattle.std.specs.declared.option.Option.TheVariants.{Some}
 use Rattle.dm_link.specs.declared.Pid.{Pid}
-use Rattle.dm_link.specs.Names.{pid_eq}
+use Rattle.dm_link.specs.Names.{pid_cmp, pid_eq}
+use Rattle.dm_records.specs.Records.{in_place}
 
 one_of : {R : Type 0} (same : Bool) (x : R) (o : Option R) → IsSome o → IsSome (if same then Some x else o)
 one_of true x o s = search rules
@@ -12,3 +15,28 @@ one_of false x o s = s
 
 pub still_some : {R : Type 0} (records : Pid → Option R) (n : Option R) (p q : Pid) (x : R) → n ≡ (if pid_eq p q then Some x else records q) → IsSome (records q) → IsSome n
 still_some records n p q x e s = rw e (one_of (pid_eq p q) x (records q) s)
+
+same_at : (p q : Pid) → is_at (pid_cmp p) q ≡ pid_eq p q
+same_at p q = grind (arith, common_steps)
+
+pid_same : (p q : Pid) → pid_eq p q ≡ true → p ≡ q
+pid_same p q h = grind (arith, common_steps)
+
+in_chosen : {R : Type 0} (same : Bool) (n o : Option (Option R)) (w : Option R) → n ≡ cond same (Some w) o → in_place n ≡ (if same then w else in_place o)
+in_chosen true n o w e = ap in_place e
+in_chosen false n o w e = ap in_place e
+
+-- what stands in a place that is set, and in the others
+pub in_set : {R : Type 0} (old : Pid → Option (Option R)) (n : Option (Option R)) (p q : Pid) (w : Option R) → n ≡ cond (is_at (pid_cmp p) q) (Some w) (old q)
+    → in_place n ≡ (if pid_eq p q then w else in_place (old q))
+in_set old n p q w e = in_chosen (pid_eq p q) n (old q) w (e ∙ ap (λ (b : Bool). cond b (Some w) (old q)) (same_at p q))
+
+as_it_was : {R : Type 0} (same : Bool) (n o : Option R) → (same ≡ true → n ≡ o) → (if same then n else o) ≡ o
+as_it_was true n o e = e refl
+as_it_was false n o e = refl
+
+-- a place that is set as it was
+pub in_same : {R : Type 0} (old : Pid → Option (Option R)) (n : Option (Option R)) (p q : Pid) (w : Option R) → old p ≡ Some w → n ≡ cond (is_at (pid_cmp p) q) (Some w) (old q)
+    → in_place n ≡ in_place (old q)
+in_same old n p q w is e =
+    in_set old n p q w e ∙ as_it_was (pid_eq p q) w (in_place (old q)) (λ same. sym (ap in_place is) ∙ ap (λ (r : Pid). in_place (old r)) (pid_same p q same))

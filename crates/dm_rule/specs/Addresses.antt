@@ -10,6 +10,7 @@ use Rattle.dm_linktable.specs.Slots.{link_at}
 use Rattle.dm_message.specs.declared.MsgId.{MsgId}
 use Rattle.dm_message.specs.declared.kind.MessageKind.{MessageKind}
 use Rattle.dm_message.specs.declared.kind.MessageKind.TheVariants as kind
+pub use Rattle.dm_message.specs.Told.{is_told_back}
 use Rattle.dm_onekernel.specs.declared.boot.BootProcess.{BootProcess}
 use Rattle.dm_onekernel.specs.declared.boot.Boot.{Boot}
 use Rattle.dm_onekernel.specs.Boot.{switchboard, manager}
@@ -42,35 +43,6 @@ follows v a id (Some p) = gets (Receiver id) (place_known (v.known v.acting p) (
 abbrev pub all_follow : View → Addresses → Pid → List MsgId → List Gets
 all_follow v a p [] = []
 all_follow v a p (i ∷ is) = follows v a i (Some p) ++ all_follow v a p is
-
--- a forward of these tells the sender where the receiver went; answers and what kernels tell each other don't
-abbrev pub is_told_back : MessageKind → Bool
-is_told_back kind.User = true
-is_told_back kind.Stop = true
-is_told_back kind.Resume = true
-is_told_back kind.Kill = true
-is_told_back kind.Read = true
-is_told_back kind.Write = true
-is_told_back kind.Migrate = true
-is_told_back kind.Block = false
-is_told_back kind.Written = false
-is_told_back kind.Gone = false
-is_told_back kind.Create = false
-is_told_back kind.Created = false
-is_told_back kind.NoRoom = false
-is_told_back kind.Update = false
-is_told_back kind.Ask = false
-is_told_back kind.Refuse = false
-is_told_back kind.PullState = false
-is_told_back kind.State = false
-is_told_back kind.PullBlock = false
-is_told_back kind.Memory = false
-is_told_back kind.AllTaken = false
-is_told_back kind.Restart = false
-is_told_back kind.Move = false
-is_told_back kind.Moved = false
-is_told_back kind.CallOff = false
-is_told_back kind.Bury = false
 
 -- that update goes to where the message came from, as the next message of the acting machine's kernel
 abbrev pub tells_back : View → Addresses → MsgId → Bool → List Gets

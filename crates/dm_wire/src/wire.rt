@@ -2,12 +2,10 @@
 ghost use Rattle.std.specs.Prelude.{IfOk, OnErr, OnOk, [], length, option_map, position, slice_index_or, vec_len, ◌*◌, ◌+◌, ◌<◌, ◌^◌, ◌≡◌, ◌≤◌, ℕ};
 
 use crate::packets::Packets;
+use dm_link::MACHINES;
 use dm_memory::{NoMemory, push};
 use std::alloc::Global;
 use std::marker::Model;
-
-/// Machines are numbered from 0, and there are at most so many.
-const MACHINES: u8 = 16;
 
 /// All packets ever put on the wire from one machine to another, for each ordered pair of sixteen machines, with
 /// a mark for each that was delivered. The pair from `a` to `b` stands at place `16 * a + b`; those past the end are empty.

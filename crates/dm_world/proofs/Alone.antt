@@ -103,8 +103,8 @@ from_sender : (n : NodeState) (from a : ℕ) (l : Load Message) → from ≡ a �
 from_sender n from a l e h = subst (λ k. MayArrive n k l) e h
 
 reads_alone : (w : WorldState) (e : Step) (a c : ℕ) (r : Result Packet Bad) → here (w.nodes c) ≡ c → MayRead w a c r → AloneIn c w (reads w e a c r)
-reads_alone w e a c (Ok (packet.Data from to k m)) h may = came_alone w e a c (Data k m) h (from_sender (w.nodes c) from a (Data k m) may.0 may.1)
-reads_alone w e a c (Ok (packet.Ack from to k)) h may = came_alone w e a c (Ack k) h (from_sender (w.nodes c) from a (Ack k) may.0 may.1)
+reads_alone w e a c (Ok (packet.Data from to k m)) h may = came_alone w e a c (Data k m) h (from_sender (w.nodes c) from a (Data k m) may.0 may.1.0)
+reads_alone w e a c (Ok (packet.Ack from to k)) h may = came_alone w e a c (Ack k) h (from_sender (w.nodes c) from a (Ack k) may.0 may.1.0)
 reads_alone w e a c (Err bad) h may = tt
 
 marked_read : (w : WorldState) (a c k : ℕ) (r : Result Packet Bad) → MayRead w a c r → MayRead (record w { wires = after_mark w.wires a c k }) a c r

@@ -153,8 +153,8 @@ acted_still b nodes m outs a are same e =
 
 -- a packet comes
 pub packet_lawfully : (n : NodeState) (p : Packet) → MayArrivePacket n p → ActsLawfully (here n) (arrives_packet n p)
-packet_lawfully n (packet.Data from to seq m) h = arrives_lawfully n from (Data seq m) h
-packet_lawfully n (packet.Ack from to count) h = arrives_lawfully n from (Ack count) h
+packet_lawfully n (packet.Data from to seq m) h = arrives_lawfully n from (Data seq m) h.0
+packet_lawfully n (packet.Ack from to count) h = arrives_lawfully n from (Ack count) h.0
 
 -- each machine of a world has its number
 pub all_here : (w : World) → IsWorld w → (m : ℕ) → m < length w.boot.machines → here (node_in w.boot w.nodes.items m) ≡ m

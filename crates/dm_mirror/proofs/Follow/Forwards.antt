@@ -6,7 +6,7 @@ use Rattle.std.specs.declared.option.Option.TheVariants.{None, Some}
 use Rattle.std.proofs.lemmas.Bool.{false≢true}
 use Rattle.dm_link.specs.declared.Pid.{Pid}
 use Rattle.dm_link.specs.Names.{pid_of, place_of}
-use Rattle.dm_linkupdate.specs.Notice.{has_update, update_of}
+use Rattle.dm_linkupdate.specs.Notice.{update_of}
 use Rattle.dm_message.specs.declared.Message.{Message}
 use Rattle.dm_message.specs.declared.MsgId.{MsgId}
 use Rattle.dm_message.specs.declared.What.{What}
@@ -59,65 +59,8 @@ use Rattle.dm_mirror.proofs.Follow.Receivers.{machine_process, rule_process}
 use Rattle.dm_mirror.proofs.Follow.Rows.{handled_point, handled_view, turns_follow}
 use Rattle.dm_mirror.proofs.Turning.{AllMayPut, MayOwn, MayPut, On, Own, Route, TurnsAt, begun, owns, part_of, rule_part_of}
 
--- the rule tells back what the machines do: no message tells the manager to move a process
-told_back : (k : MessageKind) → k ≢ kind.Move → is_told_back k ≡ has_update k
-told_back kind.User none = refl
-told_back kind.Stop none = refl
-told_back kind.Resume none = refl
-told_back kind.Kill none = refl
-told_back kind.Read none = refl
-told_back kind.Write none = refl
-told_back kind.Block none = refl
-told_back kind.Written none = refl
-told_back kind.Gone none = refl
-told_back kind.Create none = refl
-told_back kind.Created none = refl
-told_back kind.NoRoom none = refl
-told_back kind.Migrate none = refl
-told_back kind.Update none = refl
-told_back kind.Ask none = refl
-told_back kind.Refuse none = refl
-told_back kind.PullState none = refl
-told_back kind.State none = refl
-told_back kind.PullBlock none = refl
-told_back kind.Memory none = refl
-told_back kind.AllTaken none = refl
-told_back kind.Restart none = refl
-told_back kind.Move none = absurd (none refl)
-told_back kind.Moved none = refl
-told_back kind.CallOff none = refl
-told_back kind.Bury none = refl
-
-fits_no_move : (s : OneKernel) (i : MsgId) (x : PlainMessage) (w : PlainWhat) → WhatFits s i x w → plain_kind w ≢ kind.Move
-fits_no_move s i x (plain_.User code channel body links) h e = cc
-fits_no_move s i x plain_.Stop h e = cc
-fits_no_move s i x plain_.Resume h e = cc
-fits_no_move s i x plain_.Kill h e = cc
-fits_no_move s i x (plain_.Read base len) h e = cc
-fits_no_move s i x (plain_.Write base bytes) h e = cc
-fits_no_move s i x (plain_.Block bytes) h e = cc
-fits_no_move s i x plain_.Written h e = cc
-fits_no_move s i x plain_.Gone h e = cc
-fits_no_move s i x (plain_.Create image links) h e = cc
-fits_no_move s i x (plain_.Created pid) h e = cc
-fits_no_move s i x plain_.NoRoom h e = cc
-fits_no_move s i x (plain_.Move machine) h e = absurd h
-fits_no_move s i x (plain_.Moved outcome) h e = cc
-
-no_move_by : (b : Boot) (m : ℕ) (pt : Point) (l : Placed) (records : AllRecords) (k : KernelState) (y : Message) (c : Fronts b m pt l records k y) (o : Option PlainMessage) → plain_message y ≡ o → kind_of y.what ≢ kind.Move
-no_move_by b m pt l records k y c None plain e =
-    let own = c.own y.id y c.there plain in
-    let sort = c.own_told.own y.id c.told c.told_is own.mine in
-    false≢true (sym (ap (λ (t : MessageKind). own_sort t c.told.receiver c.told.about) (c.kind ∙ e)) ∙ sort)
-no_move_by b m pt l records k y c (Some x) plain e =
-    let bag : pt.kernel.bag y.id ≡ Some x = plain_there b m pt l records k y c ∙ plain in
-    fits_no_move pt.kernel y.id x x.what (c.run.based.fits.messages y.id x bag) (plain_kinds y.what x.what (parts y x plain).what ∙ e)
-
-no_move : (b : Boot) (m : ℕ) (pt : Point) (l : Placed) (records : AllRecords) (k : KernelState) (y : Message) (c : Fronts b m pt l records k y) → kind_of y.what ≢ kind.Move
-no_move b m pt l records k y c = no_move_by b m pt l records k y c (plain_message y) refl
-
 -- of the kernels' own messages only requests to move a process are told back
-own_back : (w : What) → plain_what w ≡ None → has_update (kind_of w) ≡ true → kind_of w ≡ kind.Migrate
+own_back : (w : What) → plain_what w ≡ None → is_told_back (kind_of w) ≡ true → kind_of w ≡ kind.Migrate
 own_back (what.Migrate machine) e back = refl
 own_back (what.Update about) e back = absurd (false≢true back)
 own_back (what.Ask pid blocks moves size asker) e back = absurd (false≢true back)
@@ -187,7 +130,7 @@ abbrev forwarded : Point → ℕ → Message → ℕ → Point
 forwarded pt m y at = moved (begun pt m) (line.Forwarded y.id at) pt.kernel
 
 -- the sender, as the rule names it
-sender_is : (b : Boot) (m : ℕ) (pt : Point) (l : Placed) (records : AllRecords) (k : KernelState) (y : Message) (c : Fronts b m pt l records k y) → plain_what y.what ≡ None → has_update (kind_of y.what) ≡ true → manager ≡ y.sender.pid
+sender_is : (b : Boot) (m : ℕ) (pt : Point) (l : Placed) (records : AllRecords) (k : KernelState) (y : Message) (c : Fronts b m pt l records k y) → plain_what y.what ≡ None → is_told_back (kind_of y.what) ≡ true → manager ≡ y.sender.pid
 sender_is b m pt l records k y c none back = sym ((c.own y.id y c.there (ap (with_what y) none)).sender (own_back y.what none back))
 
 none_of : (y : Message) → plain_message y ≡ None → plain_what y.what ≡ None
@@ -218,27 +161,26 @@ rule_forwards a y k sender id here at moves true is who place =
 rule_forwards a y k sender id here at moves false is who place =
     ap (λ (t : Bool). rule.Says (line.Forwarded y.id at) ∷ rule.Again y.id at ∷ (if t then rule.Owns kind.Update sender (a (Sender y.id)).at ∷ [] else [])) is
 
-outcome_forwards : (b : Boot) (m : ℕ) (pt : Point) (l : Placed) (records : AllRecords) (k : KernelState) (y : Message) (c : Fronts b m pt l records k y) (id : MsgId) (here at moves : ℕ) (back : Bool) (z : Option PlainMessage) → plain_message y ≡ z → has_update (kind_of y.what) ≡ back
+outcome_forwards : (b : Boot) (m : ℕ) (pt : Point) (l : Placed) (records : AllRecords) (k : KernelState) (y : Message) (c : Fronts b m pt l records k y) (id : MsgId) (here at moves : ℕ) (back : Bool) (z : Option PlainMessage) → plain_message y ≡ z → is_told_back (kind_of y.what) ≡ back
     → ((x : PlainMessage) → z ≡ Some x → process_handles pt m y.id x (Forward at moves) ≡ Some (rule.Says (line.Forwarded y.id at) ∷ map rule_part_of (routes_of y id here at moves back)))
     × (z ≡ None → process_told pt m y.id c.told (Forward at moves) ≡ Some (rule.Says (line.Forwarded y.id at) ∷ map rule_part_of (routes_of y id here at moves back)))
 outcome_forwards b m pt l records k y c id here at moves back z plain has =
     let place = (c.mirrors.places.message y.id y c.there).sender in
-    let none = no_move b m pt l records k y c in (
+    (
       λ x is. (let w = parts y x (plain ∙ is) in
-          ap Some (rule_forwards pt.addresses y (plain_kind x.what) x.sender id here at moves back (told_back (plain_kind x.what) (λ f. none (sym (plain_kinds y.what x.what w.what) ∙ f)) ∙ ap has_update (plain_kinds y.what x.what w.what) ∙ has) (λ e. sym w.sender) place)),
-      λ own. ap Some (rule_forwards pt.addresses y c.told.kind manager id here at moves back (told_back c.told.kind (λ f. none (sym c.kind ∙ f)) ∙ ap has_update c.kind ∙ has) (λ e. sender_is b m pt l records k y c (none_of y (plain ∙ own)) (has ∙ e)) place),
+          ap Some (rule_forwards pt.addresses y (plain_kind x.what) x.sender id here at moves back (ap is_told_back (plain_kinds y.what x.what w.what) ∙ has) (λ e. sym w.sender) place)),
+      λ own. ap Some (rule_forwards pt.addresses y c.told.kind manager id here at moves back (ap is_told_back c.kind ∙ has) (λ e. sender_is b m pt l records k y c (none_of y (plain ∙ own)) (has ∙ e)) place),
     )
 
 -- the update may be put
-update_may : (b : Boot) (m : ℕ) (pt : Point) (l : Placed) (records all : AllRecords) (k : KernelState) (y : Message) (c : Fronts b m pt l records k y) (at moves : ℕ) → pt.view.known m y.to.pid ≡ Forward at moves → has_update (kind_of y.what) ≡ true
+update_may : (b : Boot) (m : ℕ) (pt : Point) (l : Placed) (records all : AllRecords) (k : KernelState) (y : Message) (c : Fronts b m pt l records k y) (at moves : ℕ) → pt.view.known m y.to.pid ≡ Forward at moves → is_told_back (kind_of y.what) ≡ true
     → MayOwn (handled_point pt m y.id pt.view.held (view.Place y.to.pid at moves) (forwarded pt m y at).addresses) (with_message l y.id (Some (sent_on at moves y))) all (update_of y (machine.own_id k) k.here at moves)
 update_may b m pt l records all k y c at moves knows has =
     let start = mirrors_view pt.kernel pt.view (begun pt m).view pt.addresses l refl c.mirrors in
     let own = own_id (begun pt m).view in
     let named = own_named b m pt l records k y c in
     let free = own_free b m pt l records k y c in
-    let none = no_move b m pt l records k y c in
-    let places = update_gets (begun pt m) l y.id y c.told at at moves start c.there c.told_is (ap (pt.view.known m) c.receiver ∙ knows) free (told_back c.told.kind (λ f. none (sym c.kind ∙ f)) ∙ ap has_update c.kind ∙ has) in
+    let places = update_gets (begun pt m) l y.id y c.told at at moves start c.there c.told_is (ap (pt.view.known m) c.receiver ∙ knows) free (ap is_told_back c.kind ∙ has) in
     let off : id_eq y.id own ≡ false = id_eq-swap y.id own ∙ free_off l own y.id y free c.there in
     record {
       id = named;
@@ -259,7 +201,7 @@ on_may : (b : Boot) (m : ℕ) (pt : Point) (l : Placed) (records all : AllRecord
 on_may b m pt l records all k y c at moves is =
     (ap (λ (t : Bool). if t then Some (sent_on at moves y) else l.bag y.id) (id_eq-same y.id), (c.told, c.told_is, c.kind, c.receiver), front_still b m pt l records k y c is.number)
 
-all_may : (b : Boot) (m : ℕ) (pt : Point) (l : Placed) (records all : AllRecords) (k : KernelState) (y : Message) (c : Fronts b m pt l records k y) (at moves : ℕ) (back : Bool) → IsProcess y.to.pid → pt.view.known m y.to.pid ≡ Forward at moves → has_update (kind_of y.what) ≡ back
+all_may : (b : Boot) (m : ℕ) (pt : Point) (l : Placed) (records all : AllRecords) (k : KernelState) (y : Message) (c : Fronts b m pt l records k y) (at moves : ℕ) (back : Bool) → IsProcess y.to.pid → pt.view.known m y.to.pid ≡ Forward at moves → is_told_back (kind_of y.what) ≡ back
     → AllMayPut (handled_point pt m y.id pt.view.held (view.Place y.to.pid at moves) (forwarded pt m y at).addresses) (with_message l y.id (Some (sent_on at moves y))) all (routes_of y (machine.own_id k) k.here at moves back)
 all_may b m pt l records all k y c at moves true is knows has = (on_may b m pt l records all k y c at moves is, (update_may b m pt l records all k y c at moves knows has, tt))
 all_may b m pt l records all k y c at moves false is knows has = (on_may b m pt l records all k y c at moves is, tt)
@@ -290,7 +232,7 @@ own_most : (y : Message) (id : MsgId) (here at moves : ℕ) (back : Bool) → ow
 own_most y id here at moves true = omega arith
 own_most y id here at moves false = omega arith
 
-forward_row : (b : Boot) (m : ℕ) (pt : Point) (l : Placed) (records : AllRecords) (k : KernelState) (y : Message) (c : Fronts b m pt l records k y) (at moves : ℕ) (back : Bool) → IsProcess y.to.pid → pt.view.known m y.to.pid ≡ Forward at moves → has_update (kind_of y.what) ≡ back → TurnsAt b m pt l records k
+forward_row : (b : Boot) (m : ℕ) (pt : Point) (l : Placed) (records : AllRecords) (k : KernelState) (y : Message) (c : Fronts b m pt l records k y) (at moves : ℕ) (back : Bool) → IsProcess y.to.pid → pt.view.known m y.to.pid ≡ Forward at moves → is_told_back (kind_of y.what) ≡ back → TurnsAt b m pt l records k
 forward_row b m pt l records k y c at moves back is knows has =
     let p = y.to.pid in
     let s = record k { inbox = c.rest } in
@@ -352,4 +294,4 @@ forward_row b m pt l records k y c at moves back is knows has =
 
 -- where the process has gone on
 pub forwards_turn : (b : Boot) (m : ℕ) (pt : Point) (l : Placed) (records : AllRecords) (k : KernelState) (y : Message) (c : Fronts b m pt l records k y) (at moves : ℕ) → is_fixed y.to.pid ≡ false → pt.view.known m y.to.pid ≡ Forward at moves → TurnsAt b m pt l records k
-forwards_turn b m pt l records k y c at moves fixed knows = forward_row b m pt l records k y c at moves (has_update (kind_of y.what)) (is_process_of y.to.pid fixed) knows refl
+forwards_turn b m pt l records k y c at moves fixed knows = forward_row b m pt l records k y c at moves (is_told_back (kind_of y.what)) (is_process_of y.to.pid fixed) knows refl

@@ -1,17 +1,20 @@
 -- The process can be served, and nothing was changed to see it.
-use Rattle.std.proofs.Common.{◌≡◌, ◌<◌, Some, refl, subst, sym}
-use Rattle.dm_link.specs.declared.Pid.{Pid}
+use Rattle.std.proofs.Common.{◌∙◌, ap, refl, subst, sym}
 use Rattle.dm_records.specs.Records.{at}
-use Rattle.dm_records.specs.declared.record.Record.TheVariants.{Here}
 use Rattle.dm_process.specs.Service.{IsServiceOf}
 use Rattle.dm_process.specs.declared.process.Process.{Process}
 use Rattle.dm_kernel.specs.May.{MayAct}
-use Rattle.dm_kernel.specs.Meets.{Answers, state_of}
+use Rattle.dm_kernel.specs.Meets.{state_of}
 use Rattle.dm_kernel.specs.Served.{IsHere}
 use Rattle.dm_kernel.specs.State.{KernelState}
-use Rattle.dm_kernel.specs.Turn.{first_runnable, goes_round}
 use Rattle.dm_kernel.proofs.Known.{can_serve, holds_at}
 use Rattle.dm_kernel.proofs.kernel.Kernel.go_round.Goals as goal
 
 pub serve-requires-clause-process : goal.serve-requires-clause-process
-serve-requires-clause-process c = ?
+serve-requires-clause-process c =
+    let k = c.first_service.new.self in
+    let p = c.at-pid.result.now in
+    let same = c.first_service.ensures.unchanged in
+    can_serve (state_of k) _ p c.in-Some.service (at k.records p) refl
+    (λ x h. subst (λ (s : KernelState). MayAct s p x) (sym same) (c.requires.processes p x (sym (ap (λ (s : KernelState). s.records p) same) ∙ h)))
+    (holds_at (λ q. IsHere (λ (x : Process). IsServiceOf x c.in-Some.service) (at k.records q)) _ p c.at-pid.ensures c.first_service.ensures.service)

@@ -9,6 +9,7 @@ use Rattle.dm_kernel.specs.Meets.{state_of}
 use Rattle.dm_kernel.specs.State.{Known}
 use Rattle.dm_kernel.specs.Turn.{known_is_runnable}
 use Rattle.dm_kernel.proofs.Known.{has_some, here_runs, is_here_as, none_runs, same_state, set_again}
+use Rattle.dm_kernel.proofs.Rounds.{here_does}
 use Rattle.dm_kernel.proofs.kernel.Kernel.service_of.Goals as goal
 
 pub returns-in-Some-clause-unchanged : goal.returns-in-Some-clause-unchanged
@@ -21,13 +22,30 @@ returns-in-Some-clause-unchanged c =
     ∙ set_again (at c.args.self.now.records) c.args.pid x was q)
 
 pub returns-in-Some-clause-runnable : goal.returns-in-Some-clause-runnable
-returns-in-Some-clause-runnable c = ?
+returns-in-Some-clause-runnable c =
+    let x = c.in-Some.process.now in
+    let was : here_of (at c.args.self.now.records c.args.pid) ≡ Some x = sym c.in-Some.ensures.value in
+    c.service.ensures.runnable
+    ∙ sym (here_runs (at c.args.self.now.records c.args.pid) x was)
+    ∙ sym (ap known_is_runnable (
+      c.here_mut.follows.holds c.service.new.self (has_some _ x was) c.args.pid
+      ∙ ap (λ (y : Process). with_record (at c.args.self.now.records) c.args.pid (Here y) c.args.pid) c.service.ensures.unchanged
+      ∙ set_again (at c.args.self.now.records) c.args.pid x was c.args.pid
+    ))
 
 pub returns-in-Some-clause-service : goal.returns-in-Some-clause-service
-returns-in-Some-clause-service c = ?
+returns-in-Some-clause-service c =
+    let x = c.in-Some.process.now in
+    let was : here_of (at c.args.self.now.records c.args.pid) ≡ Some x = sym c.in-Some.ensures.value in
+    here_does (at c.args.self.now.records c.args.pid) _ x c.service.result was (
+      c.here_mut.follows.holds c.service.new.self (has_some _ x was) c.args.pid
+      ∙ ap (λ (y : Process). with_record (at c.args.self.now.records) c.args.pid (Here y) c.args.pid) c.service.ensures.unchanged
+      ∙ set_again (at c.args.self.now.records) c.args.pid x was c.args.pid
+    ) c.service.ensures.service
 
 pub returns-in-None-clause-unchanged : goal.returns-in-None-clause-unchanged
 returns-in-None-clause-unchanged c = same_state (state_of c.args.self.now) _ c.here_mut.follows.holds-at-none
 
 pub returns-in-None-clause-runnable : goal.returns-in-None-clause-runnable
-returns-in-None-clause-runnable c = ?
+returns-in-None-clause-runnable c =
+    sym (ap known_is_runnable (c.here_mut.follows.holds-at-none c.args.pid) ∙ none_runs (at c.args.self.now.records c.args.pid) (sym c.in-None.ensures.value))
