@@ -3,6 +3,7 @@ pub mod Ringing
 pub mod Known
 pub mod Rounds
 pub mod Serving
+pub mod Receiving
 pub mod Making
 pub mod Opening
 pub mod Fitting

@@ -48,11 +48,13 @@ impl Kernel {
         let process = self.records.here_mut(pid).unwrap();
         let (count, halt) = execute(&mut process.regs, &mut process.memory, quantum);
         match halt {
-            Some(Halt::Call(number)) => {
-                let called = call(process, number, here);
-                self.after_call(pid, count, number, called)
-            }
-            Some(Halt::Fault(fault)) => self.end(pid, count, Why::Fault(fault)),
+            Some(halt) => match halt {
+                Halt::Call(number) => {
+                    let called = call(process, number, here);
+                    self.after_call(pid, count, number, called)
+                }
+                Halt::Fault(fault) => self.end(pid, count, Why::Fault(fault)),
+            },
             None => self.say(Line::Label(Label::Ran { pid, count })),
         }
     }

@@ -7,6 +7,7 @@ use Rattle.dm_statebytes.specs.Shell.{shell_of_bytes}
 use Rattle.dm_migrate.specs.Arrival.{IsNextChunk, IsStateFor, after_chunk, revived, with_chunk}
 use Rattle.std.specs.declared.result.Result.{Result}
 use Rattle.std.specs.declared.result.Result.TheVariants.{Ok, Err}
+use Rattle.std.specs.Prelude.{IfOk}
 use Rattle.dm_statebytes.specs.declared.CarryBad.{CarryBad}
 use Rattle.dm_migrate.specs.declared.arriving.Wanted.{Wanted}
 use Rattle.dm_migrate.specs.declared.arriving.Wanted.TheVariants.{Nothing}
@@ -82,6 +83,10 @@ lawful_after a s h e l =
 abbrev blocks_read : Result Shell CarryBad → ℕ
 blocks_read (Ok s) = s.blocks
 blocks_read (Err bad) = 0
+
+-- what holds of a success holds of the value
+pub of_ok : {A E : Type 0} (P : A → Type 0) (r : Result A E) (x : A) → r ≡ Ok x → IfOk r P → P x
+of_ok P r x e h = subst (λ r. IfOk r P) e h
 
 pub all_come : (a : Parts) (s : Shell) (bytes : List ℕ) → IsComing a → a.wanted ≡ Nothing → bytes ≡ a.state → shell_of_bytes bytes a.cap ≡ Ok s → IsLawfulShell a.cap s → IsLawfulProcess (revived s a.memory)
 all_come a s bytes h n b r l =

@@ -1,9 +1,10 @@
 -- The pending request of a number, and where it stands.
-use Rattle.std.proofs.Common.{◌≡◌, ◌<◌, ℕ, zero, suc, true, false, if◌then◌else◌, List, [], ◌∷◌, length, get_or, position, None, Some, refl, ap, ◌∙◌, arith}
+use Rattle.std.proofs.Common.{◌≡◌, ◌<◌, ℕ, zero, suc, true, false, if◌then◌else◌, List, [], ◌∷◌, length, get_or, position, None, Some, refl, rules, ap, ◌∙◌, arith}
 use Rattle.std.proofs.lemmas.Grind.{common_steps}
 use Rattle.std.proofs.lemmas.List.Quantifiers.{position-Some}
 use Rattle.std.specs.List.{remove}
 use Rattle.std.specs.Prelude.{IsSome}
+use Rattle.std.specs.declared.option.Option.{Option}
 use Rattle.dm_procman.specs.declared.pending.Pending.{Pending}
 use Rattle.dm_procman.specs.Taking.{has_number, pending_numbered, without_pending}
 
@@ -36,3 +37,7 @@ none_there n (r ∷ rs) h = grind (arith, common_steps, h, none_there n rs)
 
 pub never_none : (n : ℕ) (rs : List Pending) → IsSome (pending_numbered n rs) → position (has_number n) rs ≡ None → ⊥
 never_none n rs some none = absurd (grind (arith, common_steps, some, none_there n rs none))
+
+pub is_there : (o : Option ℕ) → (o ≡ None → ⊥) → IsSome o
+is_there None never = absurd (never refl)
+is_there (Some i) never = search rules

@@ -17,4 +17,4 @@ serve-requires-clause-process c =
     let same = c.first_service.ensures.unchanged in
     can_serve (state_of k) _ p c.in-Some.service (at k.records p) refl
     (λ x h. subst (λ (s : KernelState). MayAct s p x) (sym same) (c.requires.processes p x (sym (ap (λ (s : KernelState). s.records p) same) ∙ h)))
-    (holds_at (λ q. IsHere (λ (x : Process). IsServiceOf x c.in-Some.service) (at k.records q)) _ p c.at-pid.ensures c.first_service.ensures.service)
+    (holds_at (λ q. IsHere (λ (x : Process). IsServiceOf x c.in-Some.service) (at k.records q)) _ p c.at-pid.ensures c.in-Some.ensures.service)

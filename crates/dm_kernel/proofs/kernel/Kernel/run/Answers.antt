@@ -1,5 +1,6 @@
 -- What executing comes to, from what it did to the process in its place.
 use Rattle.std.proofs.Common.{◌≡◌, ◌∙◌, ap, refl, sym, subst, length, Some}
+use Rattle.std.specs.Option.{option_copied_mut}
 use Rattle.dm_records.specs.Records.{at}
 use Rattle.dm_process.specs.declared.process.Process.{Process}
 use Rattle.dm_kernel.specs.declared.run.Halt.TheVariants as halt
@@ -12,42 +13,42 @@ use Rattle.dm_kernel.proofs.kernel.Kernel.run.Goals as goal
 
 pub call-called-requires-clause-lawful : goal.call-called-requires-clause-lawful
 call-called-requires-clause-lawful c =
-    let x = c.in-Some.process.now in
-    let mine : Executes (state_of c.args.self.now) c.args.pid x = is_here (Executes (state_of c.args.self.now) c.args.pid) _ x (sym c.in-Some.ensures.value) c.requires.process in
+    let x = c.unwrap-process.result.now in
+    let mine : Executes (state_of c.args.self.now) c.args.pid x = is_here (Executes (state_of c.args.self.now) c.args.pid) _ x (sym c.here_mut.ensures.value ∙ ap option_copied_mut c.unwrap-process.ensures) c.requires.process in
     runs_lawfully x (record { regs = c.execute-count.new.regs; bytes = c.execute-count.new.memory }) (has_run c.args.quantum x _ c.execute-count.ensures) mine.ready mine.acts.lawful
 
 pub after_call-requires : goal.after_call-requires
 after_call-requires c =
     let s = state_of c.args.self.now in
-    let x = c.in-Some.process.now in
+    let x = c.unwrap-process.result.now in
     let w = c.call-called.new.process in
-    let mine : Executes s c.args.pid x = is_here (Executes s c.args.pid) _ x (sym c.in-Some.ensures.value) c.requires.process in
+    let mine : Executes s c.args.pid x = is_here (Executes s c.args.pid) _ x (sym c.here_mut.ensures.value ∙ ap option_copied_mut c.unwrap-process.ensures) c.requires.process in
     let kept : Keeps (processor_of x) (record { regs = c.execute-count.new.regs; bytes = c.execute-count.new.memory }) = has_run c.args.quantum x _ c.execute-count.ensures in
-    has_place s _ c.args.pid x w (at c.args.self.now.records) refl (c.here_mut.follows.holds w (has_some _ x (sym c.in-Some.ensures.value)))
+    has_place s _ c.args.pid x w (at c.args.self.now.records) refl (c.here_mut.follows.holds w (has_some _ x (sym c.here_mut.ensures.value ∙ ap option_copied_mut c.unwrap-process.ensures)))
     (ap length (ap (λ (y : Process). y.memory) c.call-called.ensures.process ∙ call_keeps c.args.self.now.here (record x { regs = c.execute-count.new.regs; memory = c.execute-count.new.memory }) c.in-Call.number) ∙ kept.memory)
     mine.acts
 
 pub end-requires : goal.end-requires
 end-requires c =
     let s = state_of c.args.self.now in
-    let x = c.in-Some.process.now in
-    let mine : Executes s c.args.pid x = is_here (Executes s c.args.pid) _ x (sym c.in-Some.ensures.value) c.requires.process in
+    let x = c.unwrap-process.result.now in
+    let mine : Executes s c.args.pid x = is_here (Executes s c.args.pid) _ x (sym c.here_mut.ensures.value ∙ ap option_copied_mut c.unwrap-process.ensures) c.requires.process in
     let kept : Keeps (processor_of x) (record { regs = c.execute-count.new.regs; bytes = c.execute-count.new.memory }) = has_run c.args.quantum x _ c.execute-count.ensures in
     has_place s _ c.args.pid x (record x { regs = c.execute-count.new.regs; memory = c.execute-count.new.memory }) (at c.args.self.now.records) refl
-    (c.here_mut.follows.holds (record x { regs = c.execute-count.new.regs; memory = c.execute-count.new.memory }) (has_some _ x (sym c.in-Some.ensures.value)))
+    (c.here_mut.follows.holds (record x { regs = c.execute-count.new.regs; memory = c.execute-count.new.memory }) (has_some _ x (sym c.here_mut.ensures.value ∙ ap option_copied_mut c.unwrap-process.ensures)))
     kept.memory
     mine.acts
 
 pub returns-in-Call : goal.returns-in-Call
 returns-in-Call c =
     let s = state_of c.args.self.now in
-    let x = c.in-Some.process.now in
+    let x = c.unwrap-process.result.now in
     let w = c.call-called.new.process in
-    let halted : c.execute-count.result.1 ≡ Some (halt.Call c.in-Call.number) = c.in-Some-halt.is ∙ ap Some c.in-Call.is in
+    let halted : c.execute-count.result.1 ≡ Some (halt.Call c.in-Call.number) = c.in-Some.is ∙ ap Some c.in-Call.is in
     subst (Answers c.after_call.result c.after_call.new.self)
     (called_as s _ c.args.pid c.execute-count.result.0 c.in-Call.number w _ c.call-called.result
-    (sets s c.args.pid w _ (c.here_mut.follows.holds w (has_some _ x (sym c.in-Some.ensures.value))))
+    (sets s c.args.pid w _ (c.here_mut.follows.holds w (has_some _ x (sym c.here_mut.ensures.value ∙ ap option_copied_mut c.unwrap-process.ensures))))
     c.call-called.ensures.process
     c.call-called.ensures.called
-    ∙ sym (executes_as s c.args.pid c.args.quantum x (record { count = c.execute-count.result.0; machine = record { regs = c.execute-count.new.regs; bytes = c.execute-count.new.memory }; halt = Some (halt.Call c.in-Call.number) }) (sym c.in-Some.ensures.value) (c.execute-count.ensures ∙ ap (λ h. record { count = c.execute-count.result.0; machine = record { regs = c.execute-count.new.regs; bytes = c.execute-count.new.memory }; halt = h }) halted)))
+    ∙ sym (executes_as s c.args.pid c.args.quantum x (record { count = c.execute-count.result.0; machine = record { regs = c.execute-count.new.regs; bytes = c.execute-count.new.memory }; halt = Some (halt.Call c.in-Call.number) }) (sym c.here_mut.ensures.value ∙ ap option_copied_mut c.unwrap-process.ensures) (c.execute-count.ensures ∙ ap (λ h. record { count = c.execute-count.result.0; machine = record { regs = c.execute-count.new.regs; bytes = c.execute-count.new.memory }; halt = h }) halted)))
     c.after_call.ensures
