@@ -22,7 +22,7 @@ mod starting;
 
 use children::Children;
 use dm_link::{Addr, Link, Pid};
-use dm_memory::{NoMemory, push};
+use dm_memory::NoMemory;
 use dm_message::{Message, MsgId, What};
 use dm_onekernel::Boot;
 use making::{answer_over, control_link};

@@ -4,7 +4,7 @@ ghost use Rattle.dm_procman.specs.Managing.{child_of};
 
 use crate::children::Children;
 use dm_link::Addr;
-use dm_memory::{NoMemory, push};
+use dm_memory::NoMemory;
 use dm_onekernel::Boot;
 use std::alloc::Global;
 
