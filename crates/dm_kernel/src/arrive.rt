@@ -116,7 +116,8 @@ impl Kernel {
     ) -> Result<Vec<Part>, NoMemory>
         requires sent { self.old.sent < 4294967295 }
         requires chunk { IsSuch (λ (a : Arrival). IsNextChunk a pid chunk last bytes.now) (incoming_of (at self.old.records pid)) }
-        ensures { Answers result self.new (bind (incoming_of (at self.old.records pid)) (λ a. took_piece (state_of self.old) message.now pid (Some (with_chunk a chunk last bytes.now)))) }
+        ensures { Answers result self.new (bind (incoming_of (at self.old.records pid))
+            (λ a. took_piece (state_of self.old) message.now pid (Some (with_chunk a chunk last bytes.now)))) }
     {
         let arriving = self.records.incoming_mut(pid).unwrap();
         let pull = arriving.take_chunk(chunk, last, bytes);
@@ -134,7 +135,8 @@ impl Kernel {
     ) -> Result<Vec<Part>, NoMemory>
         requires sent { self.old.sent < 4294967295 }
         requires block { IsSuch (λ (a : Arrival). (pid ≡ a.pid) × (a.wanted ≡ Wanted.Block block)) (incoming_of (at self.old.records pid)) }
-        ensures { Answers result self.new (bind (incoming_of (at self.old.records pid)) (λ a. took_piece (state_of self.old) message.now pid (Some (with_block a block bytes.now)))) }
+        ensures { Answers result self.new (bind (incoming_of (at self.old.records pid))
+            (λ a. took_piece (state_of self.old) message.now pid (Some (with_block a block bytes.now)))) }
     {
         let arriving = self.records.incoming_mut(pid).unwrap();
         let pull = arriving.take_block(block, bytes);
@@ -145,7 +147,8 @@ impl Kernel {
     /// Asks who sent a piece for the next.
     fn pull(&mut self, message: &Message, said: Line, pull: What) -> Result<Vec<Part>, NoMemory>
         requires { self.old.sent < 4294967295 }
-        ensures { Answers result self.new (turned (with_sent (state_of self.old)) (Part.Says said ∷ Part.Routes (own (state_of self.old) message.now.sender pull) ∷ [])) }
+        ensures { Answers result self.new (turned (with_sent (state_of self.old))
+            (Part.Says said ∷ Part.Routes (own (state_of self.old) message.now.sender pull) ∷ [])) }
     {
         let pull = self.send(message.sender, pull);
         self.say_and_route(said, pull)
