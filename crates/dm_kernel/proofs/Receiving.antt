@@ -57,9 +57,9 @@ pub received_at : (s : KernelState) (p : Pid) (x : Process) (mask place : ℕ) (
     → turned (with_here s p d.process) (says (completed_label p m.id d.completed) ∷ []) ≡ receives s p x mask (first_on mask x.queue)
 received_at s p x mask place m d t at e =
     what_at s p x mask place m t.rest t.base t.cap_ m.what d (
-      ap (λ (o : Option Message). completion x place (status.Waiting mask t.base t.cap_) o) (sym at)
-      ∙ ap (λ (w : Status). completion x place w (slice_get x.queue place)) (sym t.waits)
-      ∙ e
+    ap (λ (o : Option Message). completion x place (status.Waiting mask t.base t.cap_) o) (sym at)
+    ∙ ap (λ (w : Status). completion x place w (slice_get x.queue place)) (sym t.waits)
+    ∙ e
     )
     ∙ ap (λ (w : Status). received_by s p x mask m (completion x 0 w (Some m))) (sym t.waits)
     ∙ ap (receives s p x mask) (sym at ∙ t.first)

@@ -25,14 +25,17 @@ pub fn say_alive(
 ) -> Result<(), NoMemory>
     ensures { OnOk result (lines.new.items ≡ lines.old.items ++ alive_lines m pid standing process.now) }
 {
-    push(lines, EndLine::Process {
-        pid,
-        at: m,
-        standing,
-        doing: doing(process.status),
-        stopped: process.stopped,
-        sent: process.sent,
-    })?;
+    push(
+        lines,
+        EndLine::Process {
+            pid,
+            at: m,
+            standing,
+            doing: doing(process.status),
+            stopped: process.stopped,
+            sent: process.sent,
+        },
+    )?;
     say_parts(pid, &process.regs, &process.memory, &process.table, lines)
 }
 
@@ -65,14 +68,17 @@ fn say_come(
 ) -> Result<(), NoMemory>
     ensures { OnOk result (lines.new.items ≡ lines.old.items ++ alive_lines m pid standing_.Arriving (revived shell.now memory.now)) }
 {
-    push(lines, EndLine::Process {
-        pid,
-        at: m,
-        standing: Standing::Arriving,
-        doing: doing(shell.status),
-        stopped: shell.stopped,
-        sent: shell.sent,
-    })?;
+    push(
+        lines,
+        EndLine::Process {
+            pid,
+            at: m,
+            standing: Standing::Arriving,
+            doing: doing(shell.status),
+            stopped: shell.stopped,
+            sent: shell.sent,
+        },
+    )?;
     say_parts(pid, &shell.regs, memory, &shell.table, lines)
 }
 
@@ -86,11 +92,14 @@ fn say_parts(
 ) -> Result<(), NoMemory>
     ensures { OnOk result (lines.new.items ≡ lines.old.items ++ parts_lines pid regs.now memory.now table.now) }
 {
-    push(lines, EndLine::Registers {
-        pid,
-        r: regs.r,
-        pc: regs.pc,
-    })?;
+    push(
+        lines,
+        EndLine::Registers {
+            pid,
+            r: regs.r,
+            pc: regs.pc,
+        },
+    )?;
     say_memory(pid, memory, lines)?;
     say_links(pid, table, lines)
 }
@@ -143,11 +152,14 @@ fn say_block(
     if shown > 0 {
         let mut bytes_shown = ArrayVec::new();
         let _ = bytes_shown.try_extend_from_slice(&bytes[..shown]);
-        push(lines, EndLine::Memory {
-            pid,
-            block,
-            bytes: bytes_shown,
-        })?;
+        push(
+            lines,
+            EndLine::Memory {
+                pid,
+                block,
+                bytes: bytes_shown,
+            },
+        )?;
     }
     Ok(())
 }
@@ -172,11 +184,14 @@ fn say_links(pid: Pid, table: &Table, lines: &mut Vec<EndLine>) -> Result<(), No
 {
     for slot in 0..table.cap() {
         if let Some(link) = table.get(slot) {
-            push(lines, EndLine::Link {
-                pid,
-                slot,
-                link: *link,
-            })?;
+            push(
+                lines,
+                EndLine::Link {
+                    pid,
+                    slot,
+                    link: *link,
+                },
+            )?;
         }
     }
     Ok(())

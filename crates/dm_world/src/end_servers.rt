@@ -20,14 +20,20 @@ pub fn say_servers(kernel: &Kernel, lines: &mut Vec<EndLine>) -> Result<(), NoMe
     ensures { OnOk result (lines.new.items ≡ lines.old.items ++ server_lines kernel.now.servers) }
 {
     if let Some(servers) = kernel.servers() {
-        push(lines, EndLine::Server {
-            pid: SWITCHBOARD,
-            sent: servers.board().sent(),
-        })?;
-        push(lines, EndLine::Server {
-            pid: MANAGER,
-            sent: servers.manager().sent(),
-        })?;
+        push(
+            lines,
+            EndLine::Server {
+                pid: SWITCHBOARD,
+                sent: servers.board().sent(),
+            },
+        )?;
+        push(
+            lines,
+            EndLine::Server {
+                pid: MANAGER,
+                sent: servers.manager().sent(),
+            },
+        )?;
         say_names(servers.board(), lines)?;
         say_children(servers.manager().children(), lines)?;
         say_pending(servers.manager().pending(), lines)?;
@@ -65,11 +71,14 @@ fn say_children(children: &[Addr], lines: &mut Vec<EndLine>) -> Result<(), NoMem
     ensures { OnOk result (lines.new.items ≡ lines.old.items ++ child_lines 1 children.now) }
 {
     for place in 0..children.len() {
-        push(lines, EndLine::Child {
-            number: place as u32 + 1,
-            pid: children[place].pid,
-            at: children[place].at,
-        })?;
+        push(
+            lines,
+            EndLine::Child {
+                number: place as u32 + 1,
+                pid: children[place].pid,
+                at: children[place].at,
+            },
+        )?;
     }
     Ok(())
 }
@@ -79,11 +88,14 @@ fn say_pending(pending: &[Pending], lines: &mut Vec<EndLine>) -> Result<(), NoMe
     ensures { OnOk result (lines.new.items ≡ lines.old.items ++ pending_lines pending.now) }
 {
     for request in pending {
-        push(lines, EndLine::Pending(MsgId {
-            from: MANAGER,
-            n: request.n,
-            answer: false,
-        }))?;
+        push(
+            lines,
+            EndLine::Pending(MsgId {
+                from: MANAGER,
+                n: request.n,
+                answer: false,
+            }),
+        )?;
     }
     Ok(())
 }

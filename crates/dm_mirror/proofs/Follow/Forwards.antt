@@ -165,8 +165,7 @@ outcome_forwards : (b : Boot) (m : ℕ) (pt : Point) (l : Placed) (records : All
     → ((x : PlainMessage) → z ≡ Some x → process_handles pt m y.id x (Forward at moves) ≡ Some (rule.Says (line.Forwarded y.id at) ∷ map rule_part_of (routes_of y id here at moves back)))
     × (z ≡ None → process_told pt m y.id c.told (Forward at moves) ≡ Some (rule.Says (line.Forwarded y.id at) ∷ map rule_part_of (routes_of y id here at moves back)))
 outcome_forwards b m pt l records k y c id here at moves back z plain has =
-    let place = (c.mirrors.places.message y.id y c.there).sender in
-    (
+    let place = (c.mirrors.places.message y.id y c.there).sender in (
       λ x is. (let w = parts y x (plain ∙ is) in
           ap Some (rule_forwards pt.addresses y (plain_kind x.what) x.sender id here at moves back (ap is_told_back (plain_kinds y.what x.what w.what) ∙ has) (λ e. sym w.sender) place)),
       λ own. ap Some (rule_forwards pt.addresses y c.told.kind manager id here at moves back (ap is_told_back c.kind ∙ has) (λ e. sender_is b m pt l records k y c (none_of y (plain ∙ own)) (has ∙ e)) place),

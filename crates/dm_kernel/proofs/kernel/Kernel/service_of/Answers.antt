@@ -28,9 +28,9 @@ returns-in-Some-clause-runnable c =
     c.service.ensures.runnable
     ∙ sym (here_runs (at c.args.self.now.records c.args.pid) x was)
     ∙ sym (ap known_is_runnable (
-      c.here_mut.follows.holds c.service.new.self (has_some _ x was) c.args.pid
-      ∙ ap (λ (y : Process). with_record (at c.args.self.now.records) c.args.pid (Here y) c.args.pid) c.service.ensures.unchanged
-      ∙ set_again (at c.args.self.now.records) c.args.pid x was c.args.pid
+    c.here_mut.follows.holds c.service.new.self (has_some _ x was) c.args.pid
+    ∙ ap (λ (y : Process). with_record (at c.args.self.now.records) c.args.pid (Here y) c.args.pid) c.service.ensures.unchanged
+    ∙ set_again (at c.args.self.now.records) c.args.pid x was c.args.pid
     ))
 
 pub returns-in-Some-clause-service : goal.returns-in-Some-clause-service
@@ -38,9 +38,9 @@ returns-in-Some-clause-service c =
     let x = c.in-Some.process.now in
     let was : here_of (at c.args.self.now.records c.args.pid) ≡ Some x = sym c.in-Some.ensures.value in
     here_does (at c.args.self.now.records c.args.pid) _ x c.service.result was (
-      c.here_mut.follows.holds c.service.new.self (has_some _ x was) c.args.pid
-      ∙ ap (λ (y : Process). with_record (at c.args.self.now.records) c.args.pid (Here y) c.args.pid) c.service.ensures.unchanged
-      ∙ set_again (at c.args.self.now.records) c.args.pid x was c.args.pid
+    c.here_mut.follows.holds c.service.new.self (has_some _ x was) c.args.pid
+    ∙ ap (λ (y : Process). with_record (at c.args.self.now.records) c.args.pid (Here y) c.args.pid) c.service.ensures.unchanged
+    ∙ set_again (at c.args.self.now.records) c.args.pid x was c.args.pid
     ) c.service.ensures.service
 
 pub returns-in-None-clause-unchanged : goal.returns-in-None-clause-unchanged
