@@ -1,16 +1,17 @@
 -- Rules in parts, one after the other.
-use Rattle.std.proofs.Common.{◌≡◌, ℕ, ◌+◌, ◌≤◌, Bool, true, false, nat_le, if◌then◌else◌, List, [], ◌∷◌, ◌++◌, Option, Some, None, Result, Ok, Err, refl, ap, ◌∙◌, arith}
+use Rattle.std.proofs.Common.{◌≡◌, ℕ, ◌+◌, ◌≤◌, Bool, true, false, nat_le, if◌then◌else◌, List, [], ◌∷◌, ◌++◌, Option, Some, None, Result, Ok, Err, map, refl, ap, ◌∙◌, arith}
 use Rattle.std.proofs.lemmas.Bool.Decides.{nat_tests}
 use Rattle.toml.specs.Data.{Data, Items, no_items, item}
 use Rattle.dm_onekernel.specs.declared.boot.Boot.{Boot}
 use Rattle.dm_boot.specs.declared.rules.BootRule.{BootRule}
 use Rattle.dm_boot.specs.declared.rules.BootRule.TheVariants.{TopKeys, Settings, MachineCount, MachineKeys, MachineRoom, ImageCount, ImageText, ImageBytes, ProcessKeys, ProcessName, ProcessMachine, ProcessImage, ProcessRoom}
+use Rattle.dm_boot.specs.declared.rules.TableRule.TheVariants as of_tables
 use Rattle.dm_boot.specs.declared.rules.BootNo.{BootNo}
 use Rattle.dm_boot.specs.declared.rules.BootNo.TheVariants.{Refused, NoMemory}
 use Rattle.dm_boot.specs.Before.{before_images}
 use Rattle.dm_boot.specs.Tables.{count, first_failing, map_items}
 use Rattle.dm_boot.specs.Build.{image_of, images_of, image_tables, process_tables, system_of}
-use Rattle.dm_boot.specs.Rules.{keeps, subjects, broken_at, broken_or, first_broken, first_unassembled, first_long, image_fits, has_place, has_good_image_count, image_rules, process_rules, link_rules, rules}
+use Rattle.dm_boot.specs.Rules.{keeps, subjects, broken_at, broken_or, first_broken, first_unassembled, first_long, image_fits, has_place, rule_of, has_good_image_count, image_rules, process_rules, link_rules, rules}
 use Rattle.dm_boot.specs.Boot.{Answers, unless, unless_at, boot_of_table}
 
 -- what is broken first, or else what comes later
@@ -88,6 +89,11 @@ pass-err w v (NoMemory _) turn h = tt
 -- the rules before those that the code looks at by itself
 abbrev pub before_room : List BootRule
 before_room = ProcessKeys ∷ ProcessName ∷ ProcessMachine ∷ ProcessImage ∷ []
+
+-- as the code lists them
+pub room-listed : map rule_of (of_tables.ProcessKeys ∷ of_tables.ProcessName ∷ of_tables.ProcessMachine ∷ of_tables.ProcessImage ∷ []) ≡ before_room
+unfolding rule_of
+room-listed = refl
 
 texts_and_bytes : (d : Data) → first_broken (ImageText ∷ ImageBytes ∷ []) d ≡ broken_or ImageText (first_unassembled 0 (image_tables d)) (broken_or ImageBytes (first_long 0 (images_of d)) None)
 unfolding first_broken

@@ -1,5 +1,5 @@
 -- What the events of a machine count on, as every machine of a good run has it.
-use Rattle.std.specs.Prelude.{ℕ, ◌+◌, ◌-◌, ◌^◌, ◌<◌, ◌≤◌, ◌≢◌}
+use Rattle.std.specs.Prelude.{◌≡◌, ℕ, ◌+◌, ◌-◌, ◌^◌, ◌<◌, ◌≤◌, ◌≢◌}
 use Rattle.std.specs.List.{All}
 use Rattle.dm_message.specs.declared.Message.{Message}
 use Rattle.dm_message.specs.Lawful.{IsLawfulMessage}
