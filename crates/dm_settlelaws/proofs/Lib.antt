@@ -22,4 +22,8 @@ pub mod TurnsFall
 pub mod Less
 pub mod Distances
 pub mod Routes
+pub mod Ways
+pub mod FrontRows
+pub mod PutTurns
+pub mod FewPuts
 pub mod EndsResting

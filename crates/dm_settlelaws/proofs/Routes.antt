@@ -131,7 +131,7 @@ untaken_gains f n g a b p x m h = elim (eqb_tells b m) [
       omega (arith, k)
 ]
 
-no_spike : (b m : ℕ) → spike b 0 m ≡ 0
+pub no_spike : (b m : ℕ) → spike b 0 m ≡ 0
 no_spike b m = elim (eqb_tells b m) [ inl e ↦ spike_here b 0 m e.1 | inr e ↦ spike_off b 0 m e.1 ]
 
 both_spikes : (c : Bool) (b x m : ℕ) → spike b (if c then x else 0) m + spike b (if c then 0 else x) m ≡ spike b x m
@@ -246,7 +246,10 @@ group_count b pt d w ps e out =
     let (rest, said, end) = bind-is (spelled start parts) (λ (w : Spelled). Some (rule.headed (line.Head d) w)) w last in
     let f : rule.headed (line.Head d) rest ≡ w = cc in
     let same : parts ≡ ps = cc in
-    sym (ap (λ (x : Spelled). count says_put x.lines) f) ∙ parts_count parts start rest said ∙ ap all_routes same
+    let all : count says_put (rule.headed (line.Head d) rest).lines ≡ count says_put w.lines = ap (λ (x : Spelled). count says_put x.lines) f in
+    let these = parts_count parts start rest said in
+    let routes = ap all_routes same in
+    omega (arith, all, these, routes)
 
 pub net_count : (ps : List Part) → IsNet ps → all_routes ps ≡ 0
 net_count [] h = refl
@@ -260,7 +263,7 @@ net_count (Says l ∷ ps) h = let e = net_line l h.0 in let k = net_count ps h.1
     net_line line.Nothing h = refl
     net_line (line.Resent m n) h = refl
     net_line l h = absurd h
-net_count (Transmits a b l ∷ ps) h = net_count ps h.1
+net_count (Transmits a b l ∷ ps) h = let k = net_count ps h.1 in omega (arith, k)
 net_count (Routes i ∷ ps) h = absurd h.0
 net_count (Again i b ∷ ps) h = absurd h.0
 net_count (Owns k q b ∷ ps) h = absurd h.0
