@@ -26,4 +26,5 @@ pub mod Ways
 pub mod FrontRows
 pub mod PutTurns
 pub mod FewPuts
+pub mod PutsWorked
 pub mod EndsResting
