@@ -1,5 +1,5 @@
 -- A turn of a settle, where no process moves and only user messages for processes and updates are on their way, leaves less to put.
-use Rattle.std.proofs.Common.{◌≡◌, ℕ, suc, ◌+◌, ◌-◌, ◌*◌, ◌<◌, ◌≤◌, ◌==◌, Bool, true, false, List, [], ◌∷◌, ◌++◌, refl, ap, ◌∙◌, sym, subst, inl, inr, arith, suc-mul, mul-one}
+use Rattle.std.proofs.Common.{◌≡◌, ℕ, suc, ◌+◌, ◌-◌, ◌*◌, ◌<◌, ◌≤◌, ◌==◌, Bool, true, false, List, [], ◌∷◌, refl, ap, ◌∙◌, sym, subst, inl, inr, arith, suc-mul, mul-one}
 use Rattle.std.specs.Prelude.{if◌then◌else◌}
 use Rattle.std.specs.declared.option.Option.{Option}
 use Rattle.std.specs.declared.option.Option.TheVariants.{None, Some}
@@ -27,7 +27,7 @@ use Rattle.dm_rule.specs.Parts.{Part, Says, Again, Owns, Spelled, puts, spelled}
 use Rattle.dm_rule.specs.Point.{Point, first_point, moved}
 use Rattle.dm_rule.specs.Quiet.{has_mail}
 use Rattle.dm_rule.specs.Rule.{group_of}
-use Rattle.dm_rule.specs.Spots.{Inbox, Spot, StandsNowhere, StandsOutside, StandsRight, standing, times}
+use Rattle.dm_rule.specs.Spots.{Inbox, Spot, StandsOutside, StandsRight, standing, times}
 use Rattle.dm_rule.specs.Trails.{leads}
 use Rattle.dm_rule.specs.View.{Told, View, first_told, is_kernels, own_id, view_after}
 use Rattle.dm_rule.specs.View as view
@@ -42,14 +42,14 @@ use Rattle.dm_movelaws.specs.Ends.{count}
 use Rattle.dm_movelaws.specs.Trail.{ByHolder, ByOwn, IsNamed}
 use Rattle.dm_movelaws.proofs.Trail.Standing.{addresses_lead}
 use Rattle.dm_settlelaws.specs.Left.{weight, weight_to}
-use Rattle.dm_settlelaws.specs.Puts.{is_light, is_light_kind, says_put}
+use Rattle.dm_settlelaws.specs.Puts.{is_light, says_put}
 use Rattle.dm_settlelaws.proofs.Distances.{Knows, distance, nearer, within_steps}
 use Rattle.dm_settlelaws.proofs.Effects.{back_in, effect, line_takes_to}
-use Rattle.dm_settlelaws.proofs.FrontRows.{FrontLine, Goes, Shape, Stops, forwarded, goes_on, turn_shape}
+use Rattle.dm_settlelaws.proofs.FrontRows.{FrontLine, Goes, Shape, Stops, forwarded, turn_shape}
 use Rattle.dm_settlelaws.proofs.Grows.{no_back, touches_none}
 use Rattle.dm_settlelaws.proofs.Routes.{Home, Puts, all_routes, group_count, no_spike, puts_lead}
 use Rattle.dm_settlelaws.proofs.TurnFalls.{some_mail}
-use Rattle.dm_settlelaws.proofs.Ways.{AllLight, Carries, Falls, Gains, Lightly, carries_fall, cost, gained, light_box, spikes, told_of, value, worth}
+use Rattle.dm_settlelaws.proofs.Ways.{AllLight, Carries, Falls, Gains, Lightly, carries_fall, cost, gained, light_box, told_of, value, worth}
 use Rattle.dm_settlelaws.proofs.Weights.{first_times, spike}
 
 -- from the machine where a message stands the forwarding addresses lead to its receiver
