@@ -14,7 +14,7 @@ use Rattle.dm_rule.specs.Point.{Point, first_point}
 use Rattle.dm_mirror.specs.Todo.{IsDirective}
 use Rattle.dm_movelaws.specs.Ends.{count}
 use Rattle.dm_settlelaws.specs.Left.{one_each, weight_of}
-use Rattle.dm_settlelaws.specs.Puts.{IsLightly, says_put}
+use Rattle.dm_settlelaws.specs.Puts.{OnlyLight, says_put}
 
 -- how many messages groups route
 abbrev pub puts_in : List (List Line) → ℕ
@@ -25,5 +25,5 @@ puts_in (g ∷ gs) = count says_put g + puts_in gs
 -- begins
 abbrev pub SettleFew : Type 0
 SettleFew =
-    (b : Boot) (es : List Step) (ds : List Directive) (gs : List (List Line)) (pt end : Point) (left : Todo) → IsValid b → All (IsDirective (length b.machines)) ds → Leads b (first_point b) es pt → IsLightly pt.view
+    (b : Boot) (es : List Step) (ds : List Directive) (gs : List (List Line)) (pt end : Point) (left : Todo) → IsValid b → All (IsDirective (length b.machines)) ds → Leads b (first_point b) es pt → OnlyLight pt.view
     → IsRun b pt (all_of (directive.Settle ∷ ds)) gs end left → length ds ≤ length left.directives → puts_in gs ≤ (pt.kernel.machines - 1) * (pt.kernel.machines + 1) * weight_of one_each pt.kernel.machines pt.view

@@ -49,7 +49,7 @@ use Rattle.dm_settlelaws.proofs.FrontRows.{FrontLine, Goes, Shape, Stops, forwar
 use Rattle.dm_settlelaws.proofs.Grows.{no_back, touches_none}
 use Rattle.dm_settlelaws.proofs.Routes.{Home, Puts, all_routes, group_count, no_spike, puts_lead}
 use Rattle.dm_settlelaws.proofs.TurnFalls.{some_mail}
-use Rattle.dm_settlelaws.proofs.Ways.{AllLight, Carries, Falls, Gains, Lightly, carries_fall, cost, gained, light_box, told_of, value, worth}
+use Rattle.dm_settlelaws.proofs.Ways.{AllLight, Carries, Falls, Gains, LightWay, carries_fall, cost, gained, light_box, told_of, value, worth}
 use Rattle.dm_settlelaws.proofs.Weights.{first_times, spike}
 
 -- from the machine where a message stands the forwarding addresses lead to its receiver
@@ -160,7 +160,7 @@ goes_telling v w n m at to i u t new small known told back near put update =
     omega (arith, here, there, more, many, other, once, few, small)
 
 -- the groups
-stops_falls : (b : Boot) (pt : Point) (m : ℕ) (i : MsgId) (is : List MsgId) (l : Line) (ps : List Part) (rest : Spelled) (n : ℕ) → Lightly n pt.view → m < n → pt.view.inbox m ≡ i ∷ is → FrontLine i l → ps ≡ Says l ∷ []
+stops_falls : (b : Boot) (pt : Point) (m : ℕ) (i : MsgId) (is : List MsgId) (l : Line) (ps : List Part) (rest : Spelled) (n : ℕ) → LightWay n pt.view → m < n → pt.view.inbox m ≡ i ∷ is → FrontLine i l → ps ≡ Says l ∷ []
     → spelled (moved pt (line.Head (step.Turn m)) pt.kernel) ps ≡ Some rest → Falls n pt.view rest.point.view (all_routes ps)
 stops_falls b pt m i is l ps rest n h small front f are said =
     let start = moved pt (line.Head (step.Turn m)) pt.kernel in
@@ -173,7 +173,7 @@ stops_falls b pt m i is l ps rest n h small front f are said =
     carries_fall n pt.view rest.point.view m i [] (all_routes ps) h c small (omega (arith, routes, zero_))
 
 goes_falls : (b : Boot) (es : List Step) (pt : Point) (m : ℕ) (i : MsgId) (is : List MsgId) (t : Told) (ps : List Part) (rest : Spelled) (at moves : ℕ) (sender : Pid) (to : ℕ) (back : Bool) → IsValid b → Leads b (first_point b) es pt
-    → Lightly pt.kernel.machines pt.view → m < pt.kernel.machines → pt.view.inbox m ≡ i ∷ is → pt.view.told i ≡ Some t → is_light (Some t) ≡ true → (t.receiver.num == 0) ≡ false → pt.view.known m t.receiver ≡ view.Forward at moves
+    → LightWay pt.kernel.machines pt.view → m < pt.kernel.machines → pt.view.inbox m ≡ i ∷ is → pt.view.told i ≡ Some t → is_light (Some t) ≡ true → (t.receiver.num == 0) ≡ false → pt.view.known m t.receiver ≡ view.Forward at moves
     → is_told_back t.kind ≡ back → ps ≡ Says (line.Forwarded i at) ∷ Again i at ∷ (if back then Owns kind.Update sender to ∷ [] else [])
     → spelled (moved pt (line.Head (step.Turn m)) pt.kernel) ps ≡ Some rest → Falls pt.kernel.machines pt.view rest.point.view (all_routes ps)
 goes_falls b es pt m i is t ps rest at moves sender to back valid way h small front told light num known told_back are said =
@@ -208,7 +208,7 @@ goes_falls b es pt m i is t ps rest at moves sender to back valid way h small fr
     subst (λ (q : Point). Falls n v q.view (all_routes ps)) (end_two ∙ end)
     (ends n v again.next again.rest m at to i t sender back h small second told_two told_back near put.home untold again.on ps are)
   where
-    ends : (n : ℕ) (v : View) (next : Point) (last : Spelled) (m at to : ℕ) (i : MsgId) (t : Told) (sender : Pid) (back : Bool) → Lightly n v → m < n → Carries n v next.view m i ((at, i) ∷ []) → next.view.told i ≡ Some t → is_told_back t.kind ≡ back
+    ends : (n : ℕ) (v : View) (next : Point) (last : Spelled) (m at to : ℕ) (i : MsgId) (t : Told) (sender : Pid) (back : Bool) → LightWay n v → m < n → Carries n v next.view m i ((at, i) ∷ []) → next.view.told i ≡ Some t → is_told_back t.kind ≡ back
         → distance v.known t.receiver (n - 1) m ≡ suc (distance v.known t.receiver (n - 1) at) → Home next.view.pair → next.view.told (own_id next.view) ≡ None
         → spelled next (if back then Owns kind.Update sender to ∷ [] else []) ≡ Some last → (ps : List Part) → ps ≡ Says (line.Forwarded i at) ∷ Again i at ∷ (if back then Owns kind.Update sender to ∷ [] else []) → Falls n v last.point.view (all_routes ps)
     ends n v next last m at to i t sender false h small c told back near home untold on ps are =
@@ -230,13 +230,13 @@ goes_falls b es pt m i is t ps rest at moves sender to back valid way h small fr
         subst (λ (q : Point). Falls n v q.view (all_routes ps)) (ap (λ (x : Spelled). x.point) end ∙ o.end)
         (carries_fall n v o.next.view m i ((to, own_id next.view) ∷ (at, i) ∷ []) (all_routes ps) h all small (omega (arith, routes, most)))
 
-shape_falls : (b : Boot) (es : List Step) (pt : Point) (m : ℕ) (i : MsgId) (is : List MsgId) (t : Told) (ps : List Part) (rest : Spelled) → IsValid b → Leads b (first_point b) es pt → Lightly pt.kernel.machines pt.view → m < pt.kernel.machines
+shape_falls : (b : Boot) (es : List Step) (pt : Point) (m : ℕ) (i : MsgId) (is : List MsgId) (t : Told) (ps : List Part) (rest : Spelled) → IsValid b → Leads b (first_point b) es pt → LightWay pt.kernel.machines pt.view → m < pt.kernel.machines
     → pt.view.inbox m ≡ i ∷ is → pt.view.told i ≡ Some t → is_light (Some t) ≡ true → Shape pt.view m i t ps → spelled (moved pt (line.Head (step.Turn m)) pt.kernel) ps ≡ Some rest → Falls pt.kernel.machines pt.view rest.point.view (all_routes ps)
 shape_falls b es pt m i is t ps rest valid way h small front told light (Stops l f are) said = stops_falls b pt m i is l ps rest pt.kernel.machines h small front f are said
 shape_falls b es pt m i is t ps rest valid way h small front told light (Goes at moves sender to num known are) said =
     goes_falls b es pt m i is t ps rest at moves sender to (is_told_back t.kind) valid way h small front told light num known refl are said
 
-pub turn_puts : (b : Boot) (es : List Step) (pt : Point) (m : ℕ) (w : Spelled) → IsValid b → Leads b (first_point b) es pt → Lightly pt.kernel.machines pt.view → m < pt.kernel.machines → has_mail pt.view m ≡ true → group_of b pt (step.Turn m) ≡ Some w
+pub turn_puts : (b : Boot) (es : List Step) (pt : Point) (m : ℕ) (w : Spelled) → IsValid b → Leads b (first_point b) es pt → LightWay pt.kernel.machines pt.view → m < pt.kernel.machines → has_mail pt.view m ≡ true → group_of b pt (step.Turn m) ≡ Some w
     → Falls pt.kernel.machines pt.view w.point.view (count says_put w.lines)
 turn_puts b es pt m w valid way h small mail e =
     let (i, is, front) = some_mail (pt.view.inbox m) mail in

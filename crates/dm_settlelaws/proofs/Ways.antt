@@ -17,7 +17,7 @@ use Rattle.dm_rule.specs.Spots.{Inbox, Untaken, times, untaken}
 use Rattle.dm_rule.specs.View.{Told, View}
 use Rattle.dm_movelaws.specs.AtRest.{is_moving}
 use Rattle.dm_settlelaws.specs.Left.{one_each, weight, weight_of, weight_to}
-use Rattle.dm_settlelaws.specs.Puts.{IsLightly, is_light}
+use Rattle.dm_settlelaws.specs.Puts.{OnlyLight, is_light}
 use Rattle.dm_settlelaws.proofs.Distances.{Knows, distance, within_steps}
 use Rattle.dm_settlelaws.proofs.Weights.{spike, spike_here, spike_off, sum_both, sum_le, sum_same, sum_spike, sum_spike_most, weight_none, weight_same}
 
@@ -41,7 +41,7 @@ value v n m i = worth v.known n m (v.told i)
 abbrev pub heavy : View → MsgId → ℕ
 heavy v i = if is_light (v.told i) then 0 else 1
 
-pub record Lightly (n : ℕ) (v : View) : Type 0 where
+pub record LightWay (n : ℕ) (v : View) : Type 0 where
   pub still : (m : ℕ) (p : Pid) → is_moving (v.known m p) ≡ false
   pub none : weight_of (heavy v) n v ≡ 0
 
@@ -75,8 +75,8 @@ weighs_none f i (x ∷ xs) h stands = elim (cases_Bool (id_eq i x)) [
 ]
 
 -- so it begins
-pub lightly : (n : ℕ) (v : View) → IsLightly v → Lightly n v
-lightly n v h = record {
+pub light_way : (n : ℕ) (v : View) → OnlyLight v → LightWay n v
+light_way n v h = record {
   still = h.still;
   none = sum_none (weight_to (heavy v) n v) n (λ m l.
       let box = weight_none (heavy v) (v.inbox m) (λ i stands. light_none v i (h.light i (Inbox m) refl stands)) in
@@ -85,25 +85,25 @@ lightly n v h = record {
 }
 
 -- of the machines that there are
-pub light_box : (n : ℕ) (v : View) (m : ℕ) (i : MsgId) → Lightly n v → m < n → 1 ≤ times i (v.inbox m) → is_light (v.told i) ≡ true
+pub light_box : (n : ℕ) (v : View) (m : ℕ) (i : MsgId) → LightWay n v → m < n → 1 ≤ times i (v.inbox m) → is_light (v.told i) ≡ true
 light_box n v m i h less stands =
     let all : weight_to (heavy v) n v m ≡ 0 = none_in (weight_to (heavy v) n v) n m h.none less in
     none_light v i (weighs_none (heavy v) i (v.inbox m) (omega (arith, all)) stands)
 
-pub light_pair : (n : ℕ) (v : View) (a m : ℕ) (i : MsgId) → Lightly n v → m < n → a < n → 1 ≤ times i (untaken (v.pair a m)) → is_light (v.told i) ≡ true
+pub light_pair : (n : ℕ) (v : View) (a m : ℕ) (i : MsgId) → LightWay n v → m < n → a < n → 1 ≤ times i (untaken (v.pair a m)) → is_light (v.told i) ≡ true
 light_pair n v a m i h less there stands =
     let all : weight_to (heavy v) n v m ≡ 0 = none_in (weight_to (heavy v) n v) n m h.none less in
     let pairs : sum_below (λ j. weight (heavy v) (untaken (v.pair j m))) n ≡ 0 = omega (arith, all) in
     none_light v i (weighs_none (heavy v) i (untaken (v.pair a m)) (none_in (λ j. weight (heavy v) (untaken (v.pair j m))) n a pairs there) stands)
 
 -- two weights that agree on such messages
-pub same_to : (f g : MsgId → ℕ) (n : ℕ) (v : View) (m : ℕ) → Lightly n v → ((i : MsgId) → is_light (v.told i) ≡ true → f i ≡ g i) → m < n → weight_to f n v m ≡ weight_to g n v m
+pub same_to : (f g : MsgId → ℕ) (n : ℕ) (v : View) (m : ℕ) → LightWay n v → ((i : MsgId) → is_light (v.told i) ≡ true → f i ≡ g i) → m < n → weight_to f n v m ≡ weight_to g n v m
 same_to f g n v m h same less =
     let box = weight_same f g (v.inbox m) (λ i stands. same i (light_box n v m i h less stands)) in
     let pairs = sum_same (λ a. weight f (untaken (v.pair a m))) (λ a. weight g (untaken (v.pair a m))) n (λ a l. weight_same f g (untaken (v.pair a m)) (λ i stands. same i (light_pair n v a m i h less l stands))) in
     omega (arith, box, pairs)
 
-pub same_total : (f g : ℕ → MsgId → ℕ) (n : ℕ) (v : View) → Lightly n v → ((m : ℕ) (i : MsgId) → is_light (v.told i) ≡ true → f m i ≡ g m i) → total f n v ≡ total g n v
+pub same_total : (f g : ℕ → MsgId → ℕ) (n : ℕ) (v : View) → LightWay n v → ((m : ℕ) (i : MsgId) → is_light (v.told i) ≡ true → f m i ≡ g m i) → total f n v ≡ total g n v
 same_total f g n v h same = sum_same (λ m. weight_to (f m) n v m) (λ m. weight_to (g m) n v m) n (λ m l. same_to (f m) (g m) n v m h (same m) l)
 
 -- a place's own number is the one that counts there
@@ -169,17 +169,17 @@ value_kept n v w known kept m i light = ap (λ (k : Knows). worth k n m (w.told 
 heavy_kept : (v w : View) → ((j : MsgId) (t : Told) → v.told j ≡ Some t → w.told j ≡ Some t) → (i : MsgId) → is_light (v.told i) ≡ true → heavy w i ≡ heavy v i
 heavy_kept v w kept i light = ap (λ (o : Option Told). if is_light o then 0 else 1) (light_kept v w kept i light)
 
-pub total_kept : (n : ℕ) (v w : View) → Lightly n v → w.known ≡ v.known → ((j : MsgId) (t : Told) → v.told j ≡ Some t → w.told j ≡ Some t) → total (value w n) n v ≡ total (value v n) n v
+pub total_kept : (n : ℕ) (v w : View) → LightWay n v → w.known ≡ v.known → ((j : MsgId) (t : Told) → v.told j ≡ Some t → w.told j ≡ Some t) → total (value w n) n v ≡ total (value v n) n v
 total_kept n v w h known kept = same_total (value w n) (value v n) n v h (λ m i light. value_kept n v w known kept m i light)
 
-pub none_kept : (n : ℕ) (v w : View) → Lightly n v → ((j : MsgId) (t : Told) → v.told j ≡ Some t → w.told j ≡ Some t) → weight_of (heavy w) n v ≡ 0
+pub none_kept : (n : ℕ) (v w : View) → LightWay n v → ((j : MsgId) (t : Told) → v.told j ≡ Some t → w.told j ≡ Some t) → weight_of (heavy w) n v ≡ 0
 none_kept n v w h kept = same_total (λ m. heavy w) (λ m. heavy v) n v h (λ m i light. heavy_kept v w kept i light) ∙ h.none
 
 still_kept : (v w : View) → w.known ≡ v.known → ((m : ℕ) (p : Pid) → is_moving (v.known m p) ≡ false) → (m : ℕ) (p : Pid) → is_moving (w.known m p) ≡ false
 still_kept v w known h m p = ap (λ (k : Knows). is_moving (k m p)) known ∙ h m p
 
-pub lightly_kept : (n : ℕ) (v w : View) → w.known ≡ v.known → Lightly n v → weight_of (heavy w) n w ≡ 0 → Lightly n w
-lightly_kept n v w known h none = record { still = still_kept v w known h.still; none = none }
+pub light_way_kept : (n : ℕ) (v w : View) → w.known ≡ v.known → LightWay n v → weight_of (heavy w) n w ≡ 0 → LightWay n w
+light_way_kept n v w known h none = record { still = still_kept v w known h.still; none = none }
 
 gained_none : (w : View) (gains : Gains) → AllLight w gains → gained (λ m. heavy w) gains ≡ 0
 gained_none w [] h = refl
@@ -188,16 +188,16 @@ gained_none w (x ∷ xs) h = let e = light_none w x.1 h.0 in let k = gained_none
 -- a group that puts so many messages leaves that much less
 pub record Falls (n : ℕ) (v w : View) (puts : ℕ) : Type 0 where
   pub less : total (value w n) n w + puts ≤ total (value v n) n v
-  pub lightly : Lightly n w
+  pub light_way : LightWay n w
 
-pub carries_fall : (n : ℕ) (v w : View) (m : ℕ) (i : MsgId) (gains : Gains) (puts : ℕ) → Lightly n v → Carries n v w m i gains → m < n → gained (value w n) gains + puts ≤ value w n m i → Falls n v w puts
+pub carries_fall : (n : ℕ) (v w : View) (m : ℕ) (i : MsgId) (gains : Gains) (puts : ℕ) → LightWay n v → Carries n v w m i gains → m < n → gained (value w n) gains + puts ≤ value w n m i → Falls n v w puts
 carries_fall n v w m i gains puts h c small most =
     let all = carried (value w n) n v w m i gains c small in
     let same = total_kept n v w h c.known c.kept in
     let dull = carried (λ x. heavy w) n v w m i gains c small in
     let none = none_kept n v w h c.kept in
     let new = gained_none w gains c.light in
-    record { less = omega (arith, all, same, most); lightly = lightly_kept n v w c.known h (omega (arith, dull, none, new)) }
+    record { less = omega (arith, all, same, most); light_way = light_way_kept n v w c.known h (omega (arith, dull, none, new)) }
 
 -- what a message may put, at most
 cost_most : (n : ℕ) (k : MessageKind) → cost n k ≤ n + 1

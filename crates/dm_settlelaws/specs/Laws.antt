@@ -21,7 +21,7 @@ use Rattle.dm_movelaws.specs.AtRest.{AtRest}
 use Rattle.dm_movelaws.specs.Ends.{count}
 use Rattle.dm_settlelaws.specs.Left.{IsLess, left, one_each, turns_left, weight_of}
 use Rattle.dm_settlelaws.specs.Passes.{IsSettleStep, SettleGoes, ends_settled, is_at_rest, turns_in}
-use Rattle.dm_settlelaws.specs.Puts.{IsLightly, SettlesBy, says_put}
+use Rattle.dm_settlelaws.specs.Puts.{OnlyLight, SettlesBy, says_put}
 use Rattle.dm_settlelaws.specs.Rests.{PairRests}
 
 -- wherever the rule leads, each machine has done its part on each pair
@@ -74,5 +74,5 @@ TurnsFall =
 -- the same ones again and updates, for each message that is on its way
 abbrev pub FewPuts : Type 0
 FewPuts =
-    (b : Boot) (es ds : List Step) (pt end : Point) (ls : List Line) → IsValid b → Leads b (first_point b) es pt → IsLightly pt.view → SettlesBy b pt ds ls end
+    (b : Boot) (es ds : List Step) (pt end : Point) (ls : List Line) → IsValid b → Leads b (first_point b) es pt → OnlyLight pt.view → SettlesBy b pt ds ls end
     → count says_put ls ≤ (pt.kernel.machines - 1) * (pt.kernel.machines + 1) * weight_of one_each pt.kernel.machines pt.view

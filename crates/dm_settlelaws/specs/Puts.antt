@@ -61,7 +61,7 @@ is_way (Held m p) = false
 is_way (Inbox m) = true
 is_way (Untaken a b) = true
 
-pub record IsLightly (v : View) : Type 0 where
+pub record OnlyLight (v : View) : Type 0 where
   -- no machine waits for a process to leave or to come
   pub still : (m : ℕ) (p : Pid) → is_moving (v.known m p) ≡ false
   -- and whatever is on its way is such a message
