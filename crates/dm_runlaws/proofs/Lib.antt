@@ -7,3 +7,4 @@ pub mod AllOut
 pub mod Through
 pub mod Worked
 pub mod Packets
+pub mod SettleFew

@@ -1,3 +1,4 @@
 pub mod Order
 pub mod Through
 pub mod Packets
+pub mod Settling

@@ -1,6 +1,7 @@
 //! What holds of good groups for the directives of a schedule.
 ghost use Rattle.dm_runlaws.specs.Order.{GoodInOrder};
 ghost use Rattle.dm_runlaws.specs.Packets.{PacketsAgree, PacketsSpell};
+ghost use Rattle.dm_runlaws.specs.Settling.{SettleFew};
 ghost use Rattle.dm_runlaws.specs.Through.{AllBegin, RunsThrough};
 
 /// For each boot file that a system may start with and directives for its machines there is a good run that has come to
@@ -32,4 +33,11 @@ pub fn packets_spell()
 /// All packets of a number have the same bytes, whenever they are put, and whether its message was taken or not.
 pub fn packets_agree()
     ensures { PacketsAgree }
+{}
+
+/// Of a run from where no process moves and only user messages for processes and updates are on their way, the groups of a settle,
+/// as long as each directive behind it is still to do, route at most (M - 1) (M + 1) messages for each message on its way where it
+/// begins, M the number of machines.
+pub fn settle_few()
+    ensures { SettleFew }
 {}

@@ -28,7 +28,7 @@ use Rattle.dm_rule.proofs.Pairs.{pairs_stand_always}
 use Rattle.dm_rule.proofs.Pairs.Lines.{onward, says_view, taken_pair, transmits_view}
 use Rattle.dm_settlelaws.specs.Left.{IsLess, Packets, left, load_left, one_each, one_let_go, pair_left, weight, weight_of, weight_to, wire_left}
 use Rattle.dm_settlelaws.proofs.Delivers.{parts_ids, set_ids}
-use Rattle.dm_settlelaws.proofs.Effects.{calm_weight}
+use Rattle.dm_settlelaws.proofs.Effects.{calm_to}
 use Rattle.dm_settlelaws.proofs.RestsComes.{early, net_pairs, pairs_parts, parts_both, took}
 use Rattle.dm_settlelaws.proofs.RestsPairs.{acknowledged, repeated}
 use Rattle.dm_settlelaws.proofs.Totals.{here, off_first, off_second, set_gains, set_keeps, set_loses, total}
@@ -154,7 +154,7 @@ comes_total n f a b k s (load.Ack j) from to apart there new carries stands =
     omega (arith, lost, one, more_)
 
 -- a message that is taken goes from its pair to the inbox
-abbrev list_of : Option MsgId → List MsgId
+abbrev pub list_of : Option MsgId → List MsgId
 list_of None = []
 list_of (Some i) = i ∷ []
 
@@ -170,7 +170,7 @@ took_weight f k p =
     let e : weight f (drop (p.taken + 1) p.ids) ≡ weight f (drop (suc p.taken) p.ids) = ap (λ (t : ℕ). weight f (drop t p.ids)) (let z : p.taken + 1 ≡ suc p.taken = omega arith in z) in
     omega (arith, h, e)
 
-inbox_gains : (f : MsgId → ℕ) (v : View) (b : ℕ) (o : Option MsgId) (m : ℕ) → weight f ((taken_id v b o).inbox m) ≤ weight f (v.inbox m) + spike b (weight f (list_of o)) m
+pub inbox_gains : (f : MsgId → ℕ) (v : View) (b : ℕ) (o : Option MsgId) (m : ℕ) → weight f ((taken_id v b o).inbox m) ≤ weight f (v.inbox m) + spike b (weight f (list_of o)) m
 inbox_gains f v b None m = omega arith
 inbox_gains f v b (Some i) m = elim (eqb_tells b m) [
   | inl e ↦
@@ -202,29 +202,35 @@ untaken_loses f n g a b p x m small h = elim (eqb_tells b m) [
       omega (arith, s, k)
 ]
 
-taken_weight : (f : MsgId → ℕ) (n : ℕ) (v : View) (a b k : ℕ) → a < n → weight_of f n (view_after v (line.Taken a b k)) ≤ weight_of f n v
-taken_weight f n v a b k small =
+taken_to : (f : MsgId → ℕ) (n : ℕ) (v : View) (a b k : ℕ) → a < n → (m : ℕ) → weight_to f n (view_after v (line.Taken a b k)) m ≤ weight_to f n v m
+taken_to f n v a b k small m =
     let p = took k (v.pair a b) in
     let mid = view.with_pair v a b p in
     let o = oldest (v.pair a b) in
-    sum_le (weight_to f n (view_after v (line.Taken a b k))) (weight_to f n v) n
-    (λ m l.
     let box = inbox_gains f mid b o m in
     let pairs : sum_below (λ j. weight f (untaken ((taken_id mid b o).pair j m))) n ≡ sum_below (λ j. weight f (untaken (mid.pair j m))) n =
     ap (λ (g : ℕ → ℕ → Pair). sum_below (λ j. weight f (untaken (g j m))) n) (taken_pair mid b o) in
     let lost = untaken_loses f n v.pair a b p (weight f (list_of o)) m small (took_weight f k (v.pair a b)) in
-    omega (arith, box, pairs, lost))
+    omega (arith, box, pairs, lost)
 
--- no more is on its way behind the parts of a delivery, and nothing is told
-record Keeps (n : ℕ) (v w : View) : Type 0 where
-  weight_ : (f : MsgId → ℕ) → weight_of f n w ≤ weight_of f n v
-  told : w.told ≡ v.told
+-- no more is on its way to any machine behind the parts of a delivery, nothing is told, and machines know what they knew
+pub record Keeps (n : ℕ) (v w : View) : Type 0 where
+  pub weight_ : (f : MsgId → ℕ) (m : ℕ) → weight_to f n w m ≤ weight_to f n v m
+  pub told : w.told ≡ v.told
+  pub known : w.known ≡ v.known
 
 keeps_on : (n : ℕ) (u v w : View) → Keeps n u v → Keeps n v w → Keeps n u w
-keeps_on n u v w x y = record { weight_ = λ f. let p = x.weight_ f in let q = y.weight_ f in omega (arith, p, q); told = y.told ∙ x.told }
+keeps_on n u v w x y = record { weight_ = λ f m. let p = x.weight_ f m in let q = y.weight_ f m in omega (arith, p, q); told = y.told ∙ x.told; known = y.known ∙ x.known }
 
 keeps_all : (n : ℕ) (v : View) → Keeps n v v
-keeps_all n v = record { weight_ = λ f. omega arith; told = refl }
+keeps_all n v = record { weight_ = λ f m. omega arith; told = refl; known = refl }
+
+pub kept_all : (f : MsgId → ℕ) (n : ℕ) (v w : View) → Keeps n v w → weight_of f n w ≤ weight_of f n v
+kept_all f n v w h = sum_le (weight_to f n w) (weight_to f n v) n (λ m l. h.weight_ f m)
+
+taken_known : (v : View) (b : ℕ) (o : Option MsgId) → (taken_id v b o).known ≡ v.known
+taken_known v b None = refl
+taken_known v b (Some i) = refl
 
 -- what is taken is taken of a pair of machines that are there
 abbrev TakesIn : ℕ → Part → Type 0
@@ -236,10 +242,14 @@ AllTakeIn n [] = ⊤
 AllTakeIn n (p ∷ ps) = TakesIn n p × AllTakeIn n ps
 
 line_keeps : (n : ℕ) (v : View) (l : Line) → IsNetLine l → TakesIn n (Says l) → Keeps n v (view_after v l)
-line_keeps n v (line.Taken a b k) net small = record { weight_ = λ f. taken_weight f n v a b k small; told = (hushed v (line.Taken a b k) refl).told }
+line_keeps n v (line.Taken a b k) net small = record {
+  weight_ = λ f m. taken_to f n v a b k small m;
+  told = (hushed v (line.Taken a b k) refl).told;
+  known = taken_known (view.with_pair v a b (took k (v.pair a b))) b (oldest (v.pair a b));
+}
 line_keeps n v (line.Old a b k) net small = keeps_all n v
-line_keeps n v (line.Early a b k) net small = record { weight_ = λ f. calm_weight f n v (line.Early a b k) refl refl; told = refl }
-line_keeps n v (line.Acked a b k) net small = record { weight_ = λ f. calm_weight f n v (line.Acked a b k) refl refl; told = refl }
+line_keeps n v (line.Early a b k) net small = record { weight_ = λ f m. calm_to f n v (line.Early a b k) refl refl m; told = refl; known = refl }
+line_keeps n v (line.Acked a b k) net small = record { weight_ = λ f m. calm_to f n v (line.Acked a b k) refl refl m; told = refl; known = refl }
 line_keeps n v line.Nothing net small = keeps_all n v
 line_keeps n v (line.Resent m k) net small = keeps_all n v
 line_keeps n v l net small = absurd net
@@ -253,7 +263,7 @@ parts_keep n (Says l ∷ ps) pt w net small e =
 parts_keep n (Transmits a b l ∷ ps) pt w net small e =
     let o = onward pt (Transmits a b l) ps w e in
     let line_ = packet_line pt.view a b l in
-    let packet : Keeps n pt.view (view_after pt.view line_) = record { weight_ = λ f. calm_weight f n pt.view line_ refl refl; told = refl } in
+    let packet : Keeps n pt.view (view_after pt.view line_) = record { weight_ = λ f m. calm_to f n pt.view line_ refl refl m; told = refl; known = refl } in
     let first : Keeps n pt.view o.next.view = subst (Keeps n pt.view) (sym (transmits_view pt a b l ps w o)) packet in
     subst (λ (q : Point). Keeps n pt.view q.view) o.end (keeps_on n pt.view o.next.view o.rest.point.view first (parts_keep n ps o.next o.rest net.1 small.1 o.on))
 parts_keep n (Routes i ∷ ps) pt w net small e = absurd net.0
@@ -284,7 +294,19 @@ arrives_in n a b p q (Some s) small = comes_in_ n a b p q s.load small
 
 -- a delivery of a packet that was never delivered
 head_keeps : (n : ℕ) (v : View) (a b k : ℕ) → Keeps n v (view.after_head v (step.Deliver a b k))
-head_keeps n v a b k = record { weight_ = λ f. calm_weight f n v (line.Head (step.Deliver a b k)) refl refl; told = refl }
+head_keeps n v a b k = record { weight_ = λ f m. calm_to f n v (line.Head (step.Deliver a b k)) refl refl m; told = refl; known = refl }
+
+pub deliver_keeps : (b : Boot) (pt : Point) (n a c k : ℕ) (w : Spelled) → a < n → group_of b pt (step.Deliver a c k) ≡ Some w → Keeps n pt.view w.point.view
+deliver_keeps b pt n a c k w from e =
+    let v = pt.view in
+    let g = group_is b pt (step.Deliver a c k) w e in
+    let start = moved pt (line.Head (step.Deliver a c k)) pt.kernel in
+    let parts = arrives a c (v.pair a c) (v.pair c a) (slice_get (v.pair a c).wire k) in
+    let are : parts ≡ g.parts = let t = g.is in cc in
+    let net = arrives_net a c (v.pair a c) (v.pair c a) (slice_get (v.pair a c).wire k) in
+    let said : spelled start parts ≡ Some g.rest = ap (spelled start) are ∙ g.said in
+    let kept : Keeps n start.view g.rest.point.view = parts_keep n parts start g.rest net (arrives_in n a c (v.pair a c) (v.pair c a) (slice_get (v.pair a c).wire k) from) said in
+    subst (λ (q : Point). Keeps n v q.view) g.point (keeps_on n v start.view g.rest.point.view (head_keeps n v a c k) kept)
 
 pub deliver_falls : (b : Boot) (es : List Step) (pt : Point) (a c k : ℕ) (w : Spelled) (numbers : ℕ) → Leads b (first_point b) es pt → a < pt.kernel.machines → c < pt.kernel.machines → a ≢ c → undelivered pt.view a c ≡ Some k
     → group_of b pt (step.Deliver a c k) ≡ Some w → IsLess (left numbers pt.kernel.machines w.point.view) (left numbers pt.kernel.machines pt.view)
@@ -297,8 +319,7 @@ deliver_falls b es pt a c k w numbers leads from to apart new e =
     let are : parts ≡ g.parts = let t = g.is in cc in
     let net = arrives_net a c (v.pair a c) (v.pair c a) (slice_get (v.pair a c).wire k) in
     let said : spelled start parts ≡ Some g.rest = ap (spelled start) are ∙ g.said in
-    let kept : Keeps n start.view g.rest.point.view = parts_keep n parts start g.rest net (arrives_in n a c (v.pair a c) (v.pair c a) (slice_get (v.pair a c).wire k) from) said in
-    let keeps : Keeps n v w.point.view = subst (λ (q : Point). Keeps n v q.view) g.point (keeps_on n v start.view g.rest.point.view (head_keeps n v a c k) kept) in
+    let keeps : Keeps n v w.point.view = deliver_keeps b pt n a c k w from e in
     let pairs : w.point.view.pair ≡ pairs_parts (at_pair v.pair a c (marked (v.pair a c) k)) parts = ap (λ (q : Point). q.view.pair) (sym g.point) ∙ net_pairs parts start g.rest net said in
     let f = found (v.pair a c).wire 0 k new in
     let there : slice_get (v.pair a c).wire k ≡ Some f.packet = ap (slice_get (v.pair a c).wire) (let i = f.is in let z : k ≡ f.at = omega (arith, i) in z) ∙ f.there in
@@ -308,6 +329,6 @@ deliver_falls b es pt a c k w numbers leads from to apart new e =
     ap (total pair_left n) (pairs ∙ ap (pairs_parts (at_pair v.pair a c (marked (v.pair a c) k))) is) in
     let ids = λ (x y : ℕ). ap (λ (f : ℕ → ℕ → Pair). length (f x y).ids) pairs ∙ ap length (parts_ids parts (at_pair v.pair a c (marked (v.pair a c) k)) x y ∙ set_ids v.pair a c (marked (v.pair a c) k) x y refl) in
     let most = numbers_stay numbers n v w.point.view (λ x y. let e = ids x y in omega (arith, e)) in
-    let releases = keeps.weight_ (one_let_go v) in
+    let releases = kept_all (one_let_go v) n v w.point.view keeps in
     let told : weight_of (one_let_go w.point.view) n w.point.view ≡ weight_of (one_let_go v) n w.point.view = same_told n v w.point.view keeps.told in
-    Packets most (omega (arith, releases, told)) (keeps.weight_ one_each) (omega (arith, wires, packets))
+    Packets most (omega (arith, releases, told)) (kept_all one_each n v w.point.view keeps) (omega (arith, wires, packets))

@@ -324,24 +324,28 @@ line_weight f n v l e m =
     omega (arith, box, h, s)
 
 -- and loses the front that goes
-pub line_takes : (f : MsgId → ℕ) (n : ℕ) (v : View) (l : Line) (i : MsgId) (is : List MsgId) → comes_in l ≡ false → v.inbox v.acting ≡ i ∷ is → takes_front i (effect l) → v.acting < n
-    → weight_of f n (view_after v l) + f i ≤ weight_of f n v + weight f (back_in v (effect l))
-line_takes f n v l i is e front takes small =
-    sum_moves (weight_to f n v) (weight_to f n (view_after v l)) n v.acting (f i) v.acting (weight f (back_in v (effect l))) small
-    (λ m h.
+pub line_takes_to : (f : MsgId → ℕ) (n : ℕ) (v : View) (l : Line) (i : MsgId) (is : List MsgId) → comes_in l ≡ false → v.inbox v.acting ≡ i ∷ is → takes_front i (effect l) → (m : ℕ)
+    → weight_to f n (view_after v l) m + spike v.acting (f i) m ≤ weight_to f n v m + spike v.acting (weight f (back_in v (effect l))) m
+line_takes_to f n v l i is e front takes m =
     let box : weight f ((view_after v l).inbox m) ≡ weight f (inbox_by v (effect l) m) = ap (λ (g : ℕ → List MsgId). weight f (g m)) (line_inbox v l e) in
     let k = effect_takes f v (effect l) i is m front takes in
     let s = sum_untaken f n v (view_after v l) m (line_untaken v l e) in
-    omega (arith, box, k, s))
+    omega (arith, box, k, s)
+
+pub line_takes : (f : MsgId → ℕ) (n : ℕ) (v : View) (l : Line) (i : MsgId) (is : List MsgId) → comes_in l ≡ false → v.inbox v.acting ≡ i ∷ is → takes_front i (effect l) → v.acting < n
+    → weight_of f n (view_after v l) + f i ≤ weight_of f n v + weight f (back_in v (effect l))
+line_takes f n v l i is e front takes small =
+    sum_moves (weight_to f n v) (weight_to f n (view_after v l)) n v.acting (f i) v.acting (weight f (back_in v (effect l))) small (λ m h. line_takes_to f n v l i is e front takes m)
 
 -- a line that brings nothing back
-pub calm_weight : (f : MsgId → ℕ) (n : ℕ) (v : View) (l : Line) → comes_in l ≡ false → back_in v (effect l) ≡ [] → weight_of f n (view_after v l) ≤ weight_of f n v
-calm_weight f n v l e none =
-    sum_le (weight_to f n (view_after v l)) (weight_to f n v) n
-    (λ m h.
+no_spike : (k m : ℕ) → spike k 0 m ≡ 0
+no_spike k m = elim (eqb_tells k m) [ inl e ↦ spike_here k 0 m e.1 | inr e ↦ spike_off k 0 m e.1 ]
+
+pub calm_to : (f : MsgId → ℕ) (n : ℕ) (v : View) (l : Line) → comes_in l ≡ false → back_in v (effect l) ≡ [] → (m : ℕ) → weight_to f n (view_after v l) m ≤ weight_to f n v m
+calm_to f n v l e none m =
     let k = line_weight f n v l e m in
     let z : spike v.acting (weight f (back_in v (effect l))) m ≡ 0 = ap (λ (xs : List MsgId). spike v.acting (weight f xs) m) none ∙ no_spike v.acting m in
-    omega (arith, k, z))
-  where
-    no_spike : (k m : ℕ) → spike k 0 m ≡ 0
-    no_spike k m = elim (eqb_tells k m) [ inl e ↦ spike_here k 0 m e.1 | inr e ↦ spike_off k 0 m e.1 ]
+    omega (arith, k, z)
+
+pub calm_weight : (f : MsgId → ℕ) (n : ℕ) (v : View) (l : Line) → comes_in l ≡ false → back_in v (effect l) ≡ [] → weight_of f n (view_after v l) ≤ weight_of f n v
+calm_weight f n v l e none = sum_le (weight_to f n (view_after v l)) (weight_to f n v) n (λ m h. calm_to f n v l e none m)

@@ -40,11 +40,11 @@ behind_settle [] e = inr refl
 behind_settle (c ∷ ds) e = inl e
 
 -- the directives of what is left are the same in a pass
-record Stays (p : Pass) (ds : List Directive) (n : Next) : Type 0 where
-  pass : n.left.pass ≡ p
-  directives : n.left.directives ≡ ds
+pub record Stays (p : Pass) (ds : List Directive) (n : Next) : Type 0 where
+  pub pass : n.left.pass ≡ p
+  pub directives : n.left.directives ≡ ds
 
-abbrev StaysBy : Pass → List Directive → Option Next → Type 0
+abbrev pub StaysBy : Pass → List Directive → Option Next → Type 0
 StaysBy p ds o = (n : Next) → o ≡ Some n → Stays p ds n
 
 turn_or : (t : Todo) (m : ℕ) (ms : List ℕ) (b : Bool) (o : Option Next) → StaysBy t.pass t.directives o → StaysBy t.pass t.directives (if b then next (step.Turn m) (record t { pairs = []; machines = ms }) else o)
@@ -58,7 +58,7 @@ turn_stays : (takes : ℕ → Bool) (t : Todo) (ms : List ℕ) → StaysBy t.pas
 turn_stays takes t [] n e = cc
 turn_stays takes t (m ∷ ms) n e = turn_or t m ms (takes m) (next_turn takes t ms) (turn_stays takes t ms) n e
 
-pass_stays : (mail : ℕ → Bool) (t : Todo) (o : Option (Step × List Two)) → StaysBy t.pass t.directives (in_pass mail t o)
+pub pass_stays : (mail : ℕ → Bool) (t : Todo) (o : Option (Step × List Two)) → StaysBy t.pass t.directives (in_pass mail t o)
 pass_stays mail t None n e = turn_stays (takes_turn t.pass mail) t t.machines n e
 pass_stays mail t (Some d) n e =
     let k : Next = record { step = d.0; left = record t { pairs = d.1 } } in
@@ -72,11 +72,11 @@ ends_as p ds n s (inr e) = inr (s.directives ∙ e.0, s.pass ∙ e.1)
 begin_ends : (machines : ℕ) (first : ℕ → ℕ → Option ℕ) (mail : ℕ → Bool) (p : Pass) (ds : List Directive) (n : Next) → begin_pass machines first mail p ds ≡ Some n → (ends_settled ds ≡ true) ⊎ ((ds ≡ []) × (p ≡ pass.Settle)) → Ends n.left
 begin_ends machines first mail p ds n e h = ends_as p ds n (pass_stays mail (pass_begun machines p ds) (next_delivery first (pairs_of (below machines) (below machines))) n e) h
 
-or_is : (x y : Option Next) (n : Next) → or x y ≡ Some n → (x ≡ Some n) ⊎ (y ≡ Some n)
+pub or_is : (x y : Option Next) (n : Next) → or x y ≡ Some n → (x ≡ Some n) ⊎ (y ≡ Some n)
 or_is None y n e = inr e
 or_is (Some k) y n e = inl e
 
-settles_is : (quiet : Bool) (x y : Option Next) (n : Next) → settles quiet x y ≡ Some n → (x ≡ Some n) ⊎ (y ≡ Some n)
+pub settles_is : (quiet : Bool) (x y : Option Next) (n : Next) → settles quiet x y ≡ Some n → (x ≡ Some n) ⊎ (y ≡ Some n)
 settles_is true x y n e = inr e
 settles_is false x y n e = or_is x y n e
 
@@ -123,7 +123,7 @@ later_ends machines first mail quiet pass.Settle ds n e h =
     no_directive : {n : Next} → None ≡ Some n → ⊥
     no_directive e = cc
 
-unless_is : (over : Bool) (x : Option Next) (n : Next) → (if over then None else x) ≡ Some n → x ≡ Some n
+pub unless_is : (over : Bool) (x : Option Next) (n : Next) → (if over then None else x) ≡ Some n → x ≡ Some n
 unless_is true x n e = cc
 unless_is false x n e = e
 

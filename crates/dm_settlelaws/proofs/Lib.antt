@@ -20,3 +20,11 @@ pub mod Covers
 pub mod Few
 pub mod TurnsFall
 pub mod Less
+pub mod Distances
+pub mod Routes
+pub mod Ways
+pub mod FrontRows
+pub mod PutTurns
+pub mod FewPuts
+pub mod PutsWorked
+pub mod EndsResting

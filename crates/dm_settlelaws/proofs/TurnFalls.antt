@@ -43,7 +43,7 @@ use Rattle.dm_settlelaws.proofs.Handles.{AllCalm, comes_row, is_back}
 use Rattle.dm_settlelaws.proofs.Weights.{sum_falls, sum_le, weight_none}
 
 -- the front of an inbox that has mail
-some_mail : (xs : List MsgId) → nat_lt 0 (length xs) ≡ true → (i : MsgId) × (is : List MsgId) × (xs ≡ i ∷ is)
+pub some_mail : (xs : List MsgId) → nat_lt 0 (length xs) ≡ true → (i : MsgId) × (is : List MsgId) × (xs ≡ i ∷ is)
 some_mail [] e = absurd (false≢true e)
 some_mail (x ∷ xs) e = (x, xs, refl)
 

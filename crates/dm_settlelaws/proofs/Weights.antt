@@ -19,7 +19,7 @@ pub weight-one : (xs : List MsgId) → weight one_each xs ≡ length xs
 weight-one [] = refl
 weight-one (x ∷ xs) = let h = weight-one xs in omega (arith, h)
 
-first_times : (i : MsgId) (is : List MsgId) → 1 ≤ times i (i ∷ is)
+pub first_times : (i : MsgId) (is : List MsgId) → 1 ≤ times i (i ∷ is)
 first_times i is = let e : times i (i ∷ is) ≡ 1 + times i is = ap (λ (c : Bool). (if c then 1 else 0) + times i is) (id_eq-same i) in omega (arith, e)
 
 rest_times : (i j : MsgId) (is : List MsgId) → 1 ≤ times i is → 1 ≤ times i (j ∷ is)

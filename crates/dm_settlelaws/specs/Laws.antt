@@ -1,5 +1,5 @@
 -- What holds of a settle wherever the rule leads.
-use Rattle.std.specs.Prelude.{◌≡◌, ◌≢◌, ℕ, ◌+◌, ◌^◌, ◌<◌, ◌≤◌, true, List}
+use Rattle.std.specs.Prelude.{◌≡◌, ◌≢◌, ℕ, ◌+◌, ◌-◌, ◌*◌, ◌^◌, ◌<◌, ◌≤◌, true, List}
 use Rattle.std.specs.List.{All}
 use Rattle.std.specs.declared.option.Option.TheVariants.{None, Some}
 use Rattle.dm_onekernel.specs.declared.boot.Boot.{Boot}
@@ -17,8 +17,11 @@ use Rattle.dm_rule.specs.Parts.{Spelled}
 use Rattle.dm_rule.specs.Point.{Point, first_point}
 use Rattle.dm_rule.specs.Quiet.{IsQuiet}
 use Rattle.dm_rule.specs.Rule.{group_of}
-use Rattle.dm_settlelaws.specs.Left.{IsLess, left, turns_left}
+use Rattle.dm_movelaws.specs.AtRest.{AtRest}
+use Rattle.dm_movelaws.specs.Ends.{count}
+use Rattle.dm_settlelaws.specs.Left.{IsLess, left, one_each, turns_left, weight_of}
 use Rattle.dm_settlelaws.specs.Passes.{IsSettleStep, SettleGoes, ends_settled, is_at_rest, turns_in}
+use Rattle.dm_settlelaws.specs.Puts.{OnlyLight, SettlesBy, says_put}
 use Rattle.dm_settlelaws.specs.Rests.{PairRests}
 
 -- wherever the rule leads, each machine has done its part on each pair
@@ -38,6 +41,13 @@ abbrev pub EndsQuiet : Type 0
 EndsQuiet =
     (b : Boot) (es : List Step) (ds : List Directive) (gs : List (List Line)) (end : Point) (left : Todo) → IsValid b → Leads b (first_point b) es end → IsRun b (first_point b) (all_of ds) gs end left
     → next_step end.kernel.machines end.view left ≡ None → ends_settled ds ≡ true → IsQuiet end.kernel.machines end.view
+
+-- so all is at rest: no process moves, nothing is held back, and each message that there still is waits in the queue of the process
+-- that it is for, and stands in no other place
+abbrev pub EndsResting : Type 0
+EndsResting =
+    (b : Boot) (es : List Step) (ds : List Directive) (gs : List (List Line)) (end : Point) (left : Todo) → IsValid b → Leads b (first_point b) es end → IsRun b (first_point b) (all_of ds) gs end left
+    → next_step end.kernel.machines end.view left ≡ None → ends_settled ds ≡ true → AtRest end
 
 -- and where nothing is, the lines of the end say so: no inbox and no stream has a message, none is held back, and each process is
 -- where it is
@@ -59,3 +69,10 @@ abbrev pub TurnsFall : Type 0
 TurnsFall =
     (b : Boot) (es : List Step) (pt : Point) (e : Step) (w : Spelled) → IsValid b → Leads b (first_point b) es pt → IsStep pt.kernel.machines e → IsSettleStep pt.view e → group_of b pt e ≡ Some w → IsKept b w.point
     → turns_left (left b.numbers pt.kernel.machines w.point.view) + turns_in e ≤ turns_left (left b.numbers pt.kernel.machines pt.view)
+
+-- where no process moves, and only user messages for processes and updates are on their way, a settle routes at most so many messages,
+-- the same ones again and updates, for each message that is on its way
+abbrev pub FewPuts : Type 0
+FewPuts =
+    (b : Boot) (es ds : List Step) (pt end : Point) (ls : List Line) → IsValid b → Leads b (first_point b) es pt → OnlyLight pt.view → SettlesBy b pt ds ls end
+    → count says_put ls ≤ (pt.kernel.machines - 1) * (pt.kernel.machines + 1) * weight_of one_each pt.kernel.machines pt.view

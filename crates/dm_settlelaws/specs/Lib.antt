@@ -1,4 +1,5 @@
 pub mod Left
 pub mod Rests
 pub mod Passes
+pub mod Puts
 pub mod Laws

@@ -1,5 +1,5 @@
 //! What holds of a settle wherever the rule leads, whoever ran by it.
-ghost use Rattle.dm_settlelaws.specs.Laws.{EndsAtRest, EndsQuiet, LeftFalls, PairsRestAlways, SettlesAlways, TurnsFall, TurnsLeftFew};
+ghost use Rattle.dm_settlelaws.specs.Laws.{EndsAtRest, EndsQuiet, EndsResting, FewPuts, LeftFalls, PairsRestAlways, SettlesAlways, TurnsFall, TurnsLeftFew};
 
 /// Wherever the rule leads from a boot file, on each ordered pair of machines what may go out has gone, each number that went out
 /// has a packet, a data packet that came was taken or is kept, the next number isn't kept, the count of what was taken was
@@ -18,6 +18,13 @@ pub fn settles_always()
 /// Wherever the rule leads from a boot file and all directives are done, the last of them a settle, nothing is on its way.
 pub fn ends_quiet()
     ensures { EndsQuiet }
+{}
+
+/// Wherever the rule leads from a boot file and all directives are done, the last of them a settle, all is at rest: no process moves,
+/// nothing is held back, no kernel's own message stands anywhere, and each message that there still is waits in the queue of the
+/// process that it is for, and stands in no other place.
+pub fn ends_resting()
+    ensures { EndsResting }
 {}
 
 /// Wherever the rule leads from a boot file, where nothing is on its way the lines of the end say so: no inbox and no stream has a
@@ -43,4 +50,11 @@ pub fn turns_left_few()
 /// than 2^89 turns.
 pub fn turns_fall()
     ensures { TurnsFall }
+{}
+
+/// Wherever the rule leads from a boot file, where no process moves and only user messages for processes and updates are on their way,
+/// a settle routes at most (M - 1) (M + 1) messages for each message on its way, M the number of machines: each is forwarded fewer than
+/// M times, and each forward of a user message tells its sender, by an update that is itself forwarded fewer than M times.
+pub fn few_puts()
+    ensures { FewPuts }
 {}

@@ -8,5 +8,5 @@ use Rattle.dm_program.proofs.words.command.Goals as goal
 pub returns : goal.returns
 returns c =
     let quiet : app_of c.disable_help_subcommand.result ≡ on_top (λ s. record s { disable_help_subcommand = true }) (new_app (codes "demosmp")) = ap app_of_fields c.disable_help_subcommand.ensures ∙ ap (on_top (λ s. record s { disable_help_subcommand = true })) c.new.ensures.app in
-    let needs : app_of c.subcommand_required.result ≡ on_top (λ s. record s { disable_help_subcommand = true; subcommand_required = true }) (new_app (codes "demosmp")) = ap app_of_fields c.subcommand_required.ensures ∙ ap (on_top (λ s. record s { subcommand_required = true })) quiet in
-    IfOk-weaker c.with_subcommand.result _ _ (λ r h. c.in_ok-run_command.ensures c.subcommand_required.result r h ∙ ap (λ (a : App). with_subcommand a run_command) needs) c.with_subcommand.ensures
+    let needs : app_of c.subcommand_required-top.result ≡ on_top (λ s. record s { disable_help_subcommand = true; subcommand_required = true }) (new_app (codes "demosmp")) = ap app_of_fields c.subcommand_required-top.ensures ∙ ap (on_top (λ s. record s { subcommand_required = true })) quiet in
+    IfOk-weaker c.with_subcommand.result _ _ (λ r h. c.in_ok-run_command.ensures c.subcommand_required-top.result r h ∙ ap (λ (a : App). with_subcommand a run_command) needs) c.with_subcommand.ensures

@@ -1,0 +1,152 @@
+-- The groups of a settle are steps of one, and so they put few messages where no process moves.
+use Rattle.std.proofs.Common.{◌≡◌, ℕ, zero, suc, ◌<◌, ◌≤◌, Bool, true, false, List, [], ◌∷◌, ◌++◌, length, refl, ap, ◌∙◌, sym, subst, inl, inr, arith}
+use Rattle.std.specs.Prelude.{if◌then◌else◌}
+use Rattle.std.specs.List.{All}
+use Rattle.std.specs.declared.option.Option.{Option}
+use Rattle.std.specs.declared.option.Option.TheVariants.{None, Some}
+use Rattle.std.proofs.lemmas.Bool.{cases_Bool, false≢true}
+use Rattle.std.proofs.lemmas.List.Elements.{All-nil}
+use Rattle.dm_onekernel.specs.declared.boot.Boot.{Boot}
+use Rattle.dm_onekernel.specs.Boot.{IsValid}
+use Rattle.dm_schedule.specs.declared.Directive.{Directive}
+use Rattle.dm_schedule.specs.declared.Directive.TheVariants as directive
+use Rattle.dm_schedule.specs.declared.Step.{Step}
+use Rattle.dm_line.specs.declared.line.Line.{Line}
+use Rattle.dm_line.specs.declared.pass.Pass.{Pass}
+use Rattle.dm_line.specs.declared.pass.Pass.TheVariants as pass
+use Rattle.dm_line.specs.Todo.{Next, Todo, all_of, begin_pass, below, in_pass, is_over, next_delivery, next_directive, next_pass, or, pairs_of, pass_begun}
+use Rattle.dm_rule.specs.Good.{IsRun, next_step, undelivered}
+use Rattle.dm_rule.specs.Laws.{IsStep, Leads}
+use Rattle.dm_rule.specs.Parts.{Spelled}
+use Rattle.dm_rule.specs.Point.{Point, first_point}
+use Rattle.dm_rule.specs.Quiet.{has_mail, is_quiet}
+use Rattle.dm_rule.specs.Rule.{group_of}
+use Rattle.dm_rule.specs.View.{View}
+use Rattle.dm_rule.proofs.QuietTests.{passes_quiet, quiet_passes}
+use Rattle.dm_rulelaws.proofs.RunsAlways.{run_always}
+use Rattle.dm_movelaws.specs.Ends.{count}
+use Rattle.dm_movelaws.proofs.Ends.Parts.{count-append}
+use Rattle.dm_movelaws.proofs.Promise.Finds.{leads_append}
+use Rattle.dm_mirror.specs.Todo.{IsDirective, IsTodo, IsTwo}
+use Rattle.dm_mirror.proofs.Next.{IsBelow, next_fits}
+use Rattle.dm_settlelaws.specs.Passes.{IsSettleStep}
+use Rattle.dm_settlelaws.specs.Puts.{SettlesBy, says_put}
+use Rattle.dm_settlelaws.proofs.EndsQuiet.{or_is, pass_stays, settles_is, unless_is}
+use Rattle.dm_settlelaws.proofs.FewPuts.{few_puts}
+use Rattle.dm_settlelaws.proofs.PassHas.{settles_always}
+use Rattle.dm_runlaws.specs.Settling.{SettleFew, puts_in}
+
+-- a group takes a directive, or stays in a pass
+begun_same : (machines : ℕ) (first : ℕ → ℕ → Option ℕ) (mail : ℕ → Bool) (p : Pass) (ds : List Directive) (n : Next) → begin_pass machines first mail p ds ≡ Some n → n.left.directives ≡ ds
+begun_same machines first mail p ds n e = (pass_stays mail (pass_begun machines p ds) (next_delivery first (pairs_of (below machines) (below machines))) n e).directives
+
+begun_shorter : (machines : ℕ) (first : ℕ → ℕ → Option ℕ) (mail : ℕ → Bool) (p : Pass) (ds : List Directive) (n : Next) → begin_pass machines first mail p ds ≡ Some n → length n.left.directives ≤ length ds
+begun_shorter machines first mail p ds n e = let s = ap length (begun_same machines first mail p ds n e) in omega (arith, s)
+
+directive_shorter : (machines : ℕ) (first : ℕ → ℕ → Option ℕ) (mail : ℕ → Bool) (quiet : Bool) (ds : List Directive) (n : Next) → next_directive machines first mail quiet ds ≡ Some n → length n.left.directives < length ds
+directive_shorter machines first mail quiet [] n e = cc
+directive_shorter machines first mail quiet (directive.One s ∷ ds) n e =
+    let k : Next = record { step = s; left = all_of ds } in
+    let f : k ≡ n = cc in
+    subst (λ (x : Next). length x.left.directives < suc (length ds)) f (omega arith)
+directive_shorter machines first mail quiet (directive.Round ∷ ds) n e = let s = begun_shorter machines first mail (pass.Round 0) ds n e in omega (arith, s)
+directive_shorter machines first mail quiet (directive.Spin zero ∷ ds) n e = let s = directive_shorter machines first mail quiet ds n e in omega (arith, s)
+directive_shorter machines first mail quiet (directive.Spin (suc k) ∷ ds) n e = let s = begun_shorter machines first mail (pass.Round k) ds n e in omega (arith, s)
+directive_shorter machines first mail quiet (directive.Settle ∷ ds) n e =
+    elim (settles_is quiet (begin_pass machines first mail pass.Settle ds) (next_directive machines first mail quiet ds) n e) [
+      | inl begins ↦ let s = begun_shorter machines first mail pass.Settle ds n begins in omega (arith, s)
+      | inr later ↦ let s = directive_shorter machines first mail quiet ds n later in omega (arith, s)
+    ]
+
+later_shorter : (machines : ℕ) (first : ℕ → ℕ → Option ℕ) (mail : ℕ → Bool) (quiet : Bool) (p : Pass) (ds : List Directive) (n : Next) → next_pass machines first mail quiet p ds ≡ Some n → length n.left.directives ≤ length ds
+later_shorter machines first mail quiet (pass.Round zero) ds n e = let s = directive_shorter machines first mail quiet ds n e in omega (arith, s)
+later_shorter machines first mail quiet (pass.Round (suc k)) ds n e = begun_shorter machines first mail (pass.Round k) ds n e
+later_shorter machines first mail quiet pass.Settle ds n e =
+    elim (settles_is quiet (begin_pass machines first mail pass.Settle ds) (next_directive machines first mail quiet ds) n e) [
+      | inl begins ↦ begun_shorter machines first mail pass.Settle ds n begins
+      | inr later ↦ let s = directive_shorter machines first mail quiet ds n later in omega (arith, s)
+    ]
+
+next_shorter : (machines : ℕ) (v : View) (t : Todo) (n : Next) → next_step machines v t ≡ Some n → length n.left.directives ≤ length t.directives
+next_shorter machines v t n e =
+    let here = in_pass (has_mail v) t (next_delivery (undelivered v) t.pairs) in
+    elim (or_is (if is_over t.pass (is_quiet machines v) then None else here) (next_pass machines (undelivered v) (has_mail v) (is_quiet machines v) t.pass t.directives) n e) [
+      | inl found ↦ let s = ap length (pass_stays (has_mail v) t (next_delivery (undelivered v) t.pairs) n (unless_is (is_over t.pass (is_quiet machines v)) here n found)).directives in omega (arith, s)
+      | inr later ↦ later_shorter machines (undelivered v) (has_mail v) (is_quiet machines v) t.pass t.directives n later
+    ]
+
+run_shorter : (b : Boot) (gs : List (List Line)) (pt end : Point) (t left : Todo) → IsRun b pt t gs end left → length left.directives ≤ length t.directives
+run_shorter b [] pt end t left run = let s = ap (λ (x : Todo). length x.directives) run.1 in omega (arith, s)
+run_shorter b (g ∷ gs) pt end t left (n, w, due, group, said, kept, rest) =
+    let s = next_shorter pt.kernel.machines pt.view t n due in
+    let r = run_shorter b gs w.point end n.left left rest in
+    omega (arith, s, r)
+
+-- the steps of a settle's groups
+record Stepped (b : Boot) (pt : Point) (gs : List (List Line)) (end : Point) : Type 0 where
+  steps : List Step
+  lines : List Line
+  by_steps : SettlesBy b pt steps lines end
+  same : puts_in gs ≡ count says_put lines
+
+none_stepped : (b : Boot) (pt end : Point) → pt ≡ end → Stepped b pt [] end
+none_stepped b pt end e = record { steps = []; lines = []; by_steps = (refl, e); same = refl }
+
+more_stepped : (b : Boot) (pt end : Point) (g : List Line) (gs : List (List Line)) (d : Step) (w : Spelled) → IsStep pt.kernel.machines d → IsSettleStep pt.view d → group_of b pt d ≡ Some w → w.lines ≡ g → Stepped b w.point gs end → Stepped b pt (g ∷ gs) end
+more_stepped b pt end g gs d w fit is group said h = record {
+  steps = d ∷ h.steps;
+  lines = w.lines ++ h.lines;
+  by_steps = (w, h.lines, fit, is, group, refl, h.by_steps);
+  same = (let s = h.same in let both = count-append says_put w.lines h.lines in let one = ap (count says_put) said in omega (arith, s, both, one));
+}
+
+settling : (b : Boot) (gs : List (List Line)) (es : List Step) (pt end : Point) (t left : Todo) → IsValid b → Leads b (first_point b) es pt → IsTodo (length b.machines) t → t.pass ≡ pass.Settle → IsRun b pt t gs end left → length t.directives ≤ length left.directives
+    → Stepped b pt gs end
+settling b [] es pt end t left valid way todo settle run long = none_stepped b pt end run.0
+settling b (g ∷ gs) es pt end t left valid way todo settle (n, w, due, group, said, kept, more) long =
+    let v = pt.view in
+    let m = pt.kernel.machines in
+    let machines : m ≡ length b.machines = (run_always b es pt valid way).run.based.machines in
+    let h = settles_always b es pt t valid way settle in
+    let fits = next_fits (length b.machines) (undelivered v) (has_mail v) (is_quiet (length b.machines) v) t n todo (ap (λ (k : ℕ). next_step k v t) (sym machines) ∙ due) in
+    elim (cases_Bool (is_quiet m v)) [
+      | inl quiet ↦
+          let later : next_step m v (all_of t.directives) ≡ Some n = sym (h.over (passes_quiet m v quiet)) ∙ due in
+          let less = directive_shorter m (undelivered v) (has_mail v) (is_quiet m v) t.directives n later in
+          let rest = run_shorter b gs w.point end n.left left more in
+          absurd (omega (arith, long, less, rest))
+      | inr not_quiet ↦
+          let goes = h.goes (λ q. false≢true (sym not_quiet ∙ quiet_passes m v q)) in
+          let found = goes.is in
+          let same : goes.next ≡ n = cc in
+          let fit : IsStep m n.step = subst (λ (k : ℕ). IsStep k n.step) (sym machines) fits.step in
+          let is : IsSettleStep v n.step = subst (λ (x : Next). IsSettleStep v x.step) same goes.step in
+          let still : n.left.pass ≡ pass.Settle = subst (λ (x : Next). x.left.pass ≡ pass.Settle) same goes.pass in
+          let behind : n.left.directives ≡ t.directives = subst (λ (x : Next). x.left.directives ≡ t.directives) same goes.behind in
+          let long_ = ap length behind in
+          let next : Leads b (first_point b) (es ++ n.step ∷ []) w.point = leads_append b es (n.step ∷ []) (first_point b) pt w.point way (w, fit, group, refl) in
+          more_stepped b pt end g gs n.step w fit is group said (settling b gs (es ++ n.step ∷ []) w.point end n.left left valid next fits.left still more (omega (arith, long, long_)))
+    ]
+
+-- also where it begins
+none_if : (over : Bool) → ◌≡◌ {A = Option Next} (if over then None else None) None
+none_if true = refl
+none_if false = refl
+
+begins : (b : Boot) (gs : List (List Line)) (es : List Step) (pt end : Point) (ds : List Directive) (left : Todo) → IsValid b → All (IsDirective (length b.machines)) ds → Leads b (first_point b) es pt → IsRun b pt (all_of (directive.Settle ∷ ds)) gs end left
+    → length ds ≤ length left.directives → Stepped b pt gs end
+begins b [] es pt end ds left valid fit way run long = none_stepped b pt end run.0
+begins b (g ∷ gs) es pt end ds left valid fit way (n, w, due, group, said, kept, more) long =
+    let m = pt.kernel.machines in
+    let begun : Todo = record { pairs = []; machines = []; pass = pass.Settle; directives = ds } in
+    let later = next_pass m (undelivered pt.view) (has_mail pt.view) (is_quiet m pt.view) pass.Settle ds in
+    let e : next_step m pt.view (all_of (directive.Settle ∷ ds)) ≡ next_step m pt.view begun = sym (ap (λ (o : Option Next). or o later) (none_if (is_quiet m pt.view))) in
+    let todo : IsTodo (length b.machines) begun = record { pairs = All-nil (IsTwo (length b.machines)); machines_ = All-nil (IsBelow (length b.machines)); directives = fit } in
+    settling b (g ∷ gs) es pt end begun left valid way todo refl (n, w, sym e ∙ due, group, said, kept, more) long
+
+pub settle_few : SettleFew
+settle_few b es ds gs pt end left valid fit way light run long =
+    let s = begins b gs es pt end ds left valid fit way run long in
+    let few = few_puts b es s.steps pt end s.lines valid way light s.by_steps in
+    let same = s.same in
+    omega (arith, few, same)

@@ -1,0 +1,5 @@
+use Rattle.dm_settlelaws.proofs.EndsResting.{ends_resting}
+use Rattle.dm_settlelaws.proofs.laws.ends_resting.Goals as goal
+
+pub returns : goal.returns
+returns c = ends_resting
