@@ -6,6 +6,7 @@ file names it there. A name that stands for two things keeps its own line where 
 as any other, below the rest, and run this: it rewrites Names.antt and the heads of the files, and drops from Names.antt what
 nobody names any more. What crates above take from there stays. It can be run again at any time, lowest crate first."""
 import collections, os, re, sys
+sys.dont_write_bytecode = True
 sys.path.insert(0, os.path.dirname(os.path.abspath(__file__)))
 from lawbook import Book
 

@@ -6,6 +6,7 @@ line of a run that stand for all of their sort (`CallOff`, `Pinned`), lines of d
 imports, the rows among them that say nothing, and lemmas that nothing reaches; then lines by crate. With --lemmas it lists the
 lemmas that nothing reaches, with --twice those whose statement another crate has too."""
 import collections, os, re, sys
+sys.dont_write_bytecode = True
 sys.path.insert(0, os.path.dirname(os.path.abspath(__file__)))
 from lawbook import Book, reach
 
